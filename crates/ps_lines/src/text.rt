@@ -1,0 +1,40 @@
+//! Byte strings that contracts see as lists.
+use crate::memory::Memory;
+use std::alloc::Global;
+use std::marker::Model;
+
+/// A byte string of its own, which contracts see as the list of its bytes.
+///
+/// Records that are compared with a definition's value hold texts as this type: a bare `Vec` would be compared with its
+/// capacity too.
+#[derive(Debug, Drop)]
+pub struct Text {
+    bytes: Vec<u8>,
+}
+
+impl Model for Text {
+    ghost use Rattle.std.specs.Prelude.{ℕ, List};
+
+    ghost Value = { List ℕ };
+
+    ghost view = { λ text. text.bytes.items };
+}
+
+impl Text {
+    ghost use Rattle.std.specs.Prelude.{◌≡◌, List, IfOk};
+
+    /// A copy of `bytes`.
+    pub fn copy_of(alloc: Global, bytes: &[u8]) -> Result<Text, Memory>
+        ensures { IfOk result (λ text. text ≡ bytes.now) }
+    {
+        let bytes = Vec::from_slice(alloc, bytes)?;
+        Ok(Text { bytes })
+    }
+
+    /// The bytes.
+    pub fn as_slice(&self) -> &[u8]
+        ensures { result.now ≡ self.now }
+    {
+        self.bytes.as_slice()
+    }
+}

@@ -1,0 +1,4 @@
+pub mod PlacesLemmas
+pub mod WalkLemmas
+pub mod ToldLemmas
+pub mod PathLemmas

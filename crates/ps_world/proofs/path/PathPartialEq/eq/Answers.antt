@@ -1,0 +1,7 @@
+use Rattle.std.proofs.Common.{◌≡◌, nat_eq, sym, ◌∙◌}
+use Rattle.std.specs.Cmp.Derive.Mapped.{pointwise-map}
+use Rattle.std.specs.Cmp.Lexicographic.{pointwise}
+use Rattle.ps_world.proofs.path.PathPartialEq.eq.Goals as goal
+
+pub returns : goal.returns
+returns c = rw (← c.self.view_is, ← c.other.view_is, pointwise-map, ← c.as_slice.ensures.value, ← c.as_slice-2.ensures.value) c.eq.ensures

@@ -1,0 +1,33 @@
+-- Where newlines stand in a text, place by place.
+use Rattle.std.proofs.Common.{◌≡◌, ℕ, zero, suc, ◌+◌, ◌-◌, ◌==◌, List, [], ◌∷◌, Some, None, length, get_or, take, drop, refl, arith, length-drop}
+use Rattle.std.proofs.lemmas.Bool.Decides.{nat_tests}
+use Rattle.std.proofs.lemmas.List.{take_rest, get_or-drop}
+use Rattle.memchr.specs.Find.{IsFirstByte, is_byte}
+use Rattle.ps_lines.specs.Lines.{is_closed, HasNoNewline, BeginsNextLine}
+
+-- a text that isn't empty is closed where its last byte is a newline
+pub is_closed-last : (text : List ℕ) (place default : ℕ) → length text ≡ place + 1 → is_closed text ≡ (get_or text place default == 10)
+is_closed-last [] place default long = absurd (omega arith)
+is_closed-last (byte ∷ []) zero default long = refl
+is_closed-last (byte ∷ []) (suc place) default long = absurd (omega arith)
+is_closed-last (byte ∷ next ∷ rest) zero default long = absurd (omega arith)
+is_closed-last (byte ∷ next ∷ rest) (suc place) default long = is_closed-last (next ∷ rest) place default (omega arith)
+
+module _ (text : List ℕ) (from : ℕ) where
+  -- a search of the rest of the text that finds no newline
+  pub HasNoNewline-sought : IsFirstByte (is_byte 10) (take (length text - from) (drop from text)) None → HasNoNewline text from (length text)
+  HasNoNewline-sought none =
+      let sought : IsFirstByte (is_byte 10) (drop from text) None = rw take_rest at none in
+      λ place low high newline. grind (arith, nat_tests, sought (place - from), length-drop, get_or-drop)
+
+  -- a search that finds one
+  pub BeginsNextLine-sought : (offset : ℕ) → IsFirstByte (is_byte 10) (take (length text - from) (drop from text)) (Some offset)
+      → BeginsNextLine text from (from + offset + 1)
+  BeginsNextLine-sought offset found =
+      let sought : IsFirstByte (is_byte 10) (drop from text) (Some offset) = rw take_rest at found in
+      record {
+        after = omega arith;
+        within = grind (arith, length-drop, sought.0.high);
+        newline = grind (arith, nat_tests, sought.1, get_or-drop);
+        first = λ place low high newline. grind (arith, nat_tests, sought.0.before (place - from), length-drop, get_or-drop);
+      }

@@ -1,0 +1,35 @@
+-- Reading a number digit by digit.
+use Rattle.std.proofs.Common.{◌≡◌, ℕ, ◌+◌, ◌*◌, ◌^◌, ◌<◌, ◌≤◌, ◌&&◌, if◌then◌else◌, List, [], ◌∷◌, Option, Some, None, nat_lt, length, arith}
+use Rattle.std.proofs.lemmas.Bool.Decides.{nat_tests}
+use Rattle.std.specs.Char.{digit_value}
+use Rattle.std.specs.Str.{all_ascii_digits}
+use Rattle.std.specs.Str.Parse.{digits_value_after}
+use Rattle.ps_lines.specs.Numbers.{number_of, spells_number, with_one_more}
+
+-- the number that a text of digits writes after those of `number`, where it stays below 2^64
+abbrev pub number_on : ℕ → List ℕ → Option ℕ
+number_on number text =
+    if all_ascii_digits text && nat_lt (digits_value_after 10 number text) (2 ^ 64) then Some (digits_value_after 10 number text) else None
+
+-- further digits make no number less
+value_grows : (number : ℕ) (text : List ℕ) → number ≤ digits_value_after 10 number text
+value_grows number [] = omega arith
+value_grows number (byte ∷ text) = omega (arith, value_grows (number * 10 + digit_value byte) text)
+
+-- where the next byte doesn't fit, nothing is spelled
+pub number_on-stops : (number byte : ℕ) (text : List ℕ) → with_one_more number byte ≡ None → number_on number (byte ∷ text) ≡ None
+number_on-stops number byte text stops = grind (arith, nat_tests, value_grows (number * 10 + digit_value byte) text)
+
+-- of 1 to 20 bytes only their digits and their value decide
+pub number_of-fits : (text : List ℕ) → 0 < length text → length text ≤ 20 → number_of text ≡ number_on 0 text
+unfolding spells_number
+number_of-fits text some few = grind (arith, nat_tests)
+
+-- no byte and more than 20 bytes spell nothing
+pub number_of-empty : (text : List ℕ) → length text ≡ 0 → number_of text ≡ None
+unfolding spells_number
+number_of-empty text none = grind (arith, nat_tests)
+
+pub number_of-long : (text : List ℕ) → 20 < length text → number_of text ≡ None
+unfolding spells_number
+number_of-long text long = grind (arith, nat_tests)

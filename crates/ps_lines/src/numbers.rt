@@ -1,0 +1,29 @@
+//! Numbers in decimal.
+ghost use Rattle.std.specs.Prelude.{◌≡◌};
+ghost use Rattle.ps_lines.specs.Numbers.{number_of, with_one_more};
+
+/// The number that a text spells in decimal: 1 to 20 digits, leading zeros among them, of a number below 2^64.
+///
+/// There is no sign and no blank; any other text gives None.
+pub fn read_decimal(text: &[u8]) -> Option<u64>
+    ensures { result ≡ number_of text.now }
+{
+    if text.is_empty() || text.len() > 20 {
+        return None;
+    }
+    let mut number = 0;
+    for byte in text {
+        number = with_digit(number, *byte)?;
+    }
+    Some(number)
+}
+
+/// `number` with one more digit at its end, where `byte` is a digit and the number stays below 2^64.
+fn with_digit(number: u64, byte: u8) -> Option<u64>
+    ensures { result ≡ with_one_more number byte }
+{
+    if !byte.is_ascii_digit() {
+        return None;
+    }
+    number.checked_mul(10)?.checked_add(u64::from(byte - b'0'))
+}

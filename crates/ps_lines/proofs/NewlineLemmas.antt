@@ -1,9 +1,10 @@
 -- Where newlines stand in a text, place by place.
-use Rattle.std.proofs.Common.{◌≡◌, ℕ, zero, suc, ◌+◌, ◌-◌, ◌==◌, List, [], ◌∷◌, Some, None, length, get_or, take, drop, refl, arith, length-drop}
+use Rattle.std.proofs.Common.{◌≡◌, ℕ, zero, suc, ◌+◌, ◌-◌, ◌<◌, ◌==◌, true, false, List, [], ◌∷◌, Some, None, length, get_or, take, drop, refl, arith, length-drop}
 use Rattle.std.proofs.lemmas.Bool.Decides.{nat_tests}
-use Rattle.std.proofs.lemmas.List.{take_rest, get_or-drop}
+use Rattle.std.proofs.lemmas.Bool.{or_from, false_from_ne_true, eqb-true}
+use Rattle.std.proofs.lemmas.List.{take_rest, get_or-drop, get_or-take, drop_more, take-append-drop, length-take}
 use Rattle.memchr.specs.Find.{IsFirstByte, is_byte}
-use Rattle.ps_lines.specs.Lines.{is_closed, HasNoNewline, BeginsNextLine}
+use Rattle.ps_lines.specs.Lines.{is_closed, has_newline, HasNoNewline, BeginsNextLine, CutsLine}
 
 -- a text that isn't empty is closed where its last byte is a newline
 pub is_closed-last : (text : List ℕ) (place default : ℕ) → length text ≡ place + 1 → is_closed text ≡ (get_or text place default == 10)
@@ -31,3 +32,23 @@ module _ (text : List ℕ) (from : ℕ) where
         newline = grind (arith, nat_tests, sought.1, get_or-drop);
         first = λ place low high newline. grind (arith, nat_tests, sought.0.before (place - from), length-drop, get_or-drop);
       }
+
+-- a text that has no newline at any place
+pub has_newline-none : (text : List ℕ) → ((place : ℕ) → place < length text → (get_or text place 0 == 10) ≡ true → ⊥) → has_newline text ≡ false
+has_newline-none [] none = refl
+has_newline-none (byte ∷ rest) none =
+    or_from (byte == 10) (has_newline rest) (false_from_ne_true (byte == 10) (none 0 (omega arith)))
+    (has_newline-none rest (λ place low. none (suc place) (omega arith)))
+
+pub has_newline-sought : (text : List ℕ) → IsFirstByte (is_byte 10) text None → has_newline text ≡ false
+has_newline-sought text none = has_newline-none text (λ place low. none place (omega arith) low)
+
+pub CutsLine-sought : (text : List ℕ) (end : ℕ) → IsFirstByte (is_byte 10) text (Some end)
+    → CutsLine text (take end text) (take (length text - (end + 1)) (drop (end + 1) text))
+CutsLine-sought text end found =
+    let newline : get_or text end 0 ≡ 10 = eqb-true (get_or text end 0) 10 found.1 in
+    let within : end < length text = found.0.high in
+    record {
+      plain = has_newline-none (take end text) (λ place low newline. grind (arith, nat_tests, found.0.before place, length-take, get_or-take));
+      whole = rw (take_rest, ← newline, ← drop_more, take-append-drop);
+    }

@@ -1,9 +1,11 @@
 -- Reading a number digit by digit.
-use Rattle.std.proofs.Common.{◌≡◌, ℕ, ◌+◌, ◌*◌, ◌^◌, ◌<◌, ◌≤◌, ◌&&◌, if◌then◌else◌, List, [], ◌∷◌, Option, Some, None, nat_lt, length, arith}
+use Rattle.std.proofs.Common.{◌≡◌, ℕ, ◌+◌, ◌*◌, ◌^◌, ◌<◌, ◌≤◌, ◌&&◌, if◌then◌else◌, List, [], ◌∷◌, Option, Some, None, nat_lt, length, decimal, true, arith}
 use Rattle.std.proofs.lemmas.Bool.Decides.{nat_tests}
+use Rattle.std.proofs.lemmas.Fmt.{digits_decimal, digits_value-decimal, decimal_nonempty, length-decimal-le}
+use Rattle.std.proofs.lemmas.Str.Parse.{numerals_by_value, tells_all_ascii_digits}
 use Rattle.std.specs.Char.{digit_value}
 use Rattle.std.specs.Str.{all_ascii_digits}
-use Rattle.std.specs.Str.Parse.{digits_value_after}
+use Rattle.std.specs.Str.Parse.{digits_value, digits_value_after}
 use Rattle.ps_lines.specs.Numbers.{number_of, spells_number, with_one_more}
 
 -- the number that a text of digits writes after those of `number`, where it stays below 2^64
@@ -33,3 +35,14 @@ number_of-empty text none = grind (arith, nat_tests)
 pub number_of-long : (text : List ℕ) → 20 < length text → number_of text ≡ None
 unfolding spells_number
 number_of-long text long = grind (arith, nat_tests)
+
+-- a number in decimal spells itself
+pub number_of-decimal : (number : ℕ) → number < 2 ^ 64 → number_of (decimal number) ≡ Some number
+unfolding spells_number
+number_of-decimal number small =
+    let own = numerals_by_value (λ text. all_ascii_digits text ≡ true) tells_all_ascii_digits in
+    let digits : all_ascii_digits (decimal number) ≡ true = digits_decimal own number small in
+    let value : digits_value 10 (decimal number) ≡ number = digits_value-decimal own number small in
+    let some : 0 < length (decimal number) = decimal_nonempty number small in
+    let short : length (decimal number) ≤ 20 = length-decimal-le 20 number (omega arith) (omega arith) small in
+    grind (arith, nat_tests)

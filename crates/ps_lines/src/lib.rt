@@ -7,12 +7,13 @@
 //! `specs/` has the words that callers' contracts cite.
 #![tactic(auto)]
 
+pub mod laws;
 mod memory;
 mod newlines;
 mod numbers;
 mod text;
 
 pub use memory::Memory;
-pub use newlines::{NEWLINE, is_closed, next_line};
-pub use numbers::read_decimal;
+pub use newlines::{NEWLINE, closing, cut_line, is_closed, lines, next_line};
+pub use numbers::{decimal, read_decimal};
 pub use text::Text;

@@ -1,6 +1,19 @@
 //! Numbers in decimal.
-ghost use Rattle.std.specs.Prelude.{◌≡◌};
+ghost use Rattle.std.specs.Prelude.{◌≡◌, ◌++◌, decimal, OnErr, OnOk};
 ghost use Rattle.ps_lines.specs.Numbers.{number_of, with_one_more};
+
+use crate::memory::Memory;
+use itoa::Buffer;
+
+/// Appends the number in decimal: digits alone, with no zero before the first digit of a number that isn't 0.
+pub fn decimal(number: u64, out: &mut Vec<u8>) -> Result<(), Memory>
+    ensures ok { OnOk result (out.new.items ≡ out.old.items ++ decimal number) }
+    ensures err { OnErr result (out.new.items ≡ out.old.items) }
+{
+    let mut buffer = Buffer::new();
+    out.extend_from_slice(buffer.format(number).as_bytes())?;
+    Ok(())
+}
 
 /// The number that a text spells in decimal: 1 to 20 digits, leading zeros among them, of a number below 2^64.
 ///

@@ -134,6 +134,11 @@ lines-concat (text ∷ others) cut = by_end (is_closed text) refl cut (lines-con
         ap (λ rest. lines (text ++ rest)) (concat-empty others empty) ∙ ap lines (append-nil text) ∙ sym (append-nil (lines text))
         ∙ ap (λ rest. lines text ++ rest) (sym (flat_map-empty others empty))
 
+-- of two texts, in the form that functions of texts are compared in
+pub lines_of_cut : (front back : List ℕ) → is_cutlist (front ∷ back ∷ []) ≡ true → lines (front ++ back) ≡ lines front ++ lines back
+lines_of_cut front back cut =
+    ap (λ rest. lines (front ++ rest)) (sym (append-nil back)) ∙ lines-concat (front ∷ back ∷ []) cut ∙ ap (λ rest. lines front ++ rest) (append-nil (lines back))
+
 -- the lines are the parts between newlines, without an empty rest
 without_empty_rest-before : (ends : Bool) (byte : ℕ) (part : List ℕ) (others : List (List ℕ))
     → before ends byte (without_empty_rest (part ∷ others)) ≡ without_empty_rest (if ends then [] ∷ part ∷ others else onto_first byte (part ∷ others))
@@ -184,17 +189,18 @@ pub lines-empty : (text : List ℕ) → length text ≡ 0 → lines text ≡ []
 lines-empty [] none = refl
 lines-empty (byte ∷ line) none = absurd (omega arith)
 
+-- the last byte decides whether a text is closed
+pub is_closed-push : (front : List ℕ) (byte : ℕ) → is_closed (front ++ byte ∷ []) ≡ (byte == 10)
+is_closed-push [] byte = refl
+is_closed-push (first ∷ []) byte = refl
+is_closed-push (first ∷ next ∷ rest) byte = is_closed-push (next ∷ rest) byte
+
 pub is_closed-closing : (text : List ℕ) → is_closed (closing text) ≡ true
 is_closed-closing text = by_end (is_closed text) refl
   where
-    is_closed-ended : (text : List ℕ) → is_closed (text ++ 10 ∷ []) ≡ true
-    is_closed-ended [] = refl
-    is_closed-ended (byte ∷ []) = refl
-    is_closed-ended (byte ∷ next ∷ rest) = is_closed-ended (next ∷ rest)
-
     by_end : (closed : Bool) → is_closed text ≡ closed → is_closed (if closed then text else text ++ 10 ∷ []) ≡ true
     by_end true closed = closed
-    by_end false _ = is_closed-ended text
+    by_end false _ = is_closed-push text 10
 
 pub text_of_lines-closed : (text : List ℕ) → is_closed text ≡ true → text_of_lines (lines text) ≡ text
 text_of_lines-closed text closed = text_of_lines-lines text ∙ cond-true (is_closed text) text (text ++ 10 ∷ []) closed
@@ -203,7 +209,7 @@ pub text_of_lines-unclosed : (text : List ℕ) → is_closed text ≡ false → 
 text_of_lines-unclosed text unclosed = text_of_lines-lines text ∙ cond-false (is_closed text) text (text ++ 10 ∷ []) unclosed
 
 -- what lines are
-pub ruleset line_laws = (lines-between, are_lines-lines, text_of_lines-closed, text_of_lines-unclosed, lines-text_of_lines, lines-closing, is_closed-closing, lines-append, lines-concat)
+pub ruleset line_laws = (lines-between, are_lines-lines, text_of_lines-closed, text_of_lines-unclosed, lines-text_of_lines, lines-closing, is_closed-push, is_closed-closing, lines-append, lines-concat)
 
 -- a walk from line to line
 pub ruleset line_steps = (append_assoc, append-nil, nat_tests, lines-first, lines-plain, lines-empty)

@@ -1,8 +1,8 @@
 -- Where newlines stand in a text, place by place.
-use Rattle.std.proofs.Common.{◌≡◌, ℕ, zero, suc, ◌+◌, ◌-◌, ◌<◌, ◌==◌, true, false, List, [], ◌∷◌, Some, None, length, get_or, take, drop, refl, arith, length-drop}
+use Rattle.std.proofs.Common.{◌≡◌, ℕ, zero, suc, ◌+◌, ◌-◌, ◌<◌, ◌≤◌, ◌≢◌, ◌==◌, true, false, List, [], ◌∷◌, Some, None, length, get_or, take, drop, refl, ap, ◌∙◌, arith, length-drop}
 use Rattle.std.proofs.lemmas.Bool.Decides.{nat_tests}
 use Rattle.std.proofs.lemmas.Bool.{or_from, false_from_ne_true, eqb-true}
-use Rattle.std.proofs.lemmas.List.{take_rest, get_or-drop, get_or-take, drop_more, take-append-drop, length-take}
+use Rattle.std.proofs.lemmas.List.{take_rest, get_or-drop, get_or-take, drop_more, drop-drop, take-append-drop, length-take}
 use Rattle.memchr.specs.Find.{IsFirstByte, is_byte}
 use Rattle.ps_lines.specs.Lines.{is_closed, has_newline, HasNoNewline, BeginsNextLine, CutsLine}
 
@@ -43,12 +43,35 @@ has_newline-none (byte ∷ rest) none =
 pub has_newline-sought : (text : List ℕ) → IsFirstByte (is_byte 10) text None → has_newline text ≡ false
 has_newline-sought text none = has_newline-none text (λ place low. none place (omega arith) low)
 
+-- the first newline cuts the first line off
+pub CutsLine-at : (text : List ℕ) (end : ℕ) → end < length text → get_or text end 0 ≡ 10
+    → ((place : ℕ) → place < end → get_or text place 0 ≢ 10) → CutsLine text (take end text) (drop (end + 1) text)
+CutsLine-at text end within newline first =
+    record {
+      plain = has_newline-none (take end text) (λ place low newline. grind (arith, nat_tests, first place, length-take, get_or-take));
+      whole = rw (← newline, ← drop_more, take-append-drop);
+    }
+
 pub CutsLine-sought : (text : List ℕ) (end : ℕ) → IsFirstByte (is_byte 10) text (Some end)
     → CutsLine text (take end text) (take (length text - (end + 1)) (drop (end + 1) text))
 CutsLine-sought text end found =
-    let newline : get_or text end 0 ≡ 10 = eqb-true (get_or text end 0) 10 found.1 in
-    let within : end < length text = found.0.high in
-    record {
-      plain = has_newline-none (take end text) (λ place low newline. grind (arith, nat_tests, found.0.before place, length-take, get_or-take));
-      whole = rw (take_rest, ← newline, ← drop_more, take-append-drop);
-    }
+    rw take_rest (CutsLine-at text end found.0.high (eqb-true (get_or text end 0) 10 found.1)
+    (λ place low newline. grind (arith, nat_tests, found.0.before place)))
+
+-- the last byte decides
+pub ruleset last_byte = (nat_tests, is_closed-last)
+
+-- the place of the next line cuts a line from the rest of the text
+pub CutsLine-next : (text : List ℕ) (from next : ℕ) → from ≤ length text → BeginsNextLine text from next
+    → CutsLine (drop from text) (take (next - 1 - from) (drop from text)) (drop next text)
+CutsLine-next text from next within begins =
+    let end = next - 1 - from in
+    let newline : get_or (drop from text) end 0 ≡ 10 = grind (arith, get_or-drop, begins.newline) in
+    let rest : drop (end + 1) (drop from text) ≡ drop next text = drop-drop (end + 1) from text ∙ ap (λ place. drop place text) (omega (arith, begins.after)) in
+    rw (← rest) (CutsLine-at (drop from text) end (grind (arith, length-drop, begins.within, begins.after)) newline
+    (λ place low newline. grind (arith, get_or-drop, begins.first (from + place))))
+
+-- and where there is none, the rest has no newline
+pub has_newline-rest : (text : List ℕ) (from : ℕ) → HasNoNewline text from (length text) → has_newline (drop from text) ≡ false
+has_newline-rest text from none =
+    has_newline-none (drop from text) (λ place low newline. grind (arith, nat_tests, length-drop, get_or-drop, none (from + place)))

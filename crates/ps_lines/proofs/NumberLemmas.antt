@@ -1,6 +1,7 @@
 -- Reading a number digit by digit.
 use Rattle.std.proofs.Common.{◌≡◌, ℕ, ◌+◌, ◌*◌, ◌^◌, ◌<◌, ◌≤◌, ◌&&◌, if◌then◌else◌, List, [], ◌∷◌, Option, Some, None, nat_lt, length, decimal, true, arith}
 use Rattle.std.proofs.lemmas.Bool.Decides.{nat_tests}
+use Rattle.std.proofs.lemmas.List.{drop_more, drop_all}
 use Rattle.std.proofs.lemmas.Fmt.{digits_decimal, digits_value-decimal, decimal_nonempty, length-decimal-le}
 use Rattle.std.proofs.lemmas.Str.Parse.{numerals_by_value, tells_all_ascii_digits}
 use Rattle.std.specs.Char.{digit_value}
@@ -46,3 +47,8 @@ number_of-decimal number small =
     let some : 0 < length (decimal number) = decimal_nonempty number small in
     let short : length (decimal number) ≤ 20 = length-decimal-le 20 number (omega arith) (omega arith) small in
     grind (arith, nat_tests)
+
+-- reading from digit to digit
+pub ruleset number_steps = (nat_tests, drop_more, drop_all, number_of-fits, number_of-empty, number_of-long, number_on-stops)
+
+pub ruleset number_laws = number_of-decimal

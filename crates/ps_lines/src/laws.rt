@@ -1,5 +1,5 @@
 //! What lines and numbers are, in laws: each is the contract of a function that does nothing.
-#![tactic(auto, using(crate::proofs::LineLemmas::line_laws))]
+#![tactic(auto, using(crate::proofs::LineLemmas::line_laws, crate::proofs::NumberLemmas::number_laws))]
 
 ghost use Rattle.std.specs.Prelude.{◌≡◌, ℕ, ◌^◌, ◌<◌, ◌==◌, ◌++◌, List, [], ◌∷◌, true, false, Some, decimal};
 ghost use Rattle.std.specs.List.{concat, flat_map, slice_split};
@@ -24,6 +24,12 @@ pub fn text_is_its_lines()
     ensures closed { (text : List ℕ) → is_closed text ≡ true → text_of_lines (lines text) ≡ text }
     ensures unclosed { (text : List ℕ) → is_closed text ≡ false → text_of_lines (lines text) ≡ text ++ NEWLINE ∷ [] }
     ensures lines { (texts : List (List ℕ)) → are_lines texts ≡ true → lines (text_of_lines texts) ≡ texts }
+{}
+
+/// An empty text is closed, and any other exactly where its last byte is a newline.
+pub fn closed_text_ends_in_a_newline()
+    ensures empty { is_closed [] ≡ true }
+    ensures last { (front : List ℕ) (byte : ℕ) → is_closed (front ++ byte ∷ []) ≡ (byte == NEWLINE) }
 {}
 
 /// A newline that closes a text adds no line, and the text is closed then.

@@ -11,6 +11,8 @@ pub mod laws;
 mod memory;
 mod newlines;
 mod numbers;
+#[cfg(test)]
+mod tests;
 mod text;
 
 pub use memory::Memory;

@@ -10,6 +10,7 @@ use std::alloc::Global;
 pub const NEWLINE: u8 = b'\n';
 
 /// Whether the text is empty or ends in a newline, so that each of its lines is whole (XBD 3.206).
+#[tactic(auto, using(crate::proofs::NewlineLemmas::last_byte))]
 pub fn is_closed(text: &[u8]) -> bool
     ensures { result ≡ is_closed text.now }
 {

@@ -18,6 +18,7 @@ pub fn decimal(number: u64, out: &mut Vec<u8>) -> Result<(), Memory>
 /// The number that a text spells in decimal: 1 to 20 digits, leading zeros among them, of a number below 2^64.
 ///
 /// There is no sign and no blank; any other text gives None.
+#[tactic(auto, using(crate::proofs::NumberLemmas::number_steps))]
 pub fn read_decimal(text: &[u8]) -> Option<u64>
     ensures { result ≡ number_of text.now }
 {

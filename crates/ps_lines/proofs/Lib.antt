@@ -1,1 +1,4 @@
 pub mod TextsLemmas
+pub mod LineLemmas
+pub mod NewlineLemmas
+pub mod NumberLemmas

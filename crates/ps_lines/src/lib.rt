@@ -1,13 +1,21 @@
-//! Texts: byte strings that contracts see as lists, and the one answer for want of memory.
+//! Texts, their lines, and numbers in decimal: the ground of every other crate.
 //!
-//! A text is a list of bytes, in the C locale: one byte is one character, and a byte is a number below 256.
+//! A text is a list of bytes, in the C locale: one byte is one character, and a byte is a number below 256. A line
+//! ends in a newline, and a last line without one still counts.
 //! No call reaches outside its arguments; those that take memory take the allocator first.
 //!
 //! `specs/` has the words that callers' contracts cite.
 #![tactic(auto)]
 
+pub mod laws;
 mod memory;
+mod newlines;
+mod numbers;
+#[cfg(test)]
+mod tests;
 mod text;
 
 pub use memory::Memory;
+pub use newlines::{NEWLINE, closing, cut_line, is_closed, lines, next_line};
+pub use numbers::{decimal, read_decimal};
 pub use text::Text;

@@ -1,0 +1,69 @@
+use super::*;
+use std::test::Fail;
+
+/// What the definition of a line says of small texts, and what `wc -l` and `grep -c ''` count in them.
+#[test]
+fn lines_of_small_texts(rt: HostRuntime) -> Result<(), Fail> {
+    let cases: [(&[u8], &[&[u8]], bool); 7] = [
+        (b"", &[], true),
+        (b"\n", &[b""], true),
+        (b"a", &[b"a"], false),
+        (b"a\n", &[b"a"], true),
+        (b"\n\na", &[b"", b"", b"a"], false),
+        (b"one\ntwo\n\n", &[b"one", b"two", b""], true),
+        (b"a\r\nb\0\xff", &[b"a\r", b"b\0\xff"], false),
+    ];
+    for (text, want, closed) in cases {
+        let found = lines(rt.alloc(), text)?;
+        assert_eq!(rt; found.len(), want.len(), "in {text:?}");
+        for (line, want) in found.iter().zip(want) {
+            assert_eq!(rt; line.as_slice(), *want, "in {text:?}");
+        }
+        assert_eq!(rt; is_closed(text), closed, "of {text:?}");
+    }
+    Ok(())
+}
+
+#[test]
+fn closes_a_text_and_finds_its_next_line(rt: HostRuntime) -> Result<(), Fail> {
+    let closed = closing(Vec::from_slice(rt.alloc(), b"one\ntwo")?)?;
+    assert_eq!(rt; closed.as_slice(), b"one\ntwo\n".as_slice());
+    assert_eq!(rt; next_line(closed.as_slice(), 0), Some(4));
+    assert_eq!(rt; next_line(b"one\ntwo", 4), None);
+    assert!(rt; cut_line(b"one\ntwo") == Some((b"one".as_slice(), b"two".as_slice())));
+    Ok(())
+}
+
+/// The largest number is 2^64 - 1, and the digits are counted, zeros too.
+#[test]
+fn reads_and_writes_numbers(rt: HostRuntime) -> Result<(), Fail> {
+    let cases: [(&[u8], Option<u64>); 11] = [
+        (b"", None),
+        (b"0", Some(0)),
+        (b"007", Some(7)),
+        (b"-1", None),
+        (b"+1", None),
+        (b" 1", None),
+        (b"1a", None),
+        (b"18446744073709551615", Some(u64::MAX)),
+        (b"18446744073709551616", None),
+        (b"00000000000000000001", Some(1)),
+        (b"000000000000000000001", None),
+    ];
+    for (text, want) in cases {
+        assert_eq!(rt; read_decimal(text), want, "at {text:?}");
+    }
+    let mut out = Vec::from_slice(rt.alloc(), b"n=")?;
+    decimal(u64::MAX, &mut out)?;
+    assert_eq!(rt; out.as_slice(), b"n=18446744073709551615".as_slice());
+    Ok(())
+}
+
+#[test]
+fn compares_texts(rt: HostRuntime) -> Result<(), Fail> {
+    let text = Text::copy_of(rt.alloc(), b"a\0b")?;
+    assert_eq!(rt; text.as_slice(), b"a\0b".as_slice());
+    assert!(rt; text == Text::copy_of(rt.alloc(), b"a\0b")?);
+    assert!(rt; text != Text::copy_of(rt.alloc(), b"a\0c")?);
+    Ok(())
+}

@@ -1,0 +1,9 @@
+//! Objects in memory for the outside, which fail where a test wants it.
+//!
+//! Each keeps its trait's contract and tells its content, so that a test over them shows what the program's theorems say. A call
+//! fails where its number is on the object's list; the count of faults rises there and nowhere else.
+#![tactic(auto)]
+
+mod gates;
+
+pub use gates::OpenGate;

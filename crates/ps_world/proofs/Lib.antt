@@ -2,3 +2,4 @@ pub mod PlacesLemmas
 pub mod WalkLemmas
 pub mod ToldLemmas
 pub mod PathLemmas
+pub mod TreeStateLemmas

@@ -43,3 +43,30 @@ left_of-left old mid new text before left =
 pub on_any_err : {T E : Type 0} {P : Type 0} (result : Result T E) → P → OnErr result P
 on_any_err (Ok value) holds = tt
 on_any_err (Err error) holds = holds
+
+-- nothing of a text is a prefix of it
+pub grew_by_nothing : (told : Option (List ℕ)) (text : List ℕ) → GrewByPrefix told told text
+grew_by_nothing told text = (text, written_none told text)
+
+-- the whole text is a prefix of it
+pub grew_by_whole : (old new : Option (List ℕ)) (text : List ℕ) → new ≡ then_bytes old text → GrewByPrefix old new text
+grew_by_whole old new text grew = ([], record { part = text; whole = sym (append-nil text); grew = grew })
+
+-- a prefix of a front of the text is a prefix of the text
+pub grew_by_front : (old new : Option (List ℕ)) (front back : List ℕ) → GrewByPrefix old new front → GrewByPrefix old new (front ++ back)
+grew_by_front old new front back grew =
+    (grew.0 ++ back, record {
+      part = grew.1.part;
+      whole = ap (λ (text : List ℕ). text ++ back) grew.1.whole ∙ append_assoc grew.1.part grew.0 back;
+      grew = grew.1.grew;
+    })
+
+-- a front of the text, and then a prefix of what is behind it
+pub grew_by_more : (old mid new : Option (List ℕ)) (front back : List ℕ) → mid ≡ then_bytes old front → GrewByPrefix mid new back
+    → GrewByPrefix old new (front ++ back)
+grew_by_more old mid new front back first grew =
+    (grew.0, record {
+      part = front ++ grew.1.part;
+      whole = ap (λ (text : List ℕ). front ++ text) grew.1.whole ∙ sym (append_assoc front grew.1.part grew.0);
+      grew = grew.1.grew ∙ ap (λ (told : Option (List ℕ)). then_bytes told grew.1.part) first ∙ then_bytes-append old front grew.1.part;
+    })

@@ -1,0 +1,4 @@
+pub mod FormLemmas
+pub mod CopyLemmas
+pub mod CatLemmas
+pub mod RunLemmas

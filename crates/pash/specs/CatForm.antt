@@ -1,0 +1,35 @@
+-- The form of script that runs so far (own): `cat`, then 1 to 256 times one space and a plain word, then at most one newline, with at most
+-- 1,048,576 bytes in all.
+use Rattle.std.specs.Prelude.{ℕ, ◌-◌, List, [], ◌∷◌, Bool, ◌&&◌, ◌||◌, Option, Some, None, if◌then◌else◌, nat_eq, nat_lt, nat_le, length, take, drop, codes}
+use Rattle.std.specs.Char.{is_ascii_alphanumeric}
+use Rattle.std.specs.List.{list_all, slice_split}
+use Rattle.std.specs.Str.{bytes_eq}
+use Rattle.pash.specs.declared.cat_form.TheConstants.{MOST_BYTES, MOST_OPERANDS}
+
+-- letters, digits, `_`, `.` and `/`
+unfoldable pub is_plain_byte : ℕ → Bool
+is_plain_byte byte = is_ascii_alphanumeric byte || (nat_eq byte 95 || (nat_eq byte 46 || nat_eq byte 47))
+
+-- one plain byte or more
+abbrev pub is_plain_word : List ℕ → Bool
+is_plain_word word = nat_lt 0 (length word) && list_all is_plain_byte word
+
+abbrev pub is_space : ℕ → Bool
+is_space byte = nat_eq byte 32
+
+-- the text without the newline at its end, where it has one
+abbrev pub without_newline : List ℕ → List ℕ
+without_newline text = if bytes_eq (drop (length text - 1) text) (codes "\n") then take (length text - 1) text else text
+
+-- there are operands, not too many, and each is plain
+abbrev pub are_operands : List (List ℕ) → Bool
+are_operands words = nat_lt 0 (length words) && (nat_le (length words) MOST_OPERANDS && list_all is_plain_word words)
+
+-- the operands among a command's words, where these are cat and its operands
+abbrev pub operands_from : List (List ℕ) → Option (List (List ℕ))
+operands_from [] = None
+operands_from (name ∷ words) = if bytes_eq name (codes "cat") && are_operands words then Some words else None
+
+-- the operands of a script of the form, and None for any other text
+abbrev pub operands_of : List ℕ → Option (List (List ℕ))
+operands_of text = if nat_le (length text) MOST_BYTES then operands_from (slice_split is_space (without_newline text)) else None

@@ -1,0 +1,321 @@
+//! A run of a script, from the words of the command line to its answer.
+ghost use Rattle.std.specs.Prelude.{◌≡◌, ℕ, List, [], Option, None, map, IfOk, IfSome, IfNone, OnErr, MatchOption, MatchResult};
+ghost use Rattle.ps_world.specs.Files.{NoWriterOut, IsFileAt, bytes_at};
+ghost use Rattle.ps_world.specs.Places.{NamesFileIn};
+ghost use Rattle.ps_world.specs.TreeState.{OnlyLent};
+ghost use Rattle.pash.specs.Words.{command_of, texts};
+ghost use Rattle.pash.specs.Answers.{IsOfScript};
+ghost use Rattle.pash.specs.CatForm.{operands_from, operands_of};
+ghost use Rattle.pash.specs.Meaning.{only_line, usage as usage_lem, not_built, no_script as no_script_lem, file_of, reply_of_operands, reply_of_text, reply_of_file, reply_of_script, reply_of_command};
+ghost use Rattle.pash.specs.Runs.{Meets, GrewByPrefixes, Stops};
+
+use crate::answers::{Outcome, Refusal, Stop, Why, of_tree};
+use crate::cat::cat;
+use crate::cat_form::{MOST_BYTES, cat_operands, script_words};
+use crate::lines::{NO_SUCH_FILE, diagnostic, say};
+use crate::words::read_command;
+use ps_lines::Text;
+use ps_world::{Path, Place, Sink, Tree, look, read_front};
+use std::alloc::Global;
+
+/// The program's name.
+const NAME: &[u8] = b"pash";
+
+const USAGE: &[u8] = b"pash: usage\n";
+
+const NOT_BUILT: &[u8] = b"pash: refused: NotBuilt\n";
+
+/// The status of every answer that is no run.
+const REFUSED: u8 = 2;
+
+/// Tells a line, and nothing else.
+fn answer_line<E: Sink>(err: &mut E, line: &[u8], why: Why) -> Result<Outcome, Stop>
+    ensures why { IfOk result (λ outcome. outcome.why ≡ why) }
+    ensures answer { IfOk result (λ outcome. (out : Option (List ℕ)) →
+        Meets (only_line line.now why) outcome.status outcome.why out out (E.taken err.old) (E.taken err.new)) }
+    ensures part { OnErr result ((out : Option (List ℕ)) →
+        GrewByPrefixes out out (E.taken err.old) (E.taken err.new) [] line.now) }
+    ensures cause { Stops
+        (record { out = 0; err = E.faults err.old; tree = 0 })
+        (record { out = 0; err = E.faults err.new; tree = 0 }) result }
+{
+    match say(err, line) {
+        Ok(()) => Ok(Outcome {
+            status: REFUSED,
+            why,
+        }),
+        Err(stop) => Err(stop),
+    }
+}
+
+/// The words are no command.
+fn usage<E: Sink>(err: &mut E) -> Result<Outcome, Stop>
+    ensures why { IfOk result (λ outcome. outcome.why ≡ Why.Usage) }
+    ensures answer { IfOk result (λ outcome. (out : Option (List ℕ)) →
+        Meets usage_lem outcome.status outcome.why out out (E.taken err.old) (E.taken err.new)) }
+    ensures part { OnErr result ((out : Option (List ℕ)) →
+        GrewByPrefixes out out (E.taken err.old) (E.taken err.new) [] usage_lem.errors) }
+    ensures cause { Stops
+        (record { out = 0; err = E.faults err.old; tree = 0 })
+        (record { out = 0; err = E.faults err.new; tree = 0 }) result }
+{
+    answer_line(err, USAGE, Why::Usage)
+}
+
+/// The script is of a form that isn't built.
+fn refuse<E: Sink>(err: &mut E) -> Result<Outcome, Stop>
+    ensures why { IfOk result (λ outcome. IsOfScript outcome.why) }
+    ensures answer { IfOk result (λ outcome. (out : Option (List ℕ)) →
+        Meets not_built outcome.status outcome.why out out (E.taken err.old) (E.taken err.new)) }
+    ensures part { OnErr result ((out : Option (List ℕ)) →
+        GrewByPrefixes out out (E.taken err.old) (E.taken err.new) [] not_built.errors) }
+    ensures cause { Stops
+        (record { out = 0; err = E.faults err.old; tree = 0 })
+        (record { out = 0; err = E.faults err.new; tree = 0 }) result }
+{
+    answer_line(err, NOT_BUILT, Why::Refused(Refusal::NotBuilt))
+}
+
+/// The script's path names no file.
+fn no_script<E: Sink>(alloc: Global, err: &mut E, script: &[u8]) -> Result<Outcome, Stop>
+    ensures why { IfOk result (λ outcome. IsOfScript outcome.why) }
+    ensures answer { IfOk result (λ outcome. (out : Option (List ℕ)) →
+        Meets (no_script_lem script.now) outcome.status outcome.why out out (E.taken err.old) (E.taken err.new)) }
+    ensures part { OnErr result ((out : Option (List ℕ)) →
+        GrewByPrefixes out out (E.taken err.old) (E.taken err.new) [] (no_script_lem script.now).errors) }
+    ensures cause { Stops
+        (record { out = 0; err = E.faults err.old; tree = 0 })
+        (record { out = 0; err = E.faults err.new; tree = 0 }) result }
+{
+    match no_script_answer(alloc, script) {
+        Ok((line, why)) => answer_line(err, line.as_slice(), why),
+        Err(_refused) => Err(Stop::Memory),
+    }
+}
+
+/// The line and the answer for a script that isn't there.
+fn no_script_answer(alloc: Global, script: &[u8]) -> Result<(Vec<u8>, Why), ps_lines::Memory>
+    ensures { IfOk result (λ told. (told.0.items ≡ (no_script_lem script.now).errors) × (told.1 ≡ (no_script_lem script.now).answer)) }
+{
+    let line = diagnostic(alloc, NAME, script, NO_SUCH_FILE)?;
+    let path = Text::copy_of(alloc, script)?;
+    Ok((line, Why::NoScript(path)))
+}
+
+/// Runs a script's text.
+#[tactic(auto, using(ps_world::proofs::ToldLemmas::grew_by_nothing))]
+fn run_text<T: Tree, O: Sink, E: Sink>(
+    alloc: Global,
+    tree: &mut T,
+    out: &mut O,
+    err: &mut E,
+    text: &[u8],
+) -> Result<Outcome, Stop>
+    requires { IfSome (T.state tree.old).held NoWriterOut }
+    ensures why { IfOk result (λ outcome. IsOfScript outcome.why) }
+    ensures answer { IfOk result (λ outcome. IfSome (T.state tree.old).held (λ files.
+        Meets (reply_of_text files (T.state tree.old).home text.now) outcome.status outcome.why
+        (O.taken out.old) (O.taken out.new) (E.taken err.old) (E.taken err.new))) }
+    ensures part { OnErr result (IfSome (T.state tree.old).held (λ files.
+        GrewByPrefixes (O.taken out.old) (O.taken out.new) (E.taken err.old) (E.taken err.new)
+        (reply_of_text files (T.state tree.old).home text.now).output (reply_of_text files (T.state tree.old).home text.now).errors)) }
+    ensures lent { OnlyLent (T.state tree.old) (T.state tree.new) }
+    ensures cause { Stops
+        (record { out = O.faults out.old; err = E.faults err.old; tree = T.faults tree.old })
+        (record { out = O.faults out.new; err = E.faults err.new; tree = T.faults tree.new }) result }
+{
+    match script_words(alloc, text) {
+        Ok(words) => run_words(alloc, tree, out, err, words.as_slice()),
+        Err(_refused) => Err(Stop::Memory),
+    }
+}
+
+/// Runs a script's words.
+#[tactic(auto, using(ps_world::proofs::ToldLemmas::grew_by_nothing))]
+fn run_words<T: Tree, O: Sink, E: Sink>(
+    alloc: Global,
+    tree: &mut T,
+    out: &mut O,
+    err: &mut E,
+    words: &[&[u8]],
+) -> Result<Outcome, Stop>
+    requires { IfSome (T.state tree.old).held NoWriterOut }
+    ensures why { IfOk result (λ outcome. IsOfScript outcome.why) }
+    ensures answer { IfOk result (λ outcome. IfSome (T.state tree.old).held (λ files.
+        Meets (reply_of_operands files (T.state tree.old).home (operands_from (map (λ word. word.now) words.now))) outcome.status outcome.why
+        (O.taken out.old) (O.taken out.new) (E.taken err.old) (E.taken err.new))) }
+    ensures part { OnErr result (IfSome (T.state tree.old).held (λ files.
+        GrewByPrefixes (O.taken out.old) (O.taken out.new) (E.taken err.old) (E.taken err.new)
+        (reply_of_operands files (T.state tree.old).home (operands_from (map (λ word. word.now) words.now))).output
+        (reply_of_operands files (T.state tree.old).home (operands_from (map (λ word. word.now) words.now))).errors)) }
+    ensures lent { OnlyLent (T.state tree.old) (T.state tree.new) }
+    ensures cause { Stops
+        (record { out = O.faults out.old; err = E.faults err.old; tree = T.faults tree.old })
+        (record { out = O.faults out.new; err = E.faults err.new; tree = T.faults tree.new }) result }
+{
+    match cat_operands(words) {
+        Some(operands) => match cat(alloc, tree, out, err, operands) {
+            Ok(status) => Ok(Outcome {
+                status,
+                why: Why::Finished,
+            }),
+            Err(stop) => Err(stop),
+        },
+        None => refuse(err),
+    }
+}
+
+/// Runs the script in a file.
+#[tactic(auto, using(ps_world::proofs::ToldLemmas::grew_by_nothing))]
+fn run_file<T: Tree, O: Sink, E: Sink>(
+    alloc: Global,
+    tree: &mut T,
+    out: &mut O,
+    err: &mut E,
+    path: &Path,
+) -> Result<Outcome, Stop>
+    requires whole { IfSome (T.state tree.old).held NoWriterOut }
+    requires file { IfSome (T.state tree.old).held (λ files. IsFileAt files path.now) }
+    ensures why { IfOk result (λ outcome. IsOfScript outcome.why) }
+    ensures answer { IfOk result (λ outcome. IfSome (T.state tree.old).held (λ files.
+        Meets (reply_of_text files (T.state tree.old).home (bytes_at files path.now)) outcome.status outcome.why
+        (O.taken out.old) (O.taken out.new) (E.taken err.old) (E.taken err.new))) }
+    ensures part { OnErr result (IfSome (T.state tree.old).held (λ files.
+        GrewByPrefixes (O.taken out.old) (O.taken out.new) (E.taken err.old) (E.taken err.new)
+        (reply_of_text files (T.state tree.old).home (bytes_at files path.now)).output
+        (reply_of_text files (T.state tree.old).home (bytes_at files path.now)).errors)) }
+    ensures lent { OnlyLent (T.state tree.old) (T.state tree.new) }
+    ensures cause { Stops
+        (record { out = O.faults out.old; err = E.faults err.old; tree = T.faults tree.old })
+        (record { out = O.faults out.new; err = E.faults err.new; tree = T.faults tree.new }) result }
+{
+    match load_script(alloc, tree, path) {
+        Ok(text) => run_text(alloc, tree, out, err, text.as_slice()),
+        Err(stop) => Err(stop),
+    }
+}
+
+/// Reads a script, as far as a script goes; answers its text, or the front of one that is too long.
+fn load_script<T: Tree>(alloc: Global, tree: &mut T, path: &Path) -> Result<Vec<u8>, Stop>
+    requires { IfSome (T.state tree.old).held (λ files. IsFileAt files path.now) }
+    ensures text { IfOk result (λ text. IfSome (T.state tree.old).held (λ files.
+        operands_of text.items ≡ operands_of (bytes_at files path.now))) }
+    ensures lent { OnlyLent (T.state tree.old) (T.state tree.new) }
+    ensures cause { Stops
+        (record { out = 0; err = 0; tree = T.faults tree.old })
+        (record { out = 0; err = 0; tree = T.faults tree.new }) result }
+{
+    let mut reader = match tree.open(path) {
+        Ok(reader) => reader,
+        Err(error) => return Err(of_tree(error)),
+    };
+    let text = read_front(alloc, &mut reader, MOST_BYTES + 1);
+    tree.end_read(path, reader);
+    match text {
+        Ok(text) => Ok(text),
+        Err(error) => Err(of_tree(error)),
+    }
+}
+
+/// Runs the script at a place, if a file is there.
+#[tactic(auto, using(ps_world::proofs::ToldLemmas::grew_by_nothing))]
+fn run_place<T: Tree, O: Sink, E: Sink>(
+    alloc: Global,
+    tree: &mut T,
+    out: &mut O,
+    err: &mut E,
+    script: &[u8],
+    place: Place,
+) -> Result<Outcome, Stop>
+    requires whole { IfSome (T.state tree.old).held NoWriterOut }
+    requires file { IfSome (T.state tree.old).held (λ files. NamesFileIn files place) }
+    ensures why { IfOk result (λ outcome. IsOfScript outcome.why) }
+    ensures answer { IfOk result (λ outcome. IfSome (T.state tree.old).held (λ files.
+        Meets (reply_of_file files (T.state tree.old).home script.now (file_of place)) outcome.status outcome.why
+        (O.taken out.old) (O.taken out.new) (E.taken err.old) (E.taken err.new))) }
+    ensures part { OnErr result (IfSome (T.state tree.old).held (λ files.
+        GrewByPrefixes (O.taken out.old) (O.taken out.new) (E.taken err.old) (E.taken err.new)
+        (reply_of_file files (T.state tree.old).home script.now (file_of place)).output
+        (reply_of_file files (T.state tree.old).home script.now (file_of place)).errors)) }
+    ensures lent { OnlyLent (T.state tree.old) (T.state tree.new) }
+    ensures cause { Stops
+        (record { out = O.faults out.old; err = E.faults err.old; tree = T.faults tree.old })
+        (record { out = O.faults out.new; err = E.faults err.new; tree = T.faults tree.new }) result }
+{
+    match script_path(place) {
+        Some(path) => run_file(alloc, tree, out, err, &path),
+        None => no_script(alloc, err, script),
+    }
+}
+
+/// The path of the file that a place names, where it names one.
+fn script_path(place: Place) -> Option<Path>
+    ensures { result ≡ file_of place }
+{
+    match place {
+        Place::File(path) => Some(path),
+        Place::Missing | Place::Makeable(_) | Place::Dir(_) | Place::Null => None,
+    }
+}
+
+/// Runs the script that a path names.
+#[tactic(auto, using(ps_world::proofs::ToldLemmas::grew_by_nothing))]
+fn run_script<T: Tree, O: Sink, E: Sink>(
+    alloc: Global,
+    tree: &mut T,
+    out: &mut O,
+    err: &mut E,
+    script: &[u8],
+) -> Result<Outcome, Stop>
+    requires whole { IfSome (T.state tree.old).held NoWriterOut }
+    ensures why { IfOk result (λ outcome. IsOfScript outcome.why) }
+    ensures answer { IfOk result (λ outcome. IfSome (T.state tree.old).held (λ files.
+        Meets (reply_of_script files (T.state tree.old).home script.now) outcome.status outcome.why
+        (O.taken out.old) (O.taken out.new) (E.taken err.old) (E.taken err.new))) }
+    ensures part { OnErr result (IfSome (T.state tree.old).held (λ files.
+        GrewByPrefixes (O.taken out.old) (O.taken out.new) (E.taken err.old) (E.taken err.new)
+        (reply_of_script files (T.state tree.old).home script.now).output
+        (reply_of_script files (T.state tree.old).home script.now).errors)) }
+    ensures lent { OnlyLent (T.state tree.old) (T.state tree.new) }
+    ensures cause { Stops
+        (record { out = O.faults out.old; err = E.faults err.old; tree = T.faults tree.old })
+        (record { out = O.faults out.new; err = E.faults err.new; tree = T.faults tree.new }) result }
+{
+    match look(alloc, tree, script) {
+        Ok(place) => run_place(alloc, tree, out, err, script, place),
+        Err(error) => Err(of_tree(error)),
+    }
+}
+
+/// Does what the words ask for.
+#[tactic(auto, using(ps_world::proofs::ToldLemmas::grew_by_nothing))]
+pub fn run_command<T: Tree, O: Sink, E: Sink>(
+    alloc: Global,
+    tree: &mut T,
+    out: &mut O,
+    err: &mut E,
+    words: &[String],
+) -> Result<Outcome, Stop>
+    requires whole { IfSome (T.state tree.old).held NoWriterOut }
+    ensures why { IfOk result (λ outcome. MatchOption (command_of (texts words.now))
+        (outcome.why ≡ Why.Usage) (λ _. IsOfScript outcome.why)) }
+    ensures answer { IfOk result (λ outcome. IfSome (T.state tree.old).held (λ files.
+        Meets (reply_of_command files (T.state tree.old).home (command_of (texts words.now))) outcome.status outcome.why
+        (O.taken out.old) (O.taken out.new) (E.taken err.old) (E.taken err.new))) }
+    ensures part { OnErr result (IfSome (T.state tree.old).held (λ files.
+        GrewByPrefixes (O.taken out.old) (O.taken out.new) (E.taken err.old) (E.taken err.new)
+        (reply_of_command files (T.state tree.old).home (command_of (texts words.now))).output
+        (reply_of_command files (T.state tree.old).home (command_of (texts words.now))).errors)) }
+    ensures usage { IfNone (command_of (texts words.now)) (MatchResult result
+        (λ outcome. Meets usage_lem outcome.status outcome.why (O.taken out.old) (O.taken out.new) (E.taken err.old) (E.taken err.new))
+        (λ _. GrewByPrefixes (O.taken out.old) (O.taken out.new) (E.taken err.old) (E.taken err.new) [] usage_lem.errors)) }
+    ensures lent { OnlyLent (T.state tree.old) (T.state tree.new) }
+    ensures cause { Stops
+        (record { out = O.faults out.old; err = E.faults err.old; tree = T.faults tree.old })
+        (record { out = O.faults out.new; err = E.faults err.new; tree = T.faults tree.new }) result }
+{
+    match read_command(words) {
+        Some(command) => run_script(alloc, tree, out, err, command.script),
+        None => usage(err),
+    }
+}

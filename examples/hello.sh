@@ -1,0 +1,1 @@
+cat examples/greeting.txt examples/name.txt

@@ -5,5 +5,17 @@
 #![tactic(auto)]
 
 mod gates;
+mod plan;
+mod reads;
+mod rows;
+mod sink;
+mod source;
+mod standing;
+mod stored;
+mod tree;
 
 pub use gates::OpenGate;
+pub use sink::MemSink;
+pub use source::MemSource;
+pub use standing::is_tree;
+pub use tree::MemTree;

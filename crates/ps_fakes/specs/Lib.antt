@@ -1,0 +1,4 @@
+pub mod Plans
+pub mod Reads
+pub mod Trees
+pub mod Standing

@@ -63,7 +63,7 @@ impl Tree for MemTree {
 
 impl MemTree {
     ghost use Rattle.std.specs.Prelude.{◌∷◌, []};
-    ghost use Rattle.ps_world.specs.Files.{bytes_at as bytes_at_lem};
+    ghost use Rattle.ps_world.specs.Files.{NoWriterOut, bytes_at as bytes_at_lem};
     ghost use Rattle.ps_world.specs.Paths.{Components};
     ghost use Rattle.ps_world.specs.TreeState.{TreeState};
     ghost use Rattle.ps_fakes.specs.Trees.{entries_of, files_of, fresh_state, names_path, reads_of, rows_of, state_of};
@@ -74,6 +74,7 @@ impl MemTree {
     /// with the numbers of `fails` fail.
     ///
     /// `is_tree` is the test of what the caller owes.
+    #[tactic(auto, using(crate::proofs::SettledLemmas::no_writer_out))]
     pub fn new(
         alloc: Global,
         home: &[u8],
@@ -82,6 +83,7 @@ impl MemTree {
     ) -> Result<MemTree, Memory>
         requires { IsTrue (is_tree_lem home.now (entries_of entries.items)) }
         ensures state { IfOk result (λ tree. ⟦<MemTree as Tree>⟧.state tree ≡ fresh_state home.now (entries_of entries.items)) }
+        ensures settled { IfOk result (λ tree. IfSome (⟦<MemTree as Tree>⟧.state tree).held NoWriterOut) }
         ensures faults { IfOk result (λ tree. ⟦<MemTree as Tree>⟧.faults tree ≡ 0) }
     {
         let home = named_path(alloc, home)?;
@@ -108,6 +110,7 @@ impl MemTree {
         ensures stands { IfOk result (λ tree. is_some tree ≡ is_tree_lem home.now (rows_of rows.now)) }
         ensures state { IfOk result (λ tree. IfSome tree (λ tree.
             ⟦<MemTree as Tree>⟧.state tree ≡ fresh_state home.now (rows_of rows.now))) }
+        ensures settled { IfOk result (λ tree. IfSome tree (λ tree. IfSome (⟦<MemTree as Tree>⟧.state tree).held NoWriterOut)) }
         ensures faults { IfOk result (λ tree. IfSome tree (λ tree. ⟦<MemTree as Tree>⟧.faults tree ≡ 0)) }
     {
         let entries = copy_rows(alloc, rows)?;

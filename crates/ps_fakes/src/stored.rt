@@ -1,5 +1,5 @@
 //! What a tree in memory holds, as a list that is scanned from the front.
-ghost use Rattle.std.specs.Prelude.{◌≡◌, ◌++◌, ◌∷◌, [], length, map, Some, IfOk, OnOk};
+ghost use Rattle.std.specs.Prelude.{◌≡◌, ◌++◌, length, map, Some, IfOk, OnOk};
 ghost use Rattle.std.specs.Option.{option_map};
 ghost use Rattle.ps_world.specs.Files.{kind_at as kind_at_lem, kind_of as kind_of_lem, bytes_at as bytes_at_lem, bytes_of as bytes_of_lem};
 ghost use Rattle.ps_fakes.specs.Trees.{above, entries_of, files_of, folder as folder_lem, folders, named_path as named_path_lem, node_at, placed, placed_of};

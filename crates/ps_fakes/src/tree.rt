@@ -1,5 +1,5 @@
 //! A tree of files in memory.
-ghost use Rattle.std.specs.Prelude.{◌≡◌, ◌≤◌, ◌++◌, map, if◌then◌else◌, IfOk, OnOk, OnErr, IsTrue, IfSome, MatchOption, is_some, option_to_list, Some, ℕ, List};
+ghost use Rattle.std.specs.Prelude.{◌≡◌, ◌≤◌, if◌then◌else◌, Some, IfOk, OnOk, OnErr, IsTrue, IfSome, is_some, option_to_list};
 
 use crate::plan::Plan;
 use crate::reads::{ReadPlan, Reads, reads_at};
@@ -62,13 +62,10 @@ impl Tree for MemTree {
 }
 
 impl MemTree {
-    ghost use Rattle.std.specs.Prelude.{◌∷◌, []};
     ghost use Rattle.ps_world.specs.Files.{NoWriterOut, bytes_at as bytes_at_lem};
     ghost use Rattle.ps_world.specs.Paths.{Components};
-    ghost use Rattle.ps_world.specs.TreeState.{TreeState};
-    ghost use Rattle.ps_fakes.specs.Trees.{entries_of, files_of, fresh_state, names_path, reads_of, rows_of, state_of};
+    ghost use Rattle.ps_fakes.specs.Trees.{entries_of, files_of, fresh_state, names_path, reads_of, rows_of};
     ghost use Rattle.ps_fakes.specs.Standing.{is_tree as is_tree_lem};
-    ghost use Rattle.ps_fakes.specs.Reads.{plain_reads};
 
     /// A tree of files, with their bytes, and directories, whose parents it makes, and the working directory `home`; the calls
     /// with the numbers of `fails` fail.

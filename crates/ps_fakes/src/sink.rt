@@ -16,19 +16,35 @@ pub struct MemSink {
 }
 
 impl Sink for MemSink {
-    ghost use Rattle.std.specs.Prelude.{Some, take, drop};
+    ghost use Rattle.std.specs.Prelude.{◌<◌, ◌||◌, ◌↔◌, length, take, drop, MatchResult, IfOk, IsErrOf, IsTrue, is_err};
+    ghost use Rattle.ps_world.specs.Counts.{Counts};
+    ghost use Rattle.ps_world.specs.Told.{then_bytes};
+    ghost use Rattle.ps_fakes.specs.Plans.{CountsCall, fails_next};
+    ghost use Rattle.ps_fakes.specs.Streams.{taken_by, sent_by, taken_of, is_full};
     ghost use Rattle.std.proofs.Common.{sym};
     ghost use Rattle.std.proofs.lemmas.List.{take-append-drop};
 
-    ghost taken = { λ sink. Some sink.bytes.items };
+    ghost taken = { taken_by };
 
-    ghost sent = { λ sink. Some (take sink.flushed sink.bytes.items) };
+    ghost sent = { sent_by };
 
     ghost faults = { λ sink. sink.plan.faults };
 
     ghost sent_first = { λ sink. (drop sink.flushed sink.bytes.items, sym (take-append-drop _ _)) };
 
-    fn write(&mut self, bytes: &[u8]) -> Result<usize, WorldErr> {
+    /// Fails exactly where it is planned, and where nothing can be taken of a piece that isn't empty.
+    fn write(&mut self, bytes: &[u8]) -> Result<usize, WorldErr>
+        ensures bound { IfOk result (λ count. count ≤ length bytes.now) }
+        ensures some { 0 < length bytes.now → IfOk result (λ count. 0 < count) }
+        ensures taken { MatchResult result
+            (λ count. taken_by self.new ≡ then_bytes (taken_by self.old) (take count bytes.now))
+            (λ _. taken_by self.new ≡ taken_by self.old) }
+        ensures sent { sent_by self.new ≡ sent_by self.old }
+        ensures cause { Counts self.old.plan.faults self.new.plan.faults result }
+        ensures planned { IsErrOf result WorldErr.Failed ↔ IsTrue (fails_next self.old.plan || is_full self.old (length bytes.now)) }
+        ensures count { IfOk result (λ count. count ≡ taken_of self.old (length bytes.now)) }
+        ensures call { CountsCall self.old.plan self.new.plan }
+    {
         if self.plan.fails_now() {
             return Err(WorldErr::Failed);
         }
@@ -41,7 +57,14 @@ impl Sink for MemSink {
         Ok(count)
     }
 
-    fn flush(&mut self) -> Result<(), WorldErr> {
+    /// Fails exactly where it is planned.
+    fn flush(&mut self) -> Result<(), WorldErr>
+        ensures taken { taken_by self.new ≡ taken_by self.old }
+        ensures sent { MatchResult result (λ _. sent_by self.new ≡ taken_by self.old) (λ _. sent_by self.new ≡ sent_by self.old) }
+        ensures cause { Counts self.old.plan.faults self.new.plan.faults result }
+        ensures planned { is_err result ≡ fails_next self.old.plan }
+        ensures call { CountsCall self.old.plan self.new.plan }
+    {
         if self.plan.fails_now() {
             return Err(WorldErr::Failed);
         }

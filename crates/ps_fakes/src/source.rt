@@ -19,15 +19,34 @@ pub struct MemSource {
 }
 
 impl Source for MemSource {
-    ghost use Rattle.std.specs.Prelude.{Some, drop};
+    ghost use Rattle.std.specs.Prelude.{◌≢◌, ◌<◌, ◌||◌, [], Ok, Err, MatchResult, IfOk, is_err};
+    ghost use Rattle.std.specs.Option.{option_map};
+    ghost use Rattle.ps_world.specs.Counts.{Counts};
+    ghost use Rattle.ps_world.specs.Told.{bytes_then};
+    ghost use Rattle.ps_fakes.specs.Plans.{CountsCall, fails_next};
+    ghost use Rattle.ps_fakes.specs.Streams.{left_of, given_into, is_stuck};
 
-    ghost left = { λ source. Some (drop source.at source.bytes.items) };
+    ghost left = { left_of };
 
     ghost given = { λ source. source.at };
 
     ghost faults = { λ source. source.plan.faults };
 
-    fn read(&mut self, buf: &mut [u8]) -> Result<usize, WorldErr> {
+    /// Fails exactly where it is planned, and where nothing can be given though bytes are left.
+    fn read(&mut self, buf: &mut [u8]) -> Result<usize, WorldErr>
+        ensures bound { IfOk result (λ count. count ≤ length buf.new) }
+        ensures bytes { MatchResult result
+            (λ count. left_of self.old ≡ bytes_then (take count buf.new) (left_of self.new))
+            (λ _. left_of self.new ≡ left_of self.old) }
+        ensures end { result ≡ Ok 0 → 0 < length buf.new → left_of self.old ≡ option_map (λ _. []) (left_of self.old) }
+        ensures given { MatchResult result (λ count. self.new.at ≡ self.old.at + count) (λ _. self.new.at ≡ self.old.at) }
+        ensures within { self.new.at ≤ 2 ^ 40 }
+        ensures cause { Counts self.old.plan.faults self.new.plan.faults result }
+        ensures no_memory { result ≢ Err WorldErr.Memory }
+        ensures planned { is_err result ≡ (fails_next self.old.plan || is_stuck self.old (length buf.old)) }
+        ensures count { IfOk result (λ count. count ≡ given_into self.old (length buf.old)) }
+        ensures call { CountsCall self.old.plan self.new.plan }
+    {
         if self.plan.fails_now() {
             return Err(WorldErr::Failed);
         }

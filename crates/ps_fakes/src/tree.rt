@@ -25,6 +25,11 @@ pub struct MemTree {
 }
 
 impl Tree for MemTree {
+    ghost use Rattle.std.specs.Prelude.{MatchResult, IsErrOf, ◌↔◌, ◌<◌, is_err};
+    ghost use Rattle.ps_world.specs.Counts.{Counts};
+    ghost use Rattle.ps_world.specs.Files.{IsFileAt, bytes_at as bytes_at_lem, kind_at as kind_at_lem};
+    ghost use Rattle.ps_world.specs.TreeState.{lend};
+    ghost use Rattle.ps_fakes.specs.Plans.{CountsCall, fails_next};
     ghost use Rattle.ps_fakes.specs.Trees.{state_of};
 
     type Reader = MemSource;
@@ -37,14 +42,31 @@ impl Tree for MemTree {
         &self.home
     }
 
-    fn kind(&mut self, path: &Path) -> Result<Kind, WorldErr> {
+    /// Fails exactly where it is planned.
+    fn kind(&mut self, path: &Path) -> Result<Kind, WorldErr>
+        ensures kind { IfOk result (λ kind. IfSome (state_of self.old).held (λ files. kind ≡ kind_at_lem files path.now)) }
+        ensures state { state_of self.new ≡ state_of self.old }
+        ensures cause { Counts self.old.plan.faults self.new.plan.faults result }
+        ensures planned { is_err result ≡ fails_next self.old.plan }
+        ensures call { CountsCall self.old.plan self.new.plan }
+    {
         if self.plan.fails_now() {
             return Err(WorldErr::Failed);
         }
         Ok(kind_at(self.stored.as_slice(), path))
     }
 
-    fn open(&mut self, path: &Path) -> Result<MemSource, WorldErr> {
+    /// Fails exactly where it is planned.
+    fn open(&mut self, path: &Path) -> Result<MemSource, WorldErr>
+        requires { IfSome (state_of self.old).held (λ files. IsFileAt files path.now) }
+        ensures reader { IfOk result (λ reader. IfSome (state_of self.old).held (λ files.
+            ⟦<MemSource as Source>⟧.left reader ≡ Some (bytes_at_lem files path.now))) }
+        ensures fresh { IfOk result (λ reader. (⟦<MemSource as Source>⟧.given reader ≡ 0) × (⟦<MemSource as Source>⟧.faults reader ≡ 0)) }
+        ensures state { MatchResult result (λ _. state_of self.new ≡ lend (state_of self.old)) (λ _. state_of self.new ≡ state_of self.old) }
+        ensures cause { Counts self.old.plan.faults self.new.plan.faults result }
+        ensures planned { IsErrOf result WorldErr.Failed ↔ IsTrue (fails_next self.old.plan) }
+        ensures call { CountsCall self.old.plan self.new.plan }
+    {
         if self.plan.fails_now() {
             return Err(WorldErr::Failed);
         }

@@ -1,9 +1,26 @@
 //! Objects in memory for the outside, which fail where a test wants it.
 //!
-//! Each keeps its trait's contract and tells its content, so that a test over them shows what the program's theorems say. A call
-//! fails where its number is on the object's list; the count of faults rises there and nowhere else.
+//! Each keeps its trait's contract and tells its content. Its calls that answer a Result have numbers from 0: a call fails where its
+//! number is on the object's list, and the count of faults rises there. A number past the last call changes nothing.
+//!
+//! `specs/` has the words that callers' contracts cite: `Trees` for what a tree is made of, `Standing` for what its maker owes,
+//! `Reads` for how the readers of a path give their bytes.
 #![tactic(auto)]
 
 mod gates;
+mod plan;
+mod reads;
+mod rows;
+mod sink;
+mod source;
+mod standing;
+mod stored;
+#[cfg(test)]
+mod tests;
+mod tree;
 
 pub use gates::OpenGate;
+pub use sink::MemSink;
+pub use source::MemSource;
+pub use standing::is_tree;
+pub use tree::MemTree;

@@ -1,0 +1,4 @@
+pub mod FindLemmas
+pub mod FolderLemmas
+pub mod PathLemmas
+pub mod SettledLemmas

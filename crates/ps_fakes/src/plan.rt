@@ -1,0 +1,55 @@
+//! Which calls of an object fail.
+ghost use Rattle.std.specs.Prelude.{◌≡◌, ◌≤◌, if◌then◌else◌};
+ghost use Rattle.ps_world.specs.Counts.{one_more};
+ghost use Rattle.ps_fakes.specs.Plans.{is_planned};
+
+/// The calls of one object that fail, by their numbers from 0, with how many were made and how many have failed.
+///
+/// Both counts stand still at 2^64-1.
+#[derive(Debug, Drop)]
+pub struct Plan {
+    pub calls: u64,
+    pub fails: Vec<u64>,
+    pub faults: u64,
+}
+
+impl Plan {
+    /// A plan before its first call.
+    pub fn new(fails: Vec<u64>) -> Plan
+        ensures calls { result.calls ≡ 0 }
+        ensures fails { result.fails ≡ fails }
+        ensures faults { result.faults ≡ 0 }
+    {
+        Plan {
+            calls: 0,
+            fails,
+            faults: 0,
+        }
+    }
+
+    /// Counts a call, and answers whether it fails; then it is counted as a fault too.
+    pub fn fails_now(&mut self) -> bool
+        ensures planned { result ≡ is_planned self.old.fails.items self.old.calls }
+        ensures calls { self.new.calls ≡ one_more self.old.calls }
+        ensures fails { self.new.fails ≡ self.old.fails }
+        ensures faults { self.new.faults ≡ (if result then one_more self.old.faults else self.old.faults) }
+        ensures later { self.old.faults ≤ self.new.faults }
+    {
+        let is_planned = self.fails.contains(&self.calls);
+        self.calls = self.calls.saturating_add(1);
+        if is_planned {
+            self.count_fault();
+        }
+        is_planned
+    }
+
+    /// Counts a fault.
+    pub fn count_fault(&mut self)
+        ensures calls { self.new.calls ≡ self.old.calls }
+        ensures fails { self.new.fails ≡ self.old.fails }
+        ensures faults { self.new.faults ≡ one_more self.old.faults }
+        ensures later { self.old.faults ≤ self.new.faults }
+    {
+        self.faults = self.faults.saturating_add(1);
+    }
+}

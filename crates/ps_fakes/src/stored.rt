@@ -1,0 +1,135 @@
+//! What a tree in memory holds, as a list that is scanned from the front.
+ghost use Rattle.std.specs.Prelude.{◌≡◌, ◌++◌, length, map, Some, IfOk, OnOk};
+ghost use Rattle.std.specs.Option.{option_map};
+ghost use Rattle.ps_world.specs.Files.{kind_at as kind_at_lem, kind_of as kind_of_lem, bytes_at as bytes_at_lem, bytes_of as bytes_of_lem};
+ghost use Rattle.ps_fakes.specs.Trees.{above, entries_of, files_of, folder as folder_lem, folders, named_path as named_path_lem, node_at, placed, placed_of};
+
+use ps_world::{Kind, Path};
+use std::alloc::{AllocError, Global};
+
+/// A path, and the bytes of the file there; None for a directory.
+#[derive(Debug, Drop)]
+pub struct Stored {
+    pub path: Path,
+    pub bytes: Option<Vec<u8>>,
+}
+
+/// What stands at a path.
+#[tactic(auto, using(crate::proofs::FindLemmas::get_first))]
+pub fn kind_at(stored: &[Stored], path: &Path) -> Kind
+    ensures { result ≡ kind_at_lem (files_of stored.now) path.now }
+{
+    match find(stored, path) {
+        None => Kind::Missing,
+        Some(found) => kind_of(found),
+    }
+}
+
+/// What this is.
+fn kind_of(stored: &Stored) -> Kind
+    ensures { result ≡ kind_of_lem (Some (placed_of stored.now).1) }
+{
+    match &stored.bytes {
+        None => Kind::Dir,
+        Some(_) => Kind::File,
+    }
+}
+
+/// The bytes of the file at a path, none where no file is.
+#[tactic(auto, using(crate::proofs::FindLemmas::get_first))]
+pub fn bytes_at<'a>(stored: &'a [Stored], path: &Path) -> &'a [u8]
+    ensures { result.now ≡ bytes_at_lem (files_of stored.now) path.now }
+{
+    match find(stored, path) {
+        None => &[],
+        Some(found) => bytes_of(found),
+    }
+}
+
+/// The bytes of this file, none of a directory.
+fn bytes_of(stored: &Stored) -> &[u8]
+    ensures { result.now ≡ bytes_of_lem (Some (placed_of stored.now).1) }
+{
+    match &stored.bytes {
+        None => &[],
+        Some(bytes) => bytes.as_slice(),
+    }
+}
+
+/// The first of these at a path.
+fn find<'a>(stored: &'a [Stored], path: &Path) -> Option<&'a Stored>
+    ensures { option_map (λ found. (placed_of found.now).1) result ≡ node_at (map placed_of stored.now) path.now }
+{
+    let mut left = stored;
+    while let [first, rest @ ..] = left {
+        if *path == first.path {
+            return Some(first);
+        }
+        left = rest;
+    }
+    None
+}
+
+/// The entries of a caller, at the paths that they name.
+pub fn place_all(
+    alloc: Global,
+    entries: Vec<(Vec<u8>, Option<Vec<u8>>)>,
+) -> Result<Vec<Stored>, AllocError>
+    ensures { IfOk result (λ stored. map placed_of stored.items ≡ map placed (entries_of entries.items)) }
+{
+    let mut stored = Vec::new(alloc);
+    for (text, bytes) in entries {
+        let path = named_path(alloc, text.as_slice())?;
+        stored.push(Stored { path, bytes })?;
+    }
+    Ok(stored)
+}
+
+/// The path that a text spells; the root for a text that spells none.
+pub fn named_path(alloc: Global, text: &[u8]) -> Result<Path, AllocError>
+    ensures { IfOk result (λ path. path ≡ named_path_lem text.now) }
+{
+    match Path::read(alloc, text)? {
+        Some(path) => Ok(path),
+        None => Ok(Path::root(alloc)),
+    }
+}
+
+/// The directories above entries, and home with those above it.
+pub fn folders_of(alloc: Global, home: &Path, entries: &[Stored]) -> Result<Vec<Stored>, AllocError>
+    ensures { IfOk result (λ stored. map placed_of stored.items ≡ folders home.now (map placed_of entries.now)) }
+{
+    let mut stored = Vec::new(alloc);
+    for entry in entries {
+        push_above(&mut stored, &entry.path)?;
+    }
+    push_above(&mut stored, home)?;
+    stored.push(folder(home.copy()?))?;
+    Ok(stored)
+}
+
+/// Appends the directories above a path, its parent first.
+fn push_above(stored: &mut Vec<Stored>, path: &Path) -> Result<(), AllocError>
+    ensures { OnOk result (map placed_of stored.new.items ≡ map placed_of stored.old.items ++ map folder_lem (above path.now)) }
+{
+    let mut dir = path.copy()?;
+    'steps: for _ in 0..height(path) {
+        dir.pop();
+        stored.push(folder(dir.copy()?))?;
+    }
+    Ok(())
+}
+
+/// How many components a path has.
+fn height(path: &Path) -> usize
+    ensures { result ≡ length path.now }
+{
+    path.parts.len()
+}
+
+/// A directory.
+fn folder(path: Path) -> Stored
+    ensures { placed_of result ≡ folder_lem path }
+{
+    Stored { path, bytes: None }
+}

@@ -8,6 +8,15 @@ use std::alloc::Global;
 /// A call that can be timed.
 #[derive(Clone, Copy, Debug, PartialEq, Eq)]
 pub enum Call {
+    /// A call on a text that is in memory.
+    OnText(TextCall),
+    /// `read_all` of an opened file.
+    ReadAll,
+}
+
+/// A call on a text.
+#[derive(Clone, Copy, Debug, PartialEq, Eq)]
+pub enum TextCall {
     /// `next_line` from line to line.
     NextLine,
     /// `lines` of the whole text.
@@ -18,17 +27,24 @@ impl Call {
     /// The call of this name.
     pub fn named(name: &str) -> Option<Call> {
         match name {
-            "next_line" => Some(Call::NextLine),
-            "lines" => Some(Call::Lines),
+            "next_line" => Some(Call::OnText(TextCall::NextLine)),
+            "lines" => Some(Call::OnText(TextCall::Lines)),
+            "read_all" => Some(Call::ReadAll),
             _ => None,
         }
     }
+}
+
+impl TextCall {
+    ghost use Rattle.pash_bench.specs.Calls.{count_of};
 
     /// Makes the call, and counts what it finds.
-    pub fn count(self, alloc: Global, text: &[u8]) -> Result<usize, Memory> {
+    pub fn count(self, alloc: Global, text: &[u8]) -> Result<usize, Memory>
+        ensures { IfOk result (λ count. count ≡ count_of self text.now) }
+    {
         match self {
-            Call::NextLine => Ok(count_newlines(text)),
-            Call::Lines => count_lines(alloc, text),
+            TextCall::NextLine => Ok(count_newlines(text)),
+            TextCall::Lines => count_lines(alloc, text),
         }
     }
 }

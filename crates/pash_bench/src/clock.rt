@@ -1,6 +1,7 @@
-//! The time of a call.
+//! Calls between two looks at the clock.
 
-use crate::calls::TextCall;
+use crate::calls::count_newlines;
+use ps_lines::lines;
 use ps_real::Reading;
 use ps_world::{WorldErr, read_all};
 use std::io;
@@ -8,30 +9,49 @@ use std::io::{ErrorKind, Read};
 use std::rt::Clock;
 use std::time::Instant;
 
-/// What a call on a text counts, and how many nanoseconds it took.
-pub fn time_call(
-    rt: &(impl AllocGlobal + Clock),
-    call: TextCall,
-    text: &[u8],
-) -> io::Result<(usize, u128)> {
-    let start = Instant::now(rt)?;
-    let Ok(count) = call.count(rt.alloc(), text) else {
-        return Err(io::Error::from(ErrorKind::OutOfMemory));
-    };
-    Ok((count, start.elapsed(rt)?.as_nanos()))
+/// What a call found, and the time that it took.
+#[derive(Clone, Copy, Debug)]
+pub struct Timed {
+    pub count: usize,
+    pub nanoseconds: u128,
 }
 
-/// How many bytes `read_all` reads, and how many nanoseconds it took.
+/// `next_line` from line to line, which finds newlines.
+pub fn time_next_line(rt: &impl Clock, text: &[u8]) -> io::Result<Timed> {
+    let start = Instant::now(rt)?;
+    let count = count_newlines(text);
+    let nanoseconds = start.elapsed(rt)?.as_nanos();
+    Ok(Timed { count, nanoseconds })
+}
+
+/// `lines` of the whole text.
+pub fn time_lines(rt: &(impl AllocGlobal + Clock), text: &[u8]) -> io::Result<Timed> {
+    let start = Instant::now(rt)?;
+    let Ok(found) = lines(rt.alloc(), text) else {
+        return Err(io::Error::from(ErrorKind::OutOfMemory));
+    };
+    let nanoseconds = start.elapsed(rt)?.as_nanos();
+    Ok(Timed {
+        count: found.len(),
+        nanoseconds,
+    })
+}
+
+/// `read_all` of a reader, which finds bytes.
 pub fn time_read_all<R: Read + Drop>(
     rt: &(impl AllocGlobal + Clock),
     reader: R,
-) -> io::Result<(usize, u128)> {
+) -> io::Result<Timed> {
     let mut source = Reading::new(reader);
     let start = Instant::now(rt)?;
-    let count = match read_all(rt.alloc(), &mut source) {
-        Ok(text) => text.len(),
+    let text = match read_all(rt.alloc(), &mut source) {
+        Ok(text) => text,
         Err(WorldErr::Memory) => return Err(io::Error::from(ErrorKind::OutOfMemory)),
         Err(WorldErr::Failed) => return Err(io::Error::from(ErrorKind::Other)),
     };
-    Ok((count, start.elapsed(rt)?.as_nanos()))
+    let nanoseconds = start.elapsed(rt)?.as_nanos();
+    Ok(Timed {
+        count: text.len(),
+        nanoseconds,
+    })
 }

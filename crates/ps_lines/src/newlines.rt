@@ -4,7 +4,7 @@ ghost use Rattle.ps_lines.specs.Lines.{BeginsNextLine, CutsLine, HasNoNewline, c
 ghost use Rattle.ps_lines.specs.Texts.{texts_of};
 
 use crate::memory::Memory;
-use memchr::{memchr, memchr_iter};
+use memchr::memchr;
 use std::alloc::Global;
 
 /// The byte that ends a line (XBD 3.243).
@@ -58,7 +58,7 @@ pub fn cut_line(text: &[u8]) -> Option<(&[u8], &[u8])>
 pub fn lines(alloc: Global, text: &[u8]) -> Result<Vec<Vec<u8>>, Memory>
     ensures { IfOk result (λ found. texts_of found.items ≡ lines text.now) }
 {
-    let mut found = Vec::with_capacity(alloc, memchr_iter(NEWLINE, text).count() + 1)?;
+    let mut found = Vec::new(alloc);
     let mut left = text;
     while let Some((line, rest)) = cut_line(left) {
         push_line(alloc, &mut found, line)?;

@@ -1,0 +1,68 @@
+# What the scripts that time single calls share; they source it.
+#
+# Each row compares a call of pash_bench with a command on one text. Both are run five times, in turn, and the best time
+# counts: of the call that of the call alone, of the command that of its process. The peak is the most memory that the
+# process of the call held, with the text.
+set -euo pipefail
+export LC_ALL=C
+
+crate=$(cd "$(dirname "${BASH_SOURCE[0]}")/../crates/pash_bench" && pwd)
+texts=$(mktemp -d)
+trap 'rm -rf "$texts"' EXIT
+
+build() {
+    (cd "$crate" && rt run -- next_line data/text) >"$texts/log" 2>&1 || {
+        cat "$texts/log" >&2
+        exit 1
+    }
+}
+
+# A text of this many megabytes, in lines of 0 to 2 * mean bytes; the same in each run.
+make_text() {
+    awk -v megabytes="$1" -v mean="$2" 'BEGIN {
+        srand(1)
+        while (length(letters) < 2 * mean) letters = letters "the quick brown fox jumps over the lazy dog "
+        for (made = 0; made < megabytes * 1000000; made += count + 1) {
+            count = int(rand() * (2 * mean + 1))
+            print substr(letters, 1, count)
+        }
+    }'
+}
+
+# The nanoseconds that a call takes on a text.
+time_call() {
+    "$crate/out/pash_bench" "$1" "$2" 2>&1 >"$texts/found"
+}
+
+# The nanoseconds that a command takes.
+time_command() {
+    local start=${EPOCHREALTIME/./} end
+    "$@" >"$texts/wanted"
+    end=${EPOCHREALTIME/./}
+    echo $(((end - start) * 1000))
+}
+
+print_head() {
+    echo "$(nproc) cores, $(wc --version | head -1)"
+    printf '%-26s %10s %10s %8s %10s\n' call call-ms other-ms ratio peak-MB
+}
+
+# A row: compare LABEL CALL TEXT COMMAND WORD..
+compare() {
+    local label=$1 call=$2 text=$3 best=0 other=0 time round peak
+    shift 3
+    for ((round = 0; round < 5; round++)); do
+        time=$(time_call "$call" "$text")
+        ((best == 0 || time < best)) && best=$time
+        time=$(time_command "$@")
+        ((other == 0 || time < other)) && other=$time
+        cmp -s "$texts/found" "$texts/wanted" || {
+            echo "$label: $call finds $(cat "$texts/found"), $1 finds $(cat "$texts/wanted")" >&2
+            exit 1
+        }
+    done
+    peak=$(/usr/bin/time -f %M "$crate/out/pash_bench" "$call" "$text" 2>&1 >"$texts/found" | tail -1)
+    awk -v label="$label" -v best="$best" -v other="$other" -v peak="$peak" 'BEGIN {
+        printf "%-26s %10.1f %10.1f %8.2f %10d\n", label, best / 1e6, other / 1e6, best / other, peak / 1024
+    }'
+}

@@ -1,0 +1,41 @@
+//! The calls that are timed.
+ghost use Rattle.std.specs.Prelude.{◌≡◌, ◌==◌, ◌≤◌, count_by};
+
+use ps_lines::{NEWLINE, next_line};
+
+/// A call that can be timed.
+#[derive(Clone, Copy, Debug, PartialEq, Eq)]
+pub enum Call {
+    /// `next_line` from line to line of a text.
+    NextLine,
+    /// `lines` of a whole text.
+    Lines,
+    /// `read_all` of an opened file.
+    ReadAll,
+}
+
+impl Call {
+    /// The call of this name.
+    pub fn named(name: &str) -> Option<Call> {
+        match name {
+            "next_line" => Some(Call::NextLine),
+            "lines" => Some(Call::Lines),
+            "read_all" => Some(Call::ReadAll),
+            _ => None,
+        }
+    }
+}
+
+/// The newlines of the text, by one call of `next_line` each.
+#[tactic(auto, using(crate::proofs::CountLemmas::newline_steps))]
+pub fn count_newlines(text: &[u8]) -> usize
+    ensures { result ≡ count_by (λ byte. byte == NEWLINE) text.now }
+{
+    let mut count = 0;
+    let mut from = 0;
+    while let Some(next) = next_line(text, from) {
+        count += 1;
+        from = next;
+    }
+    count
+}

@@ -1,0 +1,57 @@
+//! Calls between two looks at the clock.
+
+use crate::calls::count_newlines;
+use ps_lines::lines;
+use ps_real::Reading;
+use ps_world::{WorldErr, read_all};
+use std::io;
+use std::io::{ErrorKind, Read};
+use std::rt::Clock;
+use std::time::Instant;
+
+/// What a call found, and the time that it took.
+#[derive(Clone, Copy, Debug)]
+pub struct Timed {
+    pub count: usize,
+    pub nanoseconds: u128,
+}
+
+/// `next_line` from line to line, which finds newlines.
+pub fn time_next_line(rt: &impl Clock, text: &[u8]) -> io::Result<Timed> {
+    let start = Instant::now(rt)?;
+    let count = count_newlines(text);
+    let nanoseconds = start.elapsed(rt)?.as_nanos();
+    Ok(Timed { count, nanoseconds })
+}
+
+/// `lines` of the whole text.
+pub fn time_lines(rt: &(impl AllocGlobal + Clock), text: &[u8]) -> io::Result<Timed> {
+    let start = Instant::now(rt)?;
+    let Ok(found) = lines(rt.alloc(), text) else {
+        return Err(io::Error::from(ErrorKind::OutOfMemory));
+    };
+    let nanoseconds = start.elapsed(rt)?.as_nanos();
+    Ok(Timed {
+        count: found.len(),
+        nanoseconds,
+    })
+}
+
+/// `read_all` of a reader, which finds bytes.
+pub fn time_read_all<R: Read + Drop>(
+    rt: &(impl AllocGlobal + Clock),
+    reader: R,
+) -> io::Result<Timed> {
+    let mut source = Reading::new(reader);
+    let start = Instant::now(rt)?;
+    let text = match read_all(rt.alloc(), &mut source) {
+        Ok(text) => text,
+        Err(WorldErr::Memory) => return Err(io::Error::from(ErrorKind::OutOfMemory)),
+        Err(WorldErr::Failed) => return Err(io::Error::from(ErrorKind::Other)),
+    };
+    let nanoseconds = start.elapsed(rt)?.as_nanos();
+    Ok(Timed {
+        count: text.len(),
+        nanoseconds,
+    })
+}

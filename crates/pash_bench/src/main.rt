@@ -1,0 +1,30 @@
+//! Times one call of a crate on one file: `pash_bench CALL FILE`, where CALL is `next_line`, `lines` or `read_all`.
+//!
+//! What the call finds, a count, goes to the output, and the time of the call alone, in nanoseconds, to the error
+//! output: what a call takes is ready before the clock starts, and what it gives is dropped after the clock stopped.
+//! The scripts in bench/ run the built program on large files, beside other tools.
+#![tactic(auto)]
+
+mod calls;
+mod clock;
+
+use calls::Call;
+use std::io::ErrorKind;
+use std::{env, fs, io};
+
+fn main(rt: HostRuntime) -> io::Result<()> {
+    let mut words = env::args(&rt)?.skip(1);
+    let (Some(name), Some(path)) = (words.next(), words.next()) else {
+        return Err(io::Error::from(ErrorKind::InvalidInput));
+    };
+    let Some(call) = Call::named(name.as_str()) else {
+        return Err(io::Error::from(ErrorKind::InvalidInput));
+    };
+    let timed = match call {
+        Call::NextLine => clock::time_next_line(&rt, fs::read(&rt, path)?.as_slice())?,
+        Call::Lines => clock::time_lines(&rt, fs::read(&rt, path)?.as_slice())?,
+        Call::ReadAll => clock::time_read_all(&rt, fs::open(&rt, path)?)?,
+    };
+    eprintln!(rt; "{}", timed.nanoseconds)?;
+    println!(rt; "{}", timed.count)
+}

@@ -6,8 +6,10 @@
 //! `specs/` has the words that callers' contracts cite.
 #![tactic(auto)]
 
+mod byte_set;
 mod memory;
 mod text;
 
+pub use byte_set::ByteSet;
 pub use memory::Memory;
 pub use text::Text;

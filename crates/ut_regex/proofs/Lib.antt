@@ -1,0 +1,4 @@
+pub mod Marks
+pub mod CoreLemmas
+pub mod TreeLemmas
+pub mod SweepLemmas

@@ -1,0 +1,5 @@
+pub mod Tree
+pub mod Spans
+pub mod Program
+pub mod Sweeps
+pub mod Held

@@ -1,0 +1,13 @@
+//! Regular expressions of POSIX, and a matcher whose time is linear in the line (XBD 9).
+//!
+//! An expression is a tree, kept in postfix; `specs/Spans.antt` says which places of a line it spans, and which lines have
+//! it. `compile` makes a matcher of an expression, and `Matcher::has` answers whether a line has it. The matcher carries a
+//! set of places along the line, so no expression makes it go back, and it takes no memory for a line.
+#![tactic(auto)]
+
+mod bits;
+mod program;
+mod sweep;
+mod tree;
+
+pub use tree::{Bounds, Leaf, Node, Regex};

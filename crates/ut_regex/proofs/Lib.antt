@@ -2,3 +2,5 @@ pub mod Marks
 pub mod CoreLemmas
 pub mod TreeLemmas
 pub mod SweepLemmas
+pub mod NodeLemmas
+pub mod ScanLemmas

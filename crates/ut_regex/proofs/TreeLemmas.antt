@@ -88,7 +88,7 @@ module _ (fold : Bool) (line : List ℕ) where
 
   -- a part as often as bounds say
   repeated_sound : (low : ℕ) (high : Option ℕ) (part : Core) → ((most : ℕ) → high ≡ Some most → low ≤ most) → (from to : ℕ)
-      → Runs fold line (repeated low high part) from to
+      → Runs fold line (repeated high low part) from to
       → (count : ℕ) × ((low ≤ count) × IfSome high (λ most. count ≤ most)) × Copies (Runs fold line part) count from to
   unfolding Between
   repeated_sound zero None part ordered from to (count, h) = (count, (omega arith, tt), h)
@@ -101,7 +101,7 @@ module _ (fold : Bool) (line : List ℕ) where
 
   repeated_complete : (low : ℕ) (high : Option ℕ) (part : Core) → (from to count : ℕ)
       → (low ≤ count) × IfSome high (λ most. count ≤ most) → Copies (Runs fold line part) count from to
-      → Runs fold line (repeated low high part) from to
+      → Runs fold line (repeated high low part) from to
   unfolding Between
   repeated_complete zero None part from to count allowed h = (count, h)
   repeated_complete (suc low) None part from to count allowed h = open_complete part (suc low) count from to allowed.0 h
@@ -147,7 +147,7 @@ shape-options : (front part : Core) (more : ℕ) → shape front ≡ front → s
 shape-options front part zero g h = g
 shape-options front part (suc more) g h = let a = shape-options front part more g h in cc
 
-shape-repeated : (low : ℕ) (high : Option ℕ) (part : Core) → shape part ≡ part → shape (repeated low high part) ≡ repeated low high part
+shape-repeated : (low : ℕ) (high : Option ℕ) (part : Core) → shape part ≡ part → shape (repeated high low part) ≡ repeated high low part
 shape-repeated zero None part h = ap many h
 shape-repeated (suc low) None part h = let a = shape-copies part low h in cc
 shape-repeated zero (Some high) part h = shape-options nothing part (high - zero) refl h

@@ -3,3 +3,4 @@ pub mod Spans
 pub mod Program
 pub mod Sweeps
 pub mod Held
+pub mod Seeks

@@ -1,7 +1,8 @@
 -- Programs of a matcher: expressions whose repetitions are written out, with a mark at each byte that was just read.
-use Rattle.std.specs.Prelude.{ℕ, zero, suc, ◌-◌, Bool, true, false, ◌&&◌, ◌||◌, List, [], ◌∷◌, ◌++◌, Option, Some, None}
+use Rattle.std.specs.Prelude.{ℕ, zero, suc, ◌-◌, Bool, true, false, ◌&&◌, ◌||◌, List, [], ◌∷◌, ◌++◌, map, reverse, Option, Some, None, Vec}
 use Rattle.ut_regex.specs.declared.tree.Leaf.{Leaf}
 use Rattle.ut_regex.specs.declared.tree.Bounds.{Bounds}
+use Rattle.std.specs.declared.alloc.Global.{Global}
 use Rattle.ut_regex.specs.declared.program.Op.{Op}
 use Rattle.ut_regex.specs.declared.program.Op.TheVariants as op
 use Rattle.ut_regex.specs.Tree.{Tree, leaf, line_begin, line_end, empty, group, sequence, alternative, repetition}
@@ -28,10 +29,10 @@ options front part zero = front
 options front part (suc count) = both (options front part count) (maybe part)
 
 -- a part as often as bounds say
-abbrev pub repeated : ℕ → Option ℕ → Core → Core
-repeated zero None part = many part
-repeated (suc low) None part = both (copies part (suc low)) (many part)
-repeated low (Some high) part = options (copies part low) part (high - low)
+abbrev pub repeated : Option ℕ → ℕ → Core → Core
+repeated None zero part = many part
+repeated None (suc low) part = both (copies part (suc low)) (many part)
+repeated (Some high) low part = options (copies part low) part (high - low)
 
 -- the program of an expression, without a mark
 abbrev pub core : Tree → Core
@@ -42,7 +43,7 @@ core empty = nothing
 core (group part) = core part
 core (sequence first second) = both (core first) (core second)
 core (alternative first second) = either (core first) (core second)
-core (repetition bounds part) = repeated bounds.low bounds.high (core part)
+core (repetition bounds part) = repeated bounds.high bounds.low (core part)
 
 -- the steps of a program, in postfix
 abbrev pub steps : Core → List Op
@@ -54,3 +55,11 @@ steps (both first second) = steps first ++ steps second ++ op.Both ∷ []
 steps (either first second) = steps first ++ steps second ++ op.Either ∷ []
 steps (many part) = steps part ++ op.Many ∷ []
 steps (maybe part) = steps part ++ op.Maybe ∷ []
+
+-- the steps of the parts that a stack of them holds, of which the last comes first
+abbrev pub parts_of : List (Vec Op Global) → List (List Op)
+parts_of parts = reverse (map (λ part. part.items) parts)
+
+-- the steps of each tree's program
+abbrev pub programs : List Tree → List (List Op)
+programs trees = map (λ re. steps (core re)) trees

@@ -6,8 +6,12 @@
 #![tactic(auto)]
 
 mod bits;
+mod expansion;
+mod matcher;
 mod program;
 mod sweep;
 mod tree;
 
+pub use expansion::compile;
+pub use matcher::Matcher;
 pub use tree::{Bounds, Leaf, Node, Regex};

@@ -1,10 +1,9 @@
 -- A program spans what its expression spans.
-use Rattle.std.proofs.Common.{ℕ, zero, suc, ◌≡◌, ◌+◌, ◌-◌, ◌<◌, ◌≤◌, ◌⊎◌, inl, inr, Bool, true, false, List, Option, Some, None, IfSome, length, refl, ap, sym, ◌∙◌, subst, arith}
+use Rattle.std.proofs.Common.{ℕ, zero, suc, ◌≡◌, ◌+◌, ◌-◌, ◌≤◌, inl, inr, Bool, List, Option, Some, None, IfSome, refl, ap, sym, subst, arith}
 use Rattle.std.proofs.lemmas.Bool.Decides.{leb_tells}
-use Rattle.ut_regex.specs.declared.tree.Bounds.{Bounds}
 use Rattle.ut_regex.specs.Tree.{Tree, leaf, line_begin, line_end, empty, group, sequence, alternative, repetition}
-use Rattle.ut_regex.specs.Spans.{Copies, Allows, Spans}
-use Rattle.ut_regex.specs.Program.{Core, point, at_begin, at_end, nothing, both, either, many, maybe, copies, options, repeated, core}
+use Rattle.ut_regex.specs.Spans.{Copies, Spans}
+use Rattle.ut_regex.specs.Program.{Core, nothing, both, many, copies, options, repeated, core}
 use Rattle.ut_regex.proofs.Marks.{Runs, shape}
 
 -- copies of what spans less are copies of what spans more

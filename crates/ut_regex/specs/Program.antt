@@ -1,7 +1,6 @@
 -- Programs of a matcher: expressions whose repetitions are written out, with a mark at each byte that was just read.
-use Rattle.std.specs.Prelude.{ℕ, zero, suc, ◌-◌, Bool, true, false, ◌&&◌, ◌||◌, List, [], ◌∷◌, ◌++◌, map, reverse, Option, Some, None, Vec}
+use Rattle.std.specs.Prelude.{ℕ, zero, suc, ◌-◌, Bool, false, List, [], ◌∷◌, ◌++◌, map, reverse, Option, Some, None, Vec}
 use Rattle.ut_regex.specs.declared.tree.Leaf.{Leaf}
-use Rattle.ut_regex.specs.declared.tree.Bounds.{Bounds}
 use Rattle.std.specs.declared.alloc.Global.{Global}
 use Rattle.ut_regex.specs.declared.program.Op.{Op}
 use Rattle.ut_regex.specs.declared.program.Op.TheVariants as op

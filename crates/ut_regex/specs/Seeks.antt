@@ -1,10 +1,10 @@
 -- What a matcher is made for.
-use Rattle.std.specs.Prelude.{ℕ, ◌≡◌, Bool, true, false, ◌&&◌, ◌||◌, ◌==◌, not, List, [], ◌∷◌, reverse}
+use Rattle.std.specs.Prelude.{ℕ, ◌≡◌, Bool, ◌&&◌, ◌||◌, List, [], ◌∷◌, reverse}
 use Rattle.ut_regex.specs.declared.matcher.Matcher.{Matcher}
 use Rattle.ut_regex.specs.declared.program.Op.{Op}
 use Rattle.ut_regex.specs.Tree.{Tree}
 use Rattle.ut_regex.specs.Program.{core, steps}
-use Rattle.ut_regex.specs.Sweeps.{top, below, Rising, risen, Sinking, sunk}
+use Rattle.ut_regex.specs.Sweeps.{top, below, Rising, risen, sunk}
 
 -- the matcher seeks the expression; with `fold` in both cases of letters, with `whole` as the whole line
 pub record Seeks (matcher : Matcher) (fold whole : Bool) (re : Tree) : Type 0 where

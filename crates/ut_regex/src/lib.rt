@@ -10,6 +10,8 @@ mod expansion;
 mod matcher;
 mod program;
 mod sweep;
+#[cfg(test)]
+mod tests;
 mod tree;
 
 pub use expansion::compile;

@@ -49,5 +49,5 @@ pub enum Node {
 /// An expression: its nodes in postfix, so that no walk over it has to go deep.
 #[derive(Debug, Drop)]
 pub struct Regex {
-    pub(crate) nodes: Vec<Node>,
+    pub nodes: Vec<Node>,
 }

@@ -1,4 +1,4 @@
-use Rattle.std.proofs.Common.{◌≡◌, ◌+◌, ◌-◌, ◌*◌, ◌≤◌, length, reverse}
+use Rattle.std.proofs.Common.{◌≡◌, ◌+◌, ◌*◌, ◌≤◌, length, reverse}
 use Rattle.ut_regex.specs.Sweeps.{sunk}
 use Rattle.ut_regex.specs.Held.{sinking}
 use Rattle.ut_regex.proofs.sweep.sweep_back.Given as goal

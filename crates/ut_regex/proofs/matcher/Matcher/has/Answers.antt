@@ -1,5 +1,4 @@
-use Rattle.std.proofs.Common.{◌≡◌, ◌∙◌, Bool, true, false, refl, ap, sym, subst, rules, arith}
-use Rattle.ut_regex.specs.Seeks.{Seeks, Same}
+use Rattle.std.proofs.Common.{◌∙◌, false, refl, ap, sym, subst, rules, arith}
 use Rattle.ut_regex.proofs.ScanLemmas.{Scanned, scan_start, scanned_on, has_early, has_last, led_is}
 use Rattle.ut_regex.proofs.matcher.Matcher.has.Goals as goal
 use Rattle.ut_regex.proofs.matcher.Matcher.has.Goals.{else-led-via-then-led+else-not-self, else-led-via-else-led}

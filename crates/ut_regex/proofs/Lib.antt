@@ -4,3 +4,5 @@ pub mod TreeLemmas
 pub mod SweepLemmas
 pub mod NodeLemmas
 pub mod ScanLemmas
+pub mod BracketLemmas
+pub mod NumberLemmas

@@ -4,3 +4,6 @@ pub mod Program
 pub mod Sweeps
 pub mod Held
 pub mod Seeks
+pub mod Brackets
+pub mod Intervals
+pub mod Pieces

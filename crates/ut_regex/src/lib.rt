@@ -6,8 +6,12 @@
 #![tactic(auto)]
 
 mod bits;
+mod brackets;
 mod expansion;
+mod fault;
+mod intervals;
 mod matcher;
+mod pieces;
 mod program;
 mod sweep;
 #[cfg(test)]
@@ -15,5 +19,6 @@ mod tests;
 mod tree;
 
 pub use expansion::compile;
+pub use fault::ReFault;
 pub use matcher::Matcher;
 pub use tree::{Bounds, Leaf, Node, Regex};

@@ -6,3 +6,4 @@ pub mod NodeLemmas
 pub mod ScanLemmas
 pub mod BracketLemmas
 pub mod NumberLemmas
+pub mod ReadingLemmas

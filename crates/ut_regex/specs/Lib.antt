@@ -7,3 +7,4 @@ pub mod Seeks
 pub mod Brackets
 pub mod Intervals
 pub mod Pieces
+pub mod Reading

@@ -13,6 +13,7 @@ mod intervals;
 mod matcher;
 mod pieces;
 mod program;
+mod reading;
 mod sweep;
 #[cfg(test)]
 mod tests;
@@ -21,4 +22,5 @@ mod tree;
 pub use expansion::compile;
 pub use fault::ReFault;
 pub use matcher::Matcher;
+pub use reading::{bre_fault, ere_fault};
 pub use tree::{Bounds, Leaf, Node, Regex};

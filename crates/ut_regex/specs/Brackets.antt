@@ -67,11 +67,22 @@ abbrev pub behind_close : List ℕ → Option (List ℕ)
 behind_close [] = None
 behind_close (first ∷ rest) = if first == 93 then Some rest else None
 
+-- the last byte of a range, where a dash follows and a byte other than the closing bracket
+abbrev pub range_end : List ℕ → Option (ℕ × List ℕ)
+range_end [] = None
+range_end (dash ∷ []) = None
+range_end (dash ∷ last ∷ rest) = if dash == 45 && not (last == 93) then Some (last, rest) else None
+
+-- a class, which no range begins with
+abbrev pub class_alone : Class → List ℕ → Option (ℕ × List ℕ) → Option (Item × List ℕ)
+class_alone name rest None = Some (element.Class name, rest)
+class_alone name rest (Some end) = None
+
 -- a class and what is behind `:]`, where both are there
 abbrev pub class_closed : Option Class → Option (List ℕ) → Option (Item × List ℕ)
 class_closed None rest = None
 class_closed (Some name) None = None
-class_closed (Some name) (Some rest) = Some (element.Class name, rest)
+class_closed (Some name) (Some rest) = class_alone name rest (range_end rest)
 
 -- the class whose name ends at a colon
 abbrev pub class_in : List ℕ → Option ℕ → Option (Item × List ℕ)
@@ -82,12 +93,6 @@ class_in text (Some length) = class_closed (class_named (take length text)) (beh
 abbrev pub class_at : List ℕ → Option (Item × List ℕ)
 class_at [] = None
 class_at (first ∷ text) = if first == 58 then class_in text (position (λ byte. byte == 58) text) else None
-
--- the last byte of a range, where a dash follows and a byte other than the closing bracket
-abbrev pub range_end : List ℕ → Option (ℕ × List ℕ)
-range_end [] = None
-range_end (dash ∷ []) = None
-range_end (dash ∷ last ∷ rest) = if dash == 45 && not (last == 93) then Some (last, rest) else None
 
 -- a range is in order, and no class is its end; without a range's end the byte stands alone
 abbrev pub ranged : ℕ → List ℕ → Option (ℕ × List ℕ) → Option (Item × List ℕ)

@@ -205,7 +205,7 @@ fn class_item(text: &[u8]) -> Option<(Item, &[u8])>
     named_class(behind)
 }
 
-/// Reads a class from its name on.
+/// Reads a class from its name on. No range begins with it.
 fn named_class(text: &[u8]) -> Option<(Item, &[u8])>
     ensures class { MatchOption result (class_in text.now (position (λ byte. byte == 58) text.now) ≡ None) (λ r. class_in text.now (position (λ byte. byte == 58) text.now) ≡ Some (r.0, r.1.now)) }
     ensures shorter { IfSome result (λ r. length r.1.now ≤ length text.now) }
@@ -213,7 +213,10 @@ fn named_class(text: &[u8]) -> Option<(Item, &[u8])>
     match colon_at(text) {
         None => None,
         Some(length) => match (class_of(&text[..length]), closed(&text[length + 1..])) {
-            (Some(class), Some(rest)) => Some((Item::Class(class), rest)),
+            (Some(class), Some(rest)) => match ranged(rest) {
+                None => Some((Item::Class(class), rest)),
+                Some(_) => None,
+            },
             (Some(_), None) => None,
             (None, _) => None,
         },

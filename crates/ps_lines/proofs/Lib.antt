@@ -2,3 +2,4 @@ pub mod TextsLemmas
 pub mod LineLemmas
 pub mod NewlineLemmas
 pub mod NumberLemmas
+pub mod ByteSetLemmas

@@ -1,3 +1,5 @@
 pub mod Texts
 pub mod Lines
 pub mod Numbers
+pub mod Bits
+pub mod ByteSet

@@ -7,6 +7,7 @@
 //! `specs/` has the words that callers' contracts cite.
 #![tactic(auto)]
 
+mod byte_set;
 pub mod laws;
 mod memory;
 mod newlines;
@@ -15,6 +16,7 @@ mod numbers;
 mod tests;
 mod text;
 
+pub use byte_set::ByteSet;
 pub use memory::Memory;
 pub use newlines::{NEWLINE, closing, cut_line, is_closed, lines, next_line};
 pub use numbers::{decimal, read_decimal};

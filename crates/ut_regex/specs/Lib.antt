@@ -1,0 +1,10 @@
+pub mod Tree
+pub mod Spans
+pub mod Program
+pub mod Sweeps
+pub mod Held
+pub mod Seeks
+pub mod Brackets
+pub mod Intervals
+pub mod Pieces
+pub mod Reading

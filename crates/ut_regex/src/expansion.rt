@@ -1,0 +1,135 @@
+//! The program of an expression, and its matcher.
+ghost use Rattle.std.specs.Prelude.{◌≡◌, ℕ, List, [], ◌∷◌, ◌++◌, IfOk, OnOk};
+ghost use Rattle.ut_regex.specs.Seeks.{Seeks};
+ghost use Rattle.ut_regex.specs.Tree.{tree, Tree, last_tree, trees_before, with_node, with_nodes};
+ghost use Rattle.ut_regex.specs.Program.{Core, core, copies, options, repeated, steps, parts_of, programs};
+
+use crate::matcher::Matcher;
+use crate::program::Op;
+use crate::tree::{Bounds, Node, Regex};
+use ps_lines::Memory;
+use std::alloc::{AllocError, Global};
+
+/// A matcher for an expression: with `fold` letters are compared in both cases, and with `whole` the expression has to be
+/// the whole line.
+pub fn compile(alloc: Global, re: &Regex, fold: bool, whole: bool) -> Result<Matcher, Memory>
+    ensures { IfOk result (λ matcher. Seeks matcher fold whole (tree re.now)) }
+{
+    let steps = program_of(alloc, &re.nodes)?;
+    Ok(Matcher::running(alloc, steps, fold, whole)?)
+}
+
+/// The steps of the expression that the nodes make.
+fn program_of(alloc: Global, nodes: &[Node]) -> Result<Vec<Op>, AllocError>
+    ensures { IfOk result (λ made. made.items ≡ steps (core (last_tree (with_nodes [] nodes.now)))) }
+{
+    let mut parts = Vec::new(alloc);
+    for node in nodes {
+        add_node(alloc, &mut parts, *node)?;
+    }
+    last_part(alloc, &mut parts)
+}
+
+/// Makes one part of the last parts, as a node says.
+fn add_node(alloc: Global, parts: &mut Vec<Vec<Op>>, node: Node) -> Result<(), AllocError>
+    ensures { OnOk result ((trees : List Tree) → parts_of parts.old.items ≡ programs trees
+        → parts_of parts.new.items ≡ programs (with_node trees node)) }
+{
+    let made = match node {
+        Node::Leaf(leaf) => one_step(alloc, Op::Point(leaf))?,
+        Node::Begin => one_step(alloc, Op::Begin)?,
+        Node::End => one_step(alloc, Op::End)?,
+        Node::Empty => one_step(alloc, Op::Empty)?,
+        Node::Group => last_part(alloc, parts)?,
+        Node::Sequence => joined(alloc, parts, Op::Both)?,
+        Node::Alternative => joined(alloc, parts, Op::Either)?,
+        Node::Repetition(bounds) => {
+            let part = last_part(alloc, parts)?;
+            repetition(alloc, &part, bounds)?
+        }
+    };
+    parts.push(made)?;
+    Ok(())
+}
+
+/// A part of one step.
+fn one_step(alloc: Global, step: Op) -> Result<Vec<Op>, AllocError>
+    ensures { IfOk result (λ made. made.items ≡ step ∷ []) }
+{
+    Ok(vec![in alloc; step]?)
+}
+
+/// Takes the last part, which is empty where there is none.
+fn last_part(alloc: Global, parts: &mut Vec<Vec<Op>>) -> Result<Vec<Op>, AllocError>
+    ensures { IfOk result (λ made. (trees : List Tree) → parts_of parts.old.items ≡ programs trees
+        → (made.items ≡ steps (core (last_tree trees))) × (parts_of parts.new.items ≡ programs (trees_before trees))) }
+{
+    match parts.pop() {
+        Some(part) => Ok(part),
+        None => one_step(alloc, Op::Empty),
+    }
+}
+
+/// Takes the last two parts and joins them.
+fn joined(alloc: Global, parts: &mut Vec<Vec<Op>>, step: Op) -> Result<Vec<Op>, AllocError>
+    ensures { IfOk result (λ made. (trees : List Tree) → parts_of parts.old.items ≡ programs trees
+        → (made.items ≡ steps (core (last_tree (trees_before trees))) ++ steps (core (last_tree trees)) ++ step ∷ [])
+        × (parts_of parts.new.items ≡ programs (trees_before (trees_before trees)))) }
+{
+    let second = last_part(alloc, parts)?;
+    let mut first = last_part(alloc, parts)?;
+    first.extend_from_slice(&second)?;
+    first.push(step)?;
+    Ok(first)
+}
+
+/// A part as often as the bounds say.
+fn repetition(alloc: Global, part: &[Op], bounds: Bounds) -> Result<Vec<Op>, AllocError>
+    ensures { IfOk result (λ made. (whole : Core) → part.now ≡ steps whole
+        → made.items ≡ steps (repeated bounds.high bounds.low whole)) }
+{
+    match bounds.high {
+        None if bounds.low == 0 => {
+            let mut made = Vec::from_slice(alloc, part)?;
+            made.push(Op::Many)?;
+            Ok(made)
+        }
+        None => {
+            let mut made = copies_of(alloc, part, bounds.low)?;
+            made.extend_from_slice(part)?;
+            made.push(Op::Many)?;
+            made.push(Op::Both)?;
+            Ok(made)
+        }
+        Some(high) => {
+            let mut made = copies_of(alloc, part, bounds.low)?;
+            add_options(&mut made, part, high - bounds.low)?;
+            Ok(made)
+        }
+    }
+}
+
+/// A part so many times.
+fn copies_of(alloc: Global, part: &[Op], count: u8) -> Result<Vec<Op>, AllocError>
+    ensures { IfOk result (λ made. (whole : Core) → part.now ≡ steps whole → made.items ≡ steps (copies whole count)) }
+{
+    let mut made = one_step(alloc, Op::Empty)?;
+    for done in 0..count {
+        made.extend_from_slice(part)?;
+        made.push(Op::Both)?;
+    }
+    Ok(made)
+}
+
+/// Adds a part so many times, each of which may be left out.
+fn add_options(made: &mut Vec<Op>, part: &[Op], count: u8) -> Result<(), AllocError>
+    ensures { OnOk result ((front whole : Core) → made.old.items ≡ steps front → part.now ≡ steps whole
+        → made.new.items ≡ steps (options front whole count)) }
+{
+    for done in 0..count {
+        made.extend_from_slice(part)?;
+        made.push(Op::Maybe)?;
+        made.push(Op::Both)?;
+    }
+    Ok(())
+}

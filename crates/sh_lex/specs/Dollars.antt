@@ -1,6 +1,6 @@
 -- What a `$` begins (XCU 2.6): a parameter, `${ }`, `$( )`, `$(( ))`, or nothing, and then it is ordinary.
 -- `rest` is what is left behind the `$`, `left` the number of bytes left at the `$`, and `outer` the construct that it stands in.
-use Rattle.std.specs.Prelude.{ℕ, Bool, true, false, List, [], ◌∷◌, ◌+◌, ◌==◌, if◌then◌else◌}
+use Rattle.std.specs.Prelude.{ℕ, Bool, true, false, List, [], ◌∷◌, ◌+◌, ◌==◌, nat_lt, if◌then◌else◌}
 use Rattle.std.specs.declared.option.Option.TheVariants.{None, Some}
 use Rattle.sh_lex.specs.Bytes.{is_name_start, is_name_byte, is_parameter}
 use Rattle.sh_lex.specs.Texts.{unspliced}
@@ -26,7 +26,7 @@ inside_braces nest = record { levels = nest.levels + 1; in_braces = true }
 -- a level opens, and the 65th is refused (own)
 abbrev pub opening : Nest → ℕ → Part → Part → List ℕ → Act
 opening nest left inner outer rest =
-    if nest.levels == MAX_LEVELS then offends (fault.TooDeep left) else enters inner outer rest
+    if nat_lt nest.levels MAX_LEVELS then enters inner outer rest else offends (fault.TooDeep left)
 
 -- `$(` begins a command substitution (XCU 2.6.3); inside `${ }` it isn't in the profile
 abbrev pub substitution : Nest → ℕ → Part → List ℕ → Act

@@ -8,11 +8,14 @@
 #![tactic(auto)]
 
 mod acts;
+mod arithmetic;
 mod bytes;
+mod dollars;
 mod lexing;
 mod numbers;
 mod operators;
 mod parts;
+mod quotes;
 mod refusals;
 mod texts;
 mod tokens;

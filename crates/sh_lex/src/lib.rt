@@ -9,6 +9,7 @@
 
 mod acts;
 mod arithmetic;
+mod braces;
 mod bytes;
 mod dollars;
 mod lexing;
@@ -19,6 +20,7 @@ mod quotes;
 mod refusals;
 mod texts;
 mod tokens;
+mod words;
 
 pub use lexing::MAX_SCRIPT;
 pub use refusals::{LexRefusal, Static};

@@ -1,5 +1,5 @@
 //! The text that is left, and the runs of bytes that end at one byte.
-ghost use Rattle.std.specs.Prelude.{◌≡◌, ◌∷◌, [], ◌<◌, ◌≤◌, length, MatchOption, IfSome, None, Some};
+ghost use Rattle.std.specs.Prelude.{◌≡◌, ◌∷◌, [], ◌<◌, ◌≤◌, length, drop, MatchOption, IfSome, None, Some};
 ghost use Rattle.sh_lex.specs.Texts.{unspliced, behind_quote, behind_comment, behind_backslash};
 
 use crate::bytes::{BACKSLASH, CLOSE_BRACE, NEWLINE, QUOTE, is_quoted_escape};
@@ -82,5 +82,15 @@ pub fn behind_backslash(braces: bool, after: &[u8]) -> &[u8]
         behind
     } else {
         after
+    }
+}
+
+/// What is left behind a byte that a backslash quotes (XCU 2.2.1); at the end of the text there is none.
+pub fn behind_byte(text: &[u8]) -> &[u8]
+    ensures { result.now ≡ drop 1 text.now }
+{
+    match text.split_first() {
+        Some((_, rest)) => rest,
+        None => text,
     }
 }

@@ -76,13 +76,10 @@ great_at left text (byte ∷ rest) =
         else offence (fault.Spelled spelling.GreatAnd left))
     else token (kind.Op op.Great) text
 
--- what begins at a text (XCU 2.3)
-abbrev pub lexeme_at : List ℕ → Found
-lexeme_at [] = nothing
-lexeme_at (byte ∷ rest) =
-    if is_blank byte then gap rest
-    else if byte == HASH then gap (behind_comment rest)
-    else if byte == NEWLINE then token kind.Newline rest
+-- at a byte that ends a word: an operator, a newline or a blank
+abbrev pub delimiter : ℕ → List ℕ → Found
+delimiter byte rest =
+    if byte == NEWLINE then token kind.Newline rest
     else if byte == AND then and_at (length rest + 1) (unspliced rest)
     else if byte == PIPE then pipe_at rest (unspliced rest)
     else if byte == SEMI then semi_at (length rest + 1) rest (unspliced rest)
@@ -90,6 +87,14 @@ lexeme_at (byte ∷ rest) =
     else if byte == CLOSE then close_parenthesis rest
     else if byte == LESS then less_at (length rest + 1) rest (unspliced rest)
     else if byte == GREAT then great_at (length rest + 1) rest (unspliced rest)
+    else gap rest
+
+-- what begins at a text (XCU 2.3); a `#` that begins a token begins a comment
+abbrev pub lexeme_at : List ℕ → Found
+lexeme_at [] = nothing
+lexeme_at (byte ∷ rest) =
+    if ends_word byte then delimiter byte rest
+    else if byte == HASH then gap (behind_comment rest)
     else if is_digit byte then after_digit byte rest
     else word
 

@@ -1,7 +1,7 @@
 //! What begins where a token may begin: operators, gaps, IoNumbers (XCU 2.3, 2.10.2).
 ghost use Rattle.std.specs.Prelude.{◌≡◌, ◌≤◌, length};
 ghost use Rattle.sh_lex.specs.Texts.{unspliced};
-ghost use Rattle.sh_lex.specs.Operators.{and_at, pipe_at, semi_at, less_at, great_at, behind_blanks, has_no_word, is_number_or_target, is_target, lexeme};
+ghost use Rattle.sh_lex.specs.Operators.{and_at, pipe_at, semi_at, less_at, great_at, delimiter, behind_blanks, has_no_word, is_number_or_target, is_target, lexeme};
 ghost use Rattle.sh_lex.specs.Acts.{found_of};
 
 use crate::acts::Lexeme;
@@ -20,10 +20,23 @@ pub fn lexeme(text: &[u8]) -> Lexeme<'_>
     let Some((byte, rest)) = front(text) else {
         return Lexeme::Nothing;
     };
+    if ends_word(byte) {
+        delimiter(byte, rest)
+    } else if byte == HASH {
+        Lexeme::Gap(behind_comment(rest))
+    } else if is_digit(byte) {
+        after_digit(byte, rest)
+    } else {
+        Lexeme::Word
+    }
+}
+
+/// What begins with a byte that ends a word: an operator, a newline or a blank.
+fn delimiter(byte: u8, rest: &[u8]) -> Lexeme<'_>
+    ensures { found_of result ≡ delimiter byte rest.now }
+{
     let left = rest.len() + 1;
     match byte {
-        _ if is_blank(byte) => Lexeme::Gap(rest),
-        HASH => Lexeme::Gap(behind_comment(rest)),
         NEWLINE => Lexeme::Token(TokenKind::Newline, rest),
         AND => and_at(left, rest),
         PIPE => pipe_at(rest),
@@ -32,8 +45,7 @@ pub fn lexeme(text: &[u8]) -> Lexeme<'_>
         CLOSE => Lexeme::Close(rest),
         LESS => less_at(left, rest),
         GREAT => great_at(left, rest),
-        _ if is_digit(byte) => after_digit(byte, rest),
-        _ => Lexeme::Word,
+        _ => Lexeme::Gap(rest),
     }
 }
 

@@ -43,6 +43,11 @@ pub Shrinks-if : (count : ℕ) (test : Bool) (left right : Act) → Shrinks coun
 Shrinks-if count true left right l r = l
 Shrinks-if count false left right l r = r
 
+pub LeavesLess-choice : (text : List ℕ) (test : Bool) (left right : Found) → LeavesLess text left → LeavesLess text right
+    → LeavesLess text (if test then left else right)
+LeavesLess-choice text true left right l r = l
+LeavesLess-choice text false left right l r = r
+
 pub LeavesLess-if : (text : List ℕ) (test : Bool) (left right : Found) → (test ≡ true → LeavesLess text left)
     → (test ≡ false → LeavesLess text right) → LeavesLess text (if test then left else right)
 LeavesLess-if text true left right l r = l refl
@@ -219,3 +224,147 @@ length-digits_end end (a ∷ b ∷ text) count h k =
     digits_end_pair end a b text count ((a == BACKSLASH) && (b == NEWLINE)) refl
         (length-digits_end end text count h (omega arith))
         (length-digits_end (b ∷ text) (b ∷ text) count (omega arith) (omega arith)) h
+
+-- what begins at a text, whose first byte is `byte`
+module _ (text : List ℕ) (byte : ℕ) (rest : List ℕ) (begins : unspliced text ≡ byte ∷ rest) where
+  rest_shorter : length rest < length text
+  rest_shorter = let g : length (unspliced text) ≡ length (byte ∷ rest) = ap length begins in omega (arith, length-unspliced text, g)
+
+  front_shorter : length (unspliced rest) < length text
+  front_shorter = omega (arith, length-unspliced rest, rest_shorter)
+
+  and-LeavesLess : (left : ℕ) (front : List ℕ) → length front < length text → LeavesLess text (and_at left front)
+  and-LeavesLess left [] h = tt
+  and-LeavesLess left (b ∷ r) h = let less : length r < length text = omega arith in search (LeavesLess-choice, rules)
+
+  pipe-LeavesLess : (front : List ℕ) → length front < length text → LeavesLess text (pipe_at rest front)
+  pipe-LeavesLess [] h = rest_shorter
+  pipe-LeavesLess (b ∷ r) h =
+      let less : length r < length text = omega arith in search (LeavesLess-choice, rest_shorter, rules)
+
+  semi-LeavesLess : (left : ℕ) (front : List ℕ) → LeavesLess text (semi_at left rest front)
+  semi-LeavesLess left [] = rest_shorter
+  semi-LeavesLess left (b ∷ r) = search (LeavesLess-choice, rest_shorter, rules)
+
+  less-LeavesLess : (left : ℕ) (front : List ℕ) → LeavesLess text (less_at left rest front)
+  less-LeavesLess left [] = rest_shorter
+  less-LeavesLess left (b ∷ r) = search (LeavesLess-choice, rest_shorter, rules)
+
+  great-LeavesLess : (left : ℕ) (front : List ℕ) → length front < length text → LeavesLess text (great_at left rest front)
+  great-LeavesLess left [] h = rest_shorter
+  great-LeavesLess left (b ∷ r) h =
+      let less : length r < length text = omega arith in search (LeavesLess-choice, rest_shorter, rules)
+
+  delimiter-LeavesLess : LeavesLess text (delimiter byte rest)
+  delimiter-LeavesLess =
+      let and : LeavesLess text (and_at (length rest + 1) (unspliced rest))
+              = and-LeavesLess (length rest + 1) (unspliced rest) front_shorter in
+      let pipe : LeavesLess text (pipe_at rest (unspliced rest)) = pipe-LeavesLess (unspliced rest) front_shorter in
+      let semi : LeavesLess text (semi_at (length rest + 1) rest (unspliced rest))
+              = semi-LeavesLess (length rest + 1) (unspliced rest) in
+      let less : LeavesLess text (less_at (length rest + 1) rest (unspliced rest))
+              = less-LeavesLess (length rest + 1) (unspliced rest) in
+      let great : LeavesLess text (great_at (length rest + 1) rest (unspliced rest))
+              = great-LeavesLess (length rest + 1) (unspliced rest) front_shorter in
+      search (LeavesLess-choice, rest_shorter, and, pipe, semi, less, great, rules)
+
+  module _ (in_word : ends_word byte ≡ false) where
+    begins_word : BeginsWord text
+    begins_word = (byte, (rest, (begins, in_word)))
+
+    number-LeavesLess : (left : ℕ) (single : Bool) (end front : List ℕ) → length end < length text
+        → LeavesLess text (number_at byte left single end front)
+    number-LeavesLess left single end [] h = begins_word
+    number-LeavesLess left single end (b ∷ r) h =
+        let word : BeginsWord text = begins_word in search (LeavesLess-choice, word, rules)
+
+    digit-LeavesLess : LeavesLess text (after_digit byte rest)
+    digit-LeavesLess =
+        number-LeavesLess (length rest + 1) (length (digits_end rest rest) == length rest) (digits_end rest rest)
+            (unspliced (digits_end rest rest))
+            (let within : length (digits_end rest rest) ≤ length rest
+                    = length-digits_end rest rest (length rest) (omega arith) (omega arith) in
+                omega (arith, within, rest_shorter))
+
+    other-LeavesLess : LeavesLess text
+        (if byte == 35 then gap (behind_comment rest) else if is_digit byte then after_digit byte rest else word)
+    other-LeavesLess =
+        let comment : length (behind_comment rest) < length text = omega (arith, length-behind_comment rest, rest_shorter) in
+        let digit : LeavesLess text (after_digit byte rest) = digit-LeavesLess in
+        let at_word : BeginsWord text = begins_word in
+        search (LeavesLess-choice, comment, digit, at_word, rules)
+
+  front-LeavesLess : LeavesLess text (lexeme_at (byte ∷ rest))
+  front-LeavesLess =
+      LeavesLess-if text (ends_word byte) (delimiter byte rest)
+          (if byte == 35 then gap (behind_comment rest) else if is_digit byte then after_digit byte rest else word)
+          (λ _. delimiter-LeavesLess) other-LeavesLess
+
+found_at : (text front : List ℕ) → unspliced text ≡ front → LeavesLess text (lexeme_at front)
+found_at text [] e = tt
+found_at text (byte ∷ rest) e = front-LeavesLess text byte rest e
+
+-- what is found at a text leaves less of it, and a word has a byte
+pub lexeme-LeavesLess : (text : List ℕ) → LeavesLess text (lexeme text)
+lexeme-LeavesLess text = found_at text (unspliced text) refl
+
+module _ (nest : Nest) (count : ℕ) where
+  word-Shrinks : (opened : Option ℕ) (at : Spot) (byte : ℕ) (rest : List ℕ) → length rest < count
+      → Shrinks count (word_at nest opened at byte rest)
+  word-Shrinks opened at byte rest h =
+      let behind : length (drop 1 rest) < count = omega (arith, length-drop 1 rest) in
+      search (Shrinks-if, single_quotes-Shrinks, after_dollar-Shrinks, rules) depth 9
+
+  word_begin-Shrinks : (opened : ℕ) (front : List ℕ) → length front ≤ count → Shrinks count (word_begin nest opened front)
+  word_begin-Shrinks opened [] h = tt
+  word_begin-Shrinks opened (byte ∷ rest) h = word-Shrinks (Some opened) spot.Begin byte rest (omega arith)
+
+  between-Shrinks : (opened : ℕ) (text : List ℕ) (found : Found) → length text ≤ count → LeavesLess text found
+      → Shrinks count (between_at nest opened text found)
+  between-Shrinks opened text nothing h less = tt
+  between-Shrinks opened text (gap rest) h less = omega arith
+  between-Shrinks opened text (open_parenthesis rest) h less = omega arith
+  between-Shrinks opened text (close_parenthesis rest) h less = omega arith
+  between-Shrinks opened text (token kind rest) h less = omega arith
+  between-Shrinks opened text word h less =
+      word_begin-Shrinks opened (unspliced text) (omega (arith, length-unspliced text))
+  between-Shrinks opened text (offence found) h less = tt
+
+  word_end-Shrinks : (opened : Option ℕ) (text : List ℕ) → length text ≤ count → Shrinks count (word_end nest opened text)
+  word_end-Shrinks None text h = h
+  word_end-Shrinks (Some opened) text h = between-Shrinks opened text (lexeme text) h (lexeme-LeavesLess text)
+
+  in_word-Shrinks : (opened : Option ℕ) (at : Spot) (text front : List ℕ) → length text ≤ count → length front ≤ count
+      → Shrinks count (in_word nest opened at text front)
+  in_word-Shrinks opened at text [] h k = word_end-Shrinks opened text h
+  in_word-Shrinks opened at text (byte ∷ rest) h k =
+      Shrinks-if count (ends_word byte) _ _ (word_end-Shrinks opened text h) (word-Shrinks opened at byte rest (omega arith))
+
+  commands-Shrinks : (opened : Option ℕ) (at : Spot) (text : List ℕ) → length text ≤ count
+      → Shrinks count (in_commands nest opened at text)
+  commands-Shrinks opened spot.Between text h = word_end-Shrinks opened text h
+  commands-Shrinks opened spot.Begin text h =
+      in_word-Shrinks opened spot.Begin text (unspliced text) h (omega (arith, length-unspliced text))
+  commands-Shrinks opened spot.Name text h =
+      in_word-Shrinks opened spot.Name text (unspliced text) h (omega (arith, length-unspliced text))
+  commands-Shrinks opened spot.ValueBegin text h =
+      in_word-Shrinks opened spot.ValueBegin text (unspliced text) h (omega (arith, length-unspliced text))
+  commands-Shrinks opened spot.Value text h =
+      in_word-Shrinks opened spot.Value text (unspliced text) h (omega (arith, length-unspliced text))
+  commands-Shrinks opened spot.Elsewhere text h =
+      in_word-Shrinks opened spot.Elsewhere text (unspliced text) h (omega (arith, length-unspliced text))
+
+-- a step of a construct leaves less of the text, or as much where the construct has ended
+pub act-Shrinks : (construct : Part) (text : List ℕ) → Shrinks (length text) (act construct text)
+act-Shrinks (part.Commands nest opened at) text = commands-Shrinks nest (length text) opened at text (omega arith)
+act-Shrinks part.Name text = name-Shrinks (length text) text (unspliced text) (omega arith) (length-unspliced text)
+act-Shrinks (part.DoubleQuotes nest left) text =
+    double_quotes-Shrinks nest left (length text) (unspliced text) (length-unspliced text)
+act-Shrinks (part.BraceHead nest left quoted head) text =
+    brace_head-Shrinks nest left (length text) quoted head (unspliced text) (length-unspliced text)
+act-Shrinks (part.Braces nest left quoted) text =
+    braces-Shrinks nest left (length text) quoted (unspliced text) (length-unspliced text)
+act-Shrinks (part.Arithmetic nest left) text =
+    arithmetic-Shrinks nest left (length text) (unspliced text) (length-unspliced text)
+act-Shrinks (part.Parentheses nest left) text =
+    parentheses-Shrinks nest left (length text) (unspliced text) (length-unspliced text)

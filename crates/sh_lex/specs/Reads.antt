@@ -9,6 +9,8 @@ use Rattle.sh_lex.specs.Arithmetic.{in_arithmetic, in_parentheses}
 use Rattle.sh_lex.specs.Commands.{in_commands}
 use Rattle.sh_lex.specs.declared.parts.Fault.{Fault}
 use Rattle.sh_lex.specs.declared.parts.Part.{Part}
+use Rattle.sh_lex.specs.declared.reading.Stop.{Stop}
+use Rattle.sh_lex.specs.declared.reading.Stop.TheVariants as stop
 use Rattle.sh_lex.specs.declared.parts.Part.TheVariants as part
 
 -- what the text does to the construct that is open there
@@ -37,3 +39,8 @@ pub data Reads : Part → List ℕ → Outcome → Type 0 where
   has_ended : {construct : Part} {text rest : List ℕ} → act construct text ≡ ends rest → Reads construct text (past rest)
   offended : {construct : Part} {text : List ℕ} {fault : Fault}
     → act construct text ≡ offends fault → Reads construct text (refused fault)
+
+-- why the code stopped in a construct: for want of memory, which is free, or for this refusal
+abbrev pub StopsReading : Part → List ℕ → Stop → Type 0
+StopsReading construct text (stop.Refused fault) = Reads construct text (refused fault)
+StopsReading construct text stop.Memory = Unit {0}

@@ -17,6 +17,7 @@ mod numbers;
 mod operators;
 mod parts;
 mod quotes;
+mod reading;
 mod refusals;
 mod texts;
 mod tokens;

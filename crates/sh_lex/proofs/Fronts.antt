@@ -116,7 +116,16 @@ digits_end-other end byte rest text h d = digits_end-front end byte rest text h 
 
 pub ruleset digits = (digits_end-none, digits_end-digit, digits_end-other)
 
-pub ruleset spelled_digits = (leading_digits-none, leading_digits-front)
+-- at a digit, and at another byte
+pub leading_digits-digit : (byte : ℕ) (rest text : List ℕ) → unspliced text ≡ byte ∷ rest → is_digit byte ≡ true
+    → leading_digits text ≡ byte ∷ leading_digits rest
+leading_digits-digit byte rest text h d = leading_digits-front byte rest text h ∙ (simp d)
+
+pub leading_digits-other : (byte : ℕ) (rest text : List ℕ) → unspliced text ≡ byte ∷ rest → is_digit byte ≡ false
+    → leading_digits text ≡ []
+leading_digits-other byte rest text h d = leading_digits-front byte rest text h ∙ (simp d)
+
+pub ruleset spelled_digits = (leading_digits-none, leading_digits-digit, leading_digits-other)
 
 -- at a blank, and at another byte
 pub behind_blanks-blank : (byte : ℕ) (rest text : List ℕ) → unspliced text ≡ byte ∷ rest → is_blank byte ≡ true

@@ -2,3 +2,4 @@ pub mod Fronts
 pub mod Shorter
 pub mod Stacks
 pub mod Readings
+pub mod Scripts

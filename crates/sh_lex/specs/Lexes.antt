@@ -1,5 +1,5 @@
 -- The tokens of a text (XCU 2.3), or its refusal. The code is one scan with a stack of open constructs.
-use Rattle.std.specs.Prelude.{◌≡◌, ℕ, false, ◌-◌, ◌<◌, ◌≤◌, List, [], ◌∷◌, length, drop, codes}
+use Rattle.std.specs.Prelude.{◌≡◌, ℕ, false, ◌-◌, ◌<◌, ◌≤◌, ◌⊎◌, List, [], ◌∷◌, length, drop, codes}
 use Rattle.std.specs.declared.result.Result.{Result}
 use Rattle.std.specs.declared.result.Result.TheVariants.{Ok, Err}
 use Rattle.std.specs.declared.option.Option.TheVariants.{None}
@@ -101,3 +101,19 @@ pub record IsRefused (text : List ℕ) (refusal : Static) : Type 0 where
 abbrev pub Offence : List ℕ → Static → Type 0
 Offence text static.ScriptTooLong = MAX_SCRIPT < length text
 Offence text refusal = IsRefused text refusal
+
+-- the text is lexed to these tokens, to no others, and isn't refused
+pub record HasTokens (text : List ℕ) (tokens : List Token) : Type 0 where
+  pub lexed : Lexes text tokens
+  pub only : (others : List Token) → Lexes text others → others ≡ tokens
+  pub not_refused : (refusal : Static) → Offence text refusal → ⊥
+
+-- the text is refused so, not otherwise, and has no tokens
+pub record HasRefusal (text : List ℕ) (refusal : Static) : Type 0 where
+  pub met : Offence text refusal
+  pub only : (other : Static) → Offence text other → other ≡ refusal
+  pub not_lexed : (tokens : List Token) → Lexes text tokens → ⊥
+
+-- every text has exactly one list of tokens or exactly one refusal, and not both
+abbrev pub HasOneReading : List ℕ → Type 0
+HasOneReading text = ((tokens : List Token) × HasTokens text tokens) ⊎ ((refusal : Static) × HasRefusal text refusal)

@@ -11,3 +11,4 @@ pub mod Commands
 pub mod Shrinking
 pub mod Reads
 pub mod Lexes
+pub mod Lexing

@@ -23,6 +23,6 @@ mod texts;
 mod tokens;
 mod words;
 
-pub use lexing::MAX_SCRIPT;
+pub use lexing::{MAX_SCRIPT, lex};
 pub use refusals::{LexRefusal, Static};
 pub use tokens::{Op, Token, TokenKind};

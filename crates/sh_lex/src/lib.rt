@@ -12,6 +12,7 @@ mod arithmetic;
 mod braces;
 mod bytes;
 mod dollars;
+pub mod laws;
 mod lexing;
 mod numbers;
 mod operators;

@@ -140,7 +140,7 @@ word_at-further nest opened at byte rest =
 word_further : (text : List ℕ) → BeginsWord text → GoesFurther (act one_word text)
 word_further text (byte, (rest, (begins, in_word))) =
     let further : GoesFurther (word_at (record { levels = 0; in_braces = false }) None spot.Begin byte rest)
-            = word_at-further (record { levels = 0; in_braces = false }) None spot.Begin byte rest in
+    = word_at-further (record { levels = 0; in_braces = false }) None spot.Begin byte rest in
     simp (begins, in_word) further
 
 -- a word has a byte, so it leaves less

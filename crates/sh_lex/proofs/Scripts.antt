@@ -92,12 +92,12 @@ module _ {total : ℕ} where
   Tokens-same {text = text} {other = other} (takes_word {rest = rest} e reads more) second =
       let found = subst (λ f. TokensAt total text f other) e (tokens_at second) in
       let behind : FollowsWord total text (past rest) other
-              = subst (λ o. FollowsWord total text o other) (sym (Reads-same reads found.1.0)) found.1.1 in
+      = subst (λ o. FollowsWord total text o other) (sym (Reads-same reads found.1.0)) found.1.1 in
       ap (λ end. after_token (token_between total kind.Word text rest) end) (Tokens-same more behind.1.0) ∙ sym behind.1.1
   Tokens-same {text = text} {other = other} (refused_word {fault = fault} e reads) second =
       let found = subst (λ f. TokensAt total text f other) e (tokens_at second) in
       let behind : FollowsWord total text (refused fault) other
-              = subst (λ o. FollowsWord total text o other) (sym (Reads-same reads found.1.0)) found.1.1 in
+      = subst (λ o. FollowsWord total text o other) (sym (Reads-same reads found.1.0)) found.1.1 in
       sym behind
   Tokens-same {text = text} {other = other} (refused_token e) second =
       sym (subst (λ f. TokensAt total text f other) e (tokens_at second))
@@ -162,7 +162,8 @@ module _ (text : List ℕ) where
   has_tokens tokens short reads = record {
     lexed = record { short = short; read = reads };
     only = λ others l. let both : Ok others ≡ Ok tokens = Tokens-same l.read reads in cc;
-    not_refused = λ refusal o. not_both tokens refusal (record { short = short; read = reads }) o }
+    not_refused = λ refusal o. not_both tokens refusal (record { short = short; read = reads }) o;
+  }
 
   offence_told : (fault : Fault) → IsRefused text (told text fault) → Offence text (told text fault)
   offence_told (fault.UnclosedQuote left) r = r
@@ -182,11 +183,12 @@ module _ (text : List ℕ) where
       → HasRefusal text (told text fault)
   has_refusal fault short met =
       let offence : Offence text (told text fault)
-              = offence_told fault (record { short = short; fault = fault; met = met; as_told = refl }) in
+      = offence_told fault (record { short = short; fault = fault; met = met; as_told = refl }) in
       record {
         met = offence;
         only = only_told fault short met;
-        not_lexed = λ tokens l. not_both tokens (told text fault) l offence }
+        not_lexed = λ tokens l. not_both tokens (told text fault) l offence;
+      }
 
   only_long : MAX_SCRIPT < length text → (other : Static) → Offence text other → other ≡ static.ScriptTooLong
   only_long long static.ScriptTooLong o = refl
@@ -196,7 +198,8 @@ module _ (text : List ℕ) where
   too_long long = record {
     met = long;
     only = only_long long;
-    not_lexed = λ tokens l. absurd (omega (arith, l.short)) }
+    not_lexed = λ tokens l. absurd (omega (arith, l.short));
+  }
 
   one_result : length text ≤ MAX_SCRIPT → (end : Result (List Token) Fault) → Tokens (length text) text end → HasOneReading text
   one_result short (Ok tokens) reads = inl (tokens, has_tokens tokens short reads)
@@ -205,5 +208,6 @@ module _ (text : List ℕ) where
   pub one_reading : HasOneReading text
   one_reading =
       elim (cases_lt MAX_SCRIPT (length text)) [
-        inl long ↦ inr (static.ScriptTooLong, too_long long)
-      | inr short ↦ let found = Tokens-some (length text) text in one_result short found.0 found.1 ]
+        | inl long ↦ inr (static.ScriptTooLong, too_long long)
+        | inr short ↦ let found = Tokens-some (length text) text in one_result short found.0 found.1
+      ]

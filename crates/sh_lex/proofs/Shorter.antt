@@ -193,7 +193,7 @@ module _ (nest : Nest) (left : ℕ) (count : ℕ) where
       let shorter : length rest < count = omega arith in
       let inside : length (unspliced rest) < count = omega (arith, length-unspliced rest) in
       Shrinks-if count (byte == 41) _ _ (closing-Shrinks rest (unspliced rest) shorter inside)
-          (expression-Shrinks (part.Arithmetic nest left) byte rest shorter)
+      (expression-Shrinks (part.Arithmetic nest left) byte rest shorter)
 
   parentheses-Shrinks : (text : List ℕ) → length text ≤ count → Shrinks count (parentheses_at nest left text)
   parentheses-Shrinks [] h = tt
@@ -222,8 +222,8 @@ length-digits_end end [] count h k = h
 length-digits_end end (a ∷ []) count h k = digits_end_if (is_digit a) end [] count h (omega arith)
 length-digits_end end (a ∷ b ∷ text) count h k =
     digits_end_pair end a b text count ((a == BACKSLASH) && (b == NEWLINE)) refl
-        (length-digits_end end text count h (omega arith))
-        (length-digits_end (b ∷ text) (b ∷ text) count (omega arith) (omega arith)) h
+    (length-digits_end end text count h (omega arith))
+    (length-digits_end (b ∷ text) (b ∷ text) count (omega arith) (omega arith)) h
 
 -- what begins at a text, whose first byte is `byte`
 module _ (text : List ℕ) (byte : ℕ) (rest : List ℕ) (begins : unspliced text ≡ byte ∷ rest) where
@@ -258,14 +258,14 @@ module _ (text : List ℕ) (byte : ℕ) (rest : List ℕ) (begins : unspliced te
   delimiter-LeavesLess : LeavesLess text (delimiter byte rest)
   delimiter-LeavesLess =
       let and : LeavesLess text (and_at (length rest + 1) (unspliced rest))
-              = and-LeavesLess (length rest + 1) (unspliced rest) front_shorter in
+      = and-LeavesLess (length rest + 1) (unspliced rest) front_shorter in
       let pipe : LeavesLess text (pipe_at rest (unspliced rest)) = pipe-LeavesLess (unspliced rest) front_shorter in
       let semi : LeavesLess text (semi_at (length rest + 1) rest (unspliced rest))
-              = semi-LeavesLess (length rest + 1) (unspliced rest) in
+      = semi-LeavesLess (length rest + 1) (unspliced rest) in
       let less : LeavesLess text (less_at (length rest + 1) rest (unspliced rest))
-              = less-LeavesLess (length rest + 1) (unspliced rest) in
+      = less-LeavesLess (length rest + 1) (unspliced rest) in
       let great : LeavesLess text (great_at (length rest + 1) rest (unspliced rest))
-              = great-LeavesLess (length rest + 1) (unspliced rest) front_shorter in
+      = great-LeavesLess (length rest + 1) (unspliced rest) front_shorter in
       search (LeavesLess-choice, rest_shorter, and, pipe, semi, less, great, rules)
 
   module _ (in_word : ends_word byte ≡ false) where
@@ -281,10 +281,10 @@ module _ (text : List ℕ) (byte : ℕ) (rest : List ℕ) (begins : unspliced te
     digit-LeavesLess : LeavesLess text (after_digit byte rest)
     digit-LeavesLess =
         number-LeavesLess (length rest + 1) (length (digits_end rest rest) == length rest) (digits_end rest rest)
-            (unspliced (digits_end rest rest))
-            (let within : length (digits_end rest rest) ≤ length rest
-                    = length-digits_end rest rest (length rest) (omega arith) (omega arith) in
-                omega (arith, within, rest_shorter))
+        (unspliced (digits_end rest rest))
+        (let within : length (digits_end rest rest) ≤ length rest
+        = length-digits_end rest rest (length rest) (omega arith) (omega arith) in
+        omega (arith, within, rest_shorter))
 
     other-LeavesLess : LeavesLess text
         (if byte == 35 then gap (behind_comment rest) else if is_digit byte then after_digit byte rest else word)
@@ -297,8 +297,8 @@ module _ (text : List ℕ) (byte : ℕ) (rest : List ℕ) (begins : unspliced te
   front-LeavesLess : LeavesLess text (lexeme_at (byte ∷ rest))
   front-LeavesLess =
       LeavesLess-if text (ends_word byte) (delimiter byte rest)
-          (if byte == 35 then gap (behind_comment rest) else if is_digit byte then after_digit byte rest else word)
-          (λ _. delimiter-LeavesLess) other-LeavesLess
+      (if byte == 35 then gap (behind_comment rest) else if is_digit byte then after_digit byte rest else word)
+      (λ _. delimiter-LeavesLess) other-LeavesLess
 
 found_at : (text front : List ℕ) → unspliced text ≡ front → LeavesLess text (lexeme_at front)
 found_at text [] e = tt

@@ -52,15 +52,15 @@ AllGoOn-none (outer ∷ «open») end h = absurd (omega arith)
 pub goes-less : (construct next : Part) (text rest : List ℕ) → goes next rest ≡ act construct text → length rest < length text
 goes-less construct next text rest e =
     let less : Shrinks (length text) (goes next rest)
-            = subst (λ a. Shrinks (length text) a) (sym e) (act-Shrinks construct text) in less
+    = subst (λ a. Shrinks (length text) a) (sym e) (act-Shrinks construct text) in less
 
 pub enters-less : (construct inner outer : Part) (text rest : List ℕ) → enters inner outer rest ≡ act construct text
     → length rest < length text
 enters-less construct inner outer text rest e =
     let less : Shrinks (length text) (enters inner outer rest)
-            = subst (λ a. Shrinks (length text) a) (sym e) (act-Shrinks construct text) in less
+    = subst (λ a. Shrinks (length text) a) (sym e) (act-Shrinks construct text) in less
 
 pub ends-less : (construct : Part) (text rest : List ℕ) → ends rest ≡ act construct text → length rest ≤ length text
 ends-less construct text rest e =
     let less : Shrinks (length text) (ends rest)
-            = subst (λ a. Shrinks (length text) a) (sym e) (act-Shrinks construct text) in less
+    = subst (λ a. Shrinks (length text) a) (sym e) (act-Shrinks construct text) in less

@@ -51,11 +51,11 @@ abbrev pub word_at : Nest → Option ℕ → Spot → ℕ → List ℕ → Act
 word_at nest opened at byte rest =
     if byte == QUOTE then single_quotes (length rest + 1) (part.Commands nest opened (spot_past at)) (behind_quote rest)
     else if byte == DOUBLE_QUOTE then
-        enters (part.DoubleQuotes nest (length rest + 1)) (part.Commands nest opened (spot_past at)) rest
+    enters (part.DoubleQuotes nest (length rest + 1)) (part.Commands nest opened (spot_past at)) rest
     else if byte == BACKSLASH then goes (part.Commands nest opened (spot_past at)) (drop 1 rest)
     else if byte == BACKQUOTE then offends (fault.Spelled spelling.Backquote (length rest + 1))
     else if byte == DOLLAR then
-        after_dollar nest false (length rest + 1) (part.Commands nest opened (spot_past at)) rest
+    after_dollar nest false (length rest + 1) (part.Commands nest opened (spot_past at)) rest
     else if (byte == TILDE) && is_tilde_spot at then offends (fault.Spelled spelling.Tilde (length rest + 1))
     else goes (part.Commands nest opened (spot_behind at byte)) rest
 

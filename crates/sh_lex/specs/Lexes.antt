@@ -42,21 +42,21 @@ after_token first (Err fault) = Err fault
 pub data Tokens (total : ℕ) : List ℕ → Result (List Token) Fault → Type 0 where
   no_token : {text : List ℕ} → lexeme text ≡ nothing → Tokens total text (Ok [])
   skips : {text rest : List ℕ} {end : Result (List Token) Fault}
-    → lexeme text ≡ gap rest → Tokens total rest end → Tokens total text end
+      → lexeme text ≡ gap rest → Tokens total rest end → Tokens total text end
   opens : {text rest : List ℕ} {end : Result (List Token) Fault}
-    → lexeme text ≡ open_parenthesis rest → Tokens total rest end
-    → Tokens total text (after_token (token_between total (kind.Op op.Open) text rest) end)
+      → lexeme text ≡ open_parenthesis rest → Tokens total rest end
+      → Tokens total text (after_token (token_between total (kind.Op op.Open) text rest) end)
   closes : {text rest : List ℕ} {end : Result (List Token) Fault}
-    → lexeme text ≡ close_parenthesis rest → Tokens total rest end
-    → Tokens total text (after_token (token_between total (kind.Op op.Close) text rest) end)
+      → lexeme text ≡ close_parenthesis rest → Tokens total rest end
+      → Tokens total text (after_token (token_between total (kind.Op op.Close) text rest) end)
   takes : {text rest : List ℕ} {kind : TokenKind} {end : Result (List Token) Fault}
-    → lexeme text ≡ token kind rest → Tokens total rest end
-    → Tokens total text (after_token (token_between total kind text rest) end)
+      → lexeme text ≡ token kind rest → Tokens total rest end
+      → Tokens total text (after_token (token_between total kind text rest) end)
   takes_word : {text rest : List ℕ} {end : Result (List Token) Fault}
-    → lexeme text ≡ word → Reads one_word text (past rest) → Tokens total rest end
-    → Tokens total text (after_token (token_between total kind.Word text rest) end)
+      → lexeme text ≡ word → Reads one_word text (past rest) → Tokens total rest end
+      → Tokens total text (after_token (token_between total kind.Word text rest) end)
   refused_word : {text : List ℕ} {fault : Fault}
-    → lexeme text ≡ word → Reads one_word text (refused fault) → Tokens total text (Err fault)
+      → lexeme text ≡ word → Reads one_word text (refused fault) → Tokens total text (Err fault)
   refused_token : {text : List ℕ} {fault : Fault} → lexeme text ≡ offence fault → Tokens total text (Err fault)
 
 -- how a spelling that isn't in the profile is told

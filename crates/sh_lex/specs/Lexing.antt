@@ -22,7 +22,7 @@ Advances text (next.Gap rest) =
 Advances text (next.Token kind rest) =
     (length rest.now < length text)
     × ((total : ℕ) (end : Result (List Token) Fault) → Tokens total rest.now end
-        → Tokens total text (after_token (token_between total kind text rest.now) end))
+    → Tokens total text (after_token (token_between total kind text rest.now) end))
 
 -- why the scan stopped: for want of memory, which is free, or for this refusal
 abbrev pub StopsAt : ℕ → List ℕ → Stop → Type 0

@@ -45,13 +45,13 @@ abbrev pub number_at : ℕ → ℕ → Bool → List ℕ → List ℕ → Found
 number_at digit left single text [] = word
 number_at digit left single text (byte ∷ rest) =
     if byte == LESS then
-        (if fits_less digit single (unspliced rest) then token kind.IoNumber text else offence (fault.Number left))
+    (if fits_less digit single (unspliced rest) then token kind.IoNumber text else offence (fault.Number left))
     else if byte == GREAT then
-        (if fits_great digit single (unspliced rest) then token kind.IoNumber text else offence (fault.Number left))
+    (if fits_great digit single (unspliced rest) then token kind.IoNumber text else offence (fault.Number left))
     else word
 
 -- `rest` is what is left behind the first digit
 abbrev pub after_digit : ℕ → List ℕ → Found
 after_digit digit rest =
     number_at digit (length rest + 1) (length (digits_end rest rest) == length rest)
-        (digits_end rest rest) (unspliced (digits_end rest rest))
+    (digits_end rest rest) (unspliced (digits_end rest rest))

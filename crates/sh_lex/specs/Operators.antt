@@ -33,8 +33,8 @@ abbrev pub less_at : ℕ → List ℕ → List ℕ → Found
 less_at left text [] = token (kind.Op op.Less) text
 less_at left text (byte ∷ rest) =
     if byte == LESS then
-        (if begins_with DASH (unspliced rest) then offence (fault.Spelled spelling.DoubleLessDash left)
-        else offence (fault.Spelled spelling.DoubleLess left))
+    (if begins_with DASH (unspliced rest) then offence (fault.Spelled spelling.DoubleLessDash left)
+    else offence (fault.Spelled spelling.DoubleLess left))
     else if byte == AND then offence (fault.Spelled spelling.LessAnd left)
     else if byte == GREAT then offence (fault.Spelled spelling.LessGreat left)
     else token (kind.Op op.Less) text
@@ -72,8 +72,8 @@ great_at left text (byte ∷ rest) =
     if byte == GREAT then token (kind.Op op.DGreat) rest
     else if byte == PIPE then offence (fault.Spelled spelling.GreatPipe left)
     else if byte == AND then
-        (if is_target (behind_blanks rest) then token (kind.Op op.GreatAnd) rest
-        else offence (fault.Spelled spelling.GreatAnd left))
+    (if is_target (behind_blanks rest) then token (kind.Op op.GreatAnd) rest
+    else offence (fault.Spelled spelling.GreatAnd left))
     else token (kind.Op op.Great) text
 
 -- at a byte that ends a word: an operator, a newline or a blank

@@ -30,15 +30,15 @@ pub data Outcome : Type 0 where
 
 pub data Reads : Part → List ℕ → Outcome → Type 0 where
   goes_on : {construct next : Part} {text rest : List ℕ} {end : Outcome}
-    → act construct text ≡ goes next rest → Reads next rest end → Reads construct text end
+      → act construct text ≡ goes next rest → Reads next rest end → Reads construct text end
   reads_inner : {construct inner outer : Part} {text rest after : List ℕ} {end : Outcome}
-    → act construct text ≡ enters inner outer rest → Reads inner rest (past after) → Reads outer after end
-    → Reads construct text end
+      → act construct text ≡ enters inner outer rest → Reads inner rest (past after) → Reads outer after end
+      → Reads construct text end
   refused_inside : {construct inner outer : Part} {text rest : List ℕ} {fault : Fault}
-    → act construct text ≡ enters inner outer rest → Reads inner rest (refused fault) → Reads construct text (refused fault)
+      → act construct text ≡ enters inner outer rest → Reads inner rest (refused fault) → Reads construct text (refused fault)
   has_ended : {construct : Part} {text rest : List ℕ} → act construct text ≡ ends rest → Reads construct text (past rest)
   offended : {construct : Part} {text : List ℕ} {fault : Fault}
-    → act construct text ≡ offends fault → Reads construct text (refused fault)
+      → act construct text ≡ offends fault → Reads construct text (refused fault)
 
 -- why the code stopped in a construct: for want of memory, which is free, or for this refusal
 abbrev pub StopsReading : Part → List ℕ → Stop → Type 0

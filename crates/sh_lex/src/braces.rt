@@ -5,8 +5,8 @@ ghost use Rattle.sh_lex.specs.Braces.{quote_in_braces, backslash_in_braces, brac
 
 use crate::acts::Step;
 use crate::bytes::{
-    BACKQUOTE, BACKSLASH, CLOSE_BRACE, COLON, DASH, DOLLAR, DOUBLE_QUOTE, EQUALS, HASH, PERCENT, PLUS, QUESTION, QUOTE,
-    TILDE, is_digit, is_name_byte, is_name_start,
+    BACKQUOTE, BACKSLASH, CLOSE_BRACE, COLON, DASH, DOLLAR, DOUBLE_QUOTE, EQUALS, HASH, PERCENT,
+    PLUS, QUESTION, QUOTE, TILDE, is_digit, is_name_byte, is_name_start,
 };
 use crate::dollars::after_dollar;
 use crate::parts::{Fault, Head, Nest, Part, Spelling};
@@ -38,29 +38,57 @@ fn head_at(nest: Nest, left: usize, quoted: bool, head: Head, byte: u8, rest: &[
     ensures { act_of result ≡ head_at nest left quoted head byte rest.now }
 {
     match head {
-        Head::Start if is_name_start(byte) => Step::Goes(Part::BraceHead(nest, left, quoted, Head::Name), rest),
-        Head::Start if is_digit(byte) => Step::Goes(Part::BraceHead(nest, left, quoted, Head::Place), rest),
-        Head::Start if byte == QUESTION => Step::Goes(Part::BraceHead(nest, left, quoted, Head::Status), rest),
+        Head::Start if is_name_start(byte) => Step::Goes(
+            Part::BraceHead(nest, left, quoted, Head::Name),
+            rest,
+        ),
+        Head::Start if is_digit(byte) => Step::Goes(
+            Part::BraceHead(nest, left, quoted, Head::Place),
+            rest,
+        ),
+        Head::Start if byte == QUESTION => Step::Goes(
+            Part::BraceHead(nest, left, quoted, Head::Status),
+            rest,
+        ),
         Head::Start => braces_at(nest, left, quoted, byte, rest),
-        Head::Name if is_name_byte(byte) => Step::Goes(Part::BraceHead(nest, left, quoted, Head::Name), rest),
+        Head::Name if is_name_byte(byte) => Step::Goes(
+            Part::BraceHead(nest, left, quoted, Head::Name),
+            rest,
+        ),
         Head::Name => operator_at(nest, left, quoted, true, byte, rest),
-        Head::Place if is_digit(byte) => Step::Goes(Part::BraceHead(nest, left, quoted, Head::Place), rest),
+        Head::Place if is_digit(byte) => Step::Goes(
+            Part::BraceHead(nest, left, quoted, Head::Place),
+            rest,
+        ),
         Head::Place | Head::Status => operator_at(nest, left, quoted, false, byte, rest),
         Head::Colon(assigns) if is_operator(assigns, byte) => {
             Step::Goes(Part::BraceHead(nest, left, quoted, Head::Word), rest)
         }
         Head::Colon(_) => braces_at(nest, left, quoted, byte, rest),
-        Head::Trim(sign) if byte == sign => Step::Goes(Part::BraceHead(nest, left, quoted, Head::Word), rest),
+        Head::Trim(sign) if byte == sign => Step::Goes(
+            Part::BraceHead(nest, left, quoted, Head::Word),
+            rest,
+        ),
         Head::Trim(_) | Head::Word => word_at(nest, left, quoted, byte, rest),
     }
 }
 
 /// At the byte behind a parameter; `assigns`: it can be assigned.
-fn operator_at(nest: Nest, left: usize, quoted: bool, assigns: bool, byte: u8, rest: &[u8]) -> Step<'_>
+fn operator_at(
+    nest: Nest,
+    left: usize,
+    quoted: bool,
+    assigns: bool,
+    byte: u8,
+    rest: &[u8],
+) -> Step<'_>
     ensures { act_of result ≡ operator_at nest left quoted assigns byte rest.now }
 {
     if byte == COLON {
-        Step::Goes(Part::BraceHead(nest, left, quoted, Head::Colon(assigns)), rest)
+        Step::Goes(
+            Part::BraceHead(nest, left, quoted, Head::Colon(assigns)),
+            rest,
+        )
     } else if is_operator(assigns, byte) {
         Step::Goes(Part::BraceHead(nest, left, quoted, Head::Word), rest)
     } else if byte == PERCENT || byte == HASH {

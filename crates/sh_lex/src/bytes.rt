@@ -3,37 +3,69 @@ ghost use Rattle.std.specs.Prelude.{◌≡◌};
 ghost use Rattle.sh_lex.specs.Bytes.{is_blank, is_digit, is_name_byte, is_name_start, ends_word, is_quoted_escape, is_parameter};
 
 pub const TAB: u8 = b'\t';
+
 pub const NEWLINE: u8 = b'\n';
+
 pub const SPACE: u8 = b' ';
+
 pub const BANG: u8 = b'!';
+
 pub const DOUBLE_QUOTE: u8 = b'"';
+
 pub const HASH: u8 = b'#';
+
 pub const DOLLAR: u8 = b'$';
+
 pub const PERCENT: u8 = b'%';
+
 pub const AND: u8 = b'&';
+
 pub const QUOTE: u8 = b'\'';
+
 pub const OPEN: u8 = b'(';
+
 pub const CLOSE: u8 = b')';
+
 pub const STAR: u8 = b'*';
+
 pub const PLUS: u8 = b'+';
+
 pub const DASH: u8 = b'-';
+
 pub const ZERO: u8 = b'0';
+
 pub const ONE: u8 = b'1';
+
 pub const TWO: u8 = b'2';
+
 pub const NINE: u8 = b'9';
+
 pub const COLON: u8 = b':';
+
 pub const SEMI: u8 = b';';
+
 pub const LESS: u8 = b'<';
+
 pub const EQUALS: u8 = b'=';
+
 pub const GREAT: u8 = b'>';
+
 pub const QUESTION: u8 = b'?';
+
 pub const AT: u8 = b'@';
+
 pub const BACKSLASH: u8 = b'\\';
+
 pub const UNDERSCORE: u8 = b'_';
+
 pub const BACKQUOTE: u8 = b'`';
+
 pub const OPEN_BRACE: u8 = b'{';
+
 pub const PIPE: u8 = b'|';
+
 pub const CLOSE_BRACE: u8 = b'}';
+
 pub const TILDE: u8 = b'~';
 
 /// A space or a tab (XBD 3.74, in the C locale).

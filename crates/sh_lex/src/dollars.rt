@@ -5,7 +5,9 @@ ghost use Rattle.sh_lex.specs.Acts.{act_of};
 ghost use Rattle.sh_lex.specs.Dollars.{opening, substitution, parenthesis, after_dollar, in_name, deeper, inside_braces};
 
 use crate::acts::Step;
-use crate::bytes::{BANG, DASH, DOLLAR, OPEN, OPEN_BRACE, is_name_byte, is_name_start, is_parameter};
+use crate::bytes::{
+    BANG, DASH, DOLLAR, OPEN, OPEN_BRACE, is_name_byte, is_name_start, is_parameter,
+};
 use crate::parts::{Fault, Head, MAX_LEVELS, Nest, Part, Spelling, Spot};
 use crate::texts::front;
 
@@ -30,8 +32,7 @@ pub fn after_dollar(nest: Nest, quoted: bool, left: usize, outer: Part, text: &[
 
 /// Behind a `${`.
 fn braces(nest: Nest, quoted: bool, left: usize, outer: Part, rest: &[u8]) -> Step<'_>
-    ensures {
-        act_of result ≡ opening nest left (Part.BraceHead (inside_braces nest) left quoted Head.Start) outer rest.now }
+    ensures { act_of result ≡ opening nest left (Part.BraceHead (inside_braces nest) left quoted Head.Start) outer rest.now }
 {
     if nest.levels >= MAX_LEVELS {
         return Step::Offends(Fault::TooDeep(left));
@@ -40,7 +41,11 @@ fn braces(nest: Nest, quoted: bool, left: usize, outer: Part, rest: &[u8]) -> St
         levels: nest.levels + 1,
         in_braces: true,
     };
-    Step::Enters(Part::BraceHead(inside, left, quoted, Head::Start), outer, rest)
+    Step::Enters(
+        Part::BraceHead(inside, left, quoted, Head::Start),
+        outer,
+        rest,
+    )
 }
 
 /// Behind a `$(`, with what is left behind it.
@@ -73,7 +78,11 @@ fn substitution(nest: Nest, left: usize, outer: Part, rest: &[u8]) -> Step<'_>
     if nest.levels >= MAX_LEVELS {
         return Step::Offends(Fault::TooDeep(left));
     }
-    Step::Enters(Part::Commands(deeper(nest), Some(left), Spot::Between), outer, rest)
+    Step::Enters(
+        Part::Commands(deeper(nest), Some(left), Spot::Between),
+        outer,
+        rest,
+    )
 }
 
 /// One level deeper.

@@ -6,7 +6,8 @@ ghost use Rattle.sh_lex.specs.Acts.{found_of};
 
 use crate::acts::Lexeme;
 use crate::bytes::{
-    AND, CLOSE, DASH, GREAT, HASH, LESS, NEWLINE, ONE, OPEN, PIPE, SEMI, TWO, ends_word, is_blank, is_digit,
+    AND, CLOSE, DASH, GREAT, HASH, LESS, NEWLINE, ONE, OPEN, PIPE, SEMI, TWO, ends_word, is_blank,
+    is_digit,
 };
 use crate::numbers::{after_digit, begins_with, digits_end};
 use crate::parts::{Fault, Spelling};
@@ -88,7 +89,10 @@ fn less_at(left: usize, text: &[u8]) -> Lexeme<'_>
         return Lexeme::Token(TokenKind::Op(Op::Less), text);
     };
     match byte {
-        LESS if begins_with(DASH, rest) => Lexeme::Offence(Fault::Spelled(Spelling::DoubleLessDash, left)),
+        LESS if begins_with(DASH, rest) => Lexeme::Offence(Fault::Spelled(
+            Spelling::DoubleLessDash,
+            left,
+        )),
         LESS => Lexeme::Offence(Fault::Spelled(Spelling::DoubleLess, left)),
         AND => Lexeme::Offence(Fault::Spelled(Spelling::LessAnd, left)),
         GREAT => Lexeme::Offence(Fault::Spelled(Spelling::LessGreat, left)),

@@ -25,9 +25,8 @@ pub fn front(text: &[u8]) -> Option<(u8, &[u8])>
 #[inline]
 #[tactic(auto, unfolding(crate::specs::Texts::unspliced))]
 fn spliced(first: u8, after: &[u8]) -> Option<&[u8]>
-    ensures spliced {
-        MatchOption result (unspliced (first ∷ after.now) ≡ first ∷ after.now)
-            (λ behind. unspliced (first ∷ after.now) ≡ unspliced behind.now) }
+    ensures spliced { MatchOption result (unspliced (first ∷ after.now) ≡ first ∷ after.now)
+        (λ behind. unspliced (first ∷ after.now) ≡ unspliced behind.now) }
     ensures shorter { IfSome result (λ behind. length behind.now < length after.now) }
 {
     let (second, behind) = after.split_first()?;

@@ -7,7 +7,8 @@ ghost use Rattle.sh_lex.specs.Commands.{is_tilde_spot, spot_behind, spot_past, w
 
 use crate::acts::{Lexeme, Step};
 use crate::bytes::{
-    BACKQUOTE, BACKSLASH, COLON, DOLLAR, DOUBLE_QUOTE, EQUALS, QUOTE, TILDE, ends_word, is_name_byte, is_name_start,
+    BACKQUOTE, BACKSLASH, COLON, DOLLAR, DOUBLE_QUOTE, EQUALS, QUOTE, TILDE, ends_word,
+    is_name_byte, is_name_start,
 };
 use crate::dollars::after_dollar;
 use crate::operators::lexeme;
@@ -83,7 +84,10 @@ fn word_at(nest: Nest, opened: Option<usize>, spot: Spot, byte: u8, rest: &[u8])
         BACKSLASH => Step::Goes(past, behind_byte(rest)),
         BACKQUOTE => Step::Offends(Fault::Spelled(Spelling::Backquote, rest.len() + 1)),
         DOLLAR => after_dollar(nest, false, rest.len() + 1, past, rest),
-        TILDE if is_tilde_spot(spot) => Step::Offends(Fault::Spelled(Spelling::Tilde, rest.len() + 1)),
+        TILDE if is_tilde_spot(spot) => Step::Offends(Fault::Spelled(
+            Spelling::Tilde,
+            rest.len() + 1,
+        )),
         _ => Step::Goes(Part::Commands(nest, opened, spot_behind(spot, byte)), rest),
     }
 }

@@ -20,19 +20,19 @@ loop-byte-preserved c =
     let l = c.loop-byte in
     let digit : is_digit c.in-Some.byte ≡ true = cc in
     grown (leading_digits c.args.text.now) l.digits.items c.push.new.self.items (leading_digits l.rest.now)
-        (leading_digits c.in-Some.after.now) c.in-Some.byte l.invariant
-        (leading_digits-digit c.in-Some.byte c.in-Some.after.now l.rest.now c.in-Some.ensures.front digit)
-        c.in_ok-push.ensures.items
+    (leading_digits c.in-Some.after.now) c.in-Some.byte l.invariant
+    (leading_digits-digit c.in-Some.byte c.in-Some.after.now l.rest.now c.in-Some.ensures.front digit)
+    c.in_ok-push.ensures.items
 
 pub returns-then-not-is_digit : goal.returns-then-not-is_digit
 returns-then-not-is_digit c =
     let l = c.loop-byte in
     let other : is_digit c.in-Some.byte ≡ false = cc in
     ended (leading_digits c.args.text.now) l.digits.items (leading_digits l.rest.now) l.invariant
-        (leading_digits-other c.in-Some.byte c.in-Some.after.now l.rest.now c.in-Some.ensures.front other)
+    (leading_digits-other c.in-Some.byte c.in-Some.after.now l.rest.now c.in-Some.ensures.front other)
 
 pub returns : goal.returns
 returns c =
     let l = c.loop-byte in
     ended (leading_digits c.args.text.now) l.digits.items (leading_digits l.rest.now) l.invariant
-        (leading_digits-none l.rest.now c.in_default.ensures.front)
+    (leading_digits-none l.rest.now c.in_default.ensures.front)

@@ -9,5 +9,5 @@ returns-in-Ok-clause-tokens c = has_tokens c.args.text.now c.in-Ok.tokens.items 
 pub returns-in-Ok-told-clause-refusal : goal.returns-in-Ok-told-clause-refusal
 returns-in-Ok-told-clause-refusal c =
     subst (λ refusal. HasRefusal c.args.text.now refusal) (sym c.in-Ok-told.ensures)
-        (has_refusal c.args.text.now c.in-Err-Refused.fault (omega arith)
-            (rw c.in-Err-Refused.field-0-is at c.in-Err-Refused.ensures.refused))
+    (has_refusal c.args.text.now c.in-Err-Refused.fault (omega arith)
+    (rw c.in-Err-Refused.field-0-is at c.in-Err-Refused.ensures.refused))

@@ -1,5 +1,5 @@
 //! What a `$` begins (XCU 2.6).
-ghost use Rattle.std.specs.Prelude.{◌≡◌, ◌<◌};
+ghost use Rattle.std.specs.Prelude.{◌≡◌, ◌<◌, ◌≤◌, ◌↔◌, IsTrue};
 ghost use Rattle.sh_lex.specs.Texts.{unspliced};
 ghost use Rattle.sh_lex.specs.Acts.{act_of};
 ghost use Rattle.sh_lex.specs.Dollars.{opening, substitution, parenthesis, after_dollar, in_name, deeper, inside_braces};
@@ -34,7 +34,7 @@ pub fn after_dollar(nest: Nest, quoted: bool, left: usize, outer: Part, text: &[
 fn braces(nest: Nest, quoted: bool, left: usize, outer: Part, rest: &[u8]) -> Step<'_>
     ensures { act_of result ≡ opening nest left (Part.BraceHead (inside_braces nest) left quoted Head.Start) outer rest.now }
 {
-    if nest.levels >= MAX_LEVELS {
+    if is_full(nest) {
         return Step::Offends(Fault::TooDeep(left));
     }
     let inside = Nest {
@@ -62,7 +62,7 @@ fn parenthesis(nest: Nest, left: usize, outer: Part, inner: &[u8]) -> Step<'_>
 fn arithmetic(nest: Nest, left: usize, outer: Part, rest: &[u8]) -> Step<'_>
     ensures { act_of result ≡ opening nest left (Part.Arithmetic (deeper nest) left) outer rest.now }
 {
-    if nest.levels >= MAX_LEVELS {
+    if is_full(nest) {
         return Step::Offends(Fault::TooDeep(left));
     }
     Step::Enters(Part::Arithmetic(deeper(nest), left), outer, rest)
@@ -75,7 +75,7 @@ fn substitution(nest: Nest, left: usize, outer: Part, rest: &[u8]) -> Step<'_>
     if nest.in_braces {
         return Step::Offends(Fault::Spelled(Spelling::Substitution, left));
     }
-    if nest.levels >= MAX_LEVELS {
+    if is_full(nest) {
         return Step::Offends(Fault::TooDeep(left));
     }
     Step::Enters(
@@ -83,6 +83,13 @@ fn substitution(nest: Nest, left: usize, outer: Part, rest: &[u8]) -> Step<'_>
         outer,
         rest,
     )
+}
+
+/// Whether no further level may open.
+fn is_full(nest: Nest) -> bool
+    ensures { IsTrue result ↔ (MAX_LEVELS ≤ nest.levels) }
+{
+    nest.levels >= MAX_LEVELS
 }
 
 /// One level deeper.

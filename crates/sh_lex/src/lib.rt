@@ -20,6 +20,8 @@ mod parts;
 mod quotes;
 mod reading;
 mod refusals;
+#[cfg(test)]
+mod tests;
 mod texts;
 mod tokens;
 mod words;

@@ -1,4 +1,5 @@
 pub mod Fronts
+pub mod Shrinking
 pub mod Shorter
 pub mod Stacks
 pub mod Readings

@@ -1,21 +1,18 @@
 -- A construct at a text has one end or one refusal.
-use Rattle.std.proofs.Common.{◌≡◌, ℕ, zero, suc, Bool, true, false, Option, None, Some, List, [], ◌∷◌, ◌==◌, ◌&&◌, ◌+◌, ◌<◌, ◌≤◌, if◌then◌else◌, length, drop, refl, sym, ◌∙◌, ap, subst, arith, rules}
-use Rattle.sh_lex.specs.Bytes.{ends_word, is_name_start, is_parameter}
-use Rattle.sh_lex.specs.Texts.{unspliced, behind_quote}
+use Rattle.std.proofs.Common.{◌≡◌, ℕ, zero, suc, Bool, true, false, Option, None, Some, List, [], ◌∷◌, ◌<◌, ◌≤◌, if◌then◌else◌, length, refl, sym, subst, arith, rules}
 use Rattle.sh_lex.specs.Acts.{Act, goes, enters, ends, offends}
-use Rattle.sh_lex.specs.Shrinking.{Shrinks, BeginsWord}
-use Rattle.sh_lex.specs.Dollars.{opening, substitution, parenthesis, dollar_at, after_dollar}
+use Rattle.sh_lex.proofs.Shrinking.{Shrinks, BeginsWord}
+use Rattle.sh_lex.specs.Dollars.{opening, substitution, parenthesis, dollar_at}
 use Rattle.sh_lex.specs.Braces.{single_quotes}
 use Rattle.sh_lex.specs.Commands.{word_at, in_word}
 use Rattle.sh_lex.specs.Reads.{act, Outcome, past, refused, Reads, goes_on, reads_inner, refused_inside, has_ended, offended}
 use Rattle.sh_lex.specs.Lexes.{one_word}
-use Rattle.sh_lex.proofs.Shorter.{act-Shrinks, length-unspliced}
+use Rattle.sh_lex.proofs.Shorter.{act-Shrinks}
 use Rattle.sh_lex.proofs.Stacks.{GoesOn, goes-less, enters-less, ends-less}
 use Rattle.sh_lex.specs.declared.parts.Nest.{Nest}
 use Rattle.sh_lex.specs.declared.parts.Part.{Part}
 use Rattle.sh_lex.specs.declared.parts.Spot.{Spot}
 use Rattle.sh_lex.specs.declared.parts.Spot.TheVariants as spot
-use Rattle.sh_lex.specs.declared.parts.Fault.{Fault}
 
 -- at most so many bytes are left
 abbrev pub Leaves : ℕ → Outcome → Type 0

@@ -1,8 +1,8 @@
 -- A script has one list of tokens or one refusal.
-use Rattle.std.proofs.Common.{◌≡◌, ℕ, zero, suc, ◌<◌, ◌≤◌, List, [], ◌∷◌, ◌++◌, length, Result, Ok, Err, refl, sym, ◌∙◌, ap, subst, append_assoc, inl, inr, ◌⊎◌, arith}
+use Rattle.std.proofs.Common.{◌≡◌, ℕ, zero, suc, ◌<◌, ◌≤◌, List, [], ◌∷◌, ◌++◌, length, Result, Ok, Err, refl, sym, ◌∙◌, ap, subst, append_assoc, inl, inr, arith}
 use Rattle.std.proofs.lemmas.Bool.{cases_lt}
 use Rattle.sh_lex.specs.Acts.{Found, nothing, gap, open_parenthesis, close_parenthesis, token, word, offence}
-use Rattle.sh_lex.specs.Shrinking.{BeginsWord, LeavesLess}
+use Rattle.sh_lex.proofs.Shrinking.{BeginsWord, LeavesLess}
 use Rattle.sh_lex.specs.Operators.{lexeme}
 use Rattle.sh_lex.specs.Reads.{Outcome, past, refused, Reads, StopsReading}
 use Rattle.sh_lex.specs.Lexing.{StopsAt}
@@ -17,7 +17,6 @@ use Rattle.sh_lex.specs.declared.lexing.TheConstants.{MAX_SCRIPT}
 use Rattle.sh_lex.specs.declared.refusals.Static.{Static}
 use Rattle.sh_lex.specs.declared.refusals.Static.TheVariants as static
 use Rattle.sh_lex.specs.declared.tokens.Token.{Token}
-use Rattle.sh_lex.specs.declared.tokens.TokenKind.{TokenKind}
 use Rattle.sh_lex.specs.declared.tokens.TokenKind.TheVariants as kind
 use Rattle.sh_lex.specs.declared.tokens.Op.TheVariants as op
 

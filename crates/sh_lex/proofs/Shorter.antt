@@ -1,17 +1,17 @@
 -- A step never gives back more text than it was given.
-use Rattle.std.proofs.Common.{◌≡◌, ℕ, Bool, true, false, not, Option, None, Some, ◌<◌, ◌≤◌, ◌+◌, List, [], ◌∷◌, ◌==◌, ◌&&◌, ◌||◌, if◌then◌else◌, length, drop, refl, sym, ◌∙◌, ap, subst, arith, rules, length-drop}
-use Rattle.sh_lex.specs.Bytes.{is_digit, is_blank, ends_word, is_name_start, is_parameter, is_name_byte, is_quoted_escape}
+use Rattle.std.proofs.Common.{◌≡◌, ℕ, Bool, true, false, not, Option, None, Some, ◌<◌, ◌≤◌, ◌+◌, List, [], ◌∷◌, ◌==◌, ◌&&◌, if◌then◌else◌, length, drop, refl, ap, arith, rules, length-drop}
+use Rattle.sh_lex.specs.Bytes.{is_digit, ends_word}
 use Rattle.sh_lex.specs.Texts.{unspliced, behind_quote, behind_comment, behind_backslash}
-use Rattle.sh_lex.specs.Acts.{Act, goes, enters, ends, offends, Found, nothing, gap, open_parenthesis, close_parenthesis, token, word, offence}
-use Rattle.sh_lex.specs.Numbers.{digits_end, number_at, after_digit, fits_less, fits_great}
+use Rattle.sh_lex.specs.Acts.{Act, Found, nothing, gap, open_parenthesis, close_parenthesis, token, word, offence}
+use Rattle.sh_lex.specs.Numbers.{digits_end, number_at, after_digit}
 use Rattle.sh_lex.specs.Operators.{and_at, pipe_at, semi_at, less_at, great_at, delimiter, lexeme_at, lexeme}
-use Rattle.sh_lex.specs.Dollars.{opening, substitution, parenthesis, dollar_at, after_dollar, name_at, in_name}
-use Rattle.sh_lex.specs.DoubleQuotes.{double_quotes_at, in_double_quotes}
-use Rattle.sh_lex.specs.Braces.{single_quotes, quote_in_braces, backslash_in_braces, braces_at, in_braces, braces_word_at, is_operator, operator_at, head_at, brace_head_at, in_brace_head}
-use Rattle.sh_lex.specs.Arithmetic.{expression_at, closing_at, arithmetic_at, in_arithmetic, parentheses_at, in_parentheses}
+use Rattle.sh_lex.specs.Dollars.{opening, substitution, parenthesis, dollar_at, after_dollar, name_at}
+use Rattle.sh_lex.specs.DoubleQuotes.{double_quotes_at}
+use Rattle.sh_lex.specs.Braces.{single_quotes, quote_in_braces, backslash_in_braces, braces_at, braces_word_at, operator_at, head_at, brace_head_at}
+use Rattle.sh_lex.specs.Arithmetic.{expression_at, closing_at, arithmetic_at, parentheses_at}
 use Rattle.sh_lex.specs.Commands.{word_at, word_begin, between_at, word_end, in_word, in_commands}
 use Rattle.sh_lex.specs.Reads.{act}
-use Rattle.sh_lex.specs.Shrinking.{Shrinks, BeginsWord, LeavesLess}
+use Rattle.sh_lex.proofs.Shrinking.{Shrinks, BeginsWord, LeavesLess}
 use Rattle.sh_lex.specs.declared.bytes.TheConstants.{BACKSLASH, NEWLINE}
 use Rattle.sh_lex.specs.declared.parts.Nest.{Nest}
 use Rattle.sh_lex.specs.declared.parts.Part.{Part}
@@ -20,9 +20,6 @@ use Rattle.sh_lex.specs.declared.parts.Head.{Head}
 use Rattle.sh_lex.specs.declared.parts.Part.TheVariants as part
 use Rattle.sh_lex.specs.declared.parts.Spot.TheVariants as spot
 use Rattle.sh_lex.specs.declared.parts.Head.TheVariants as head
-use Rattle.sh_lex.specs.declared.parts.Fault.TheVariants as fault
-use Rattle.sh_lex.specs.declared.tokens.Op.TheVariants as op
-use Rattle.sh_lex.specs.declared.tokens.TokenKind.TheVariants as kind
 
 unspliced_pair : (a b : ℕ) (text : List ℕ) (test : Bool) → ((a == BACKSLASH) && (b == NEWLINE)) ≡ test
     → length (unspliced text) ≤ length text → length (unspliced (a ∷ b ∷ text)) ≤ length (a ∷ b ∷ text)

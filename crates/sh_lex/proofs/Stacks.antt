@@ -1,9 +1,9 @@
 -- The constructs that are open, the outermost first, and what becomes of them when the innermost has ended.
 use Rattle.std.proofs.Common.{◌≡◌, ℕ, List, [], ◌∷◌, ◌++◌, ◌<◌, ◌≤◌, length, refl, sym, subst, arith}
 use Rattle.sh_lex.specs.Acts.{goes, enters, ends}
-use Rattle.sh_lex.specs.Shrinking.{Shrinks}
+use Rattle.sh_lex.proofs.Shrinking.{Shrinks}
 use Rattle.sh_lex.proofs.Shorter.{act-Shrinks}
-use Rattle.sh_lex.specs.Reads.{act, Outcome, past, refused, Reads, goes_on, reads_inner, refused_inside, has_ended, offended}
+use Rattle.sh_lex.specs.Reads.{act, Outcome, past, refused, Reads, reads_inner, refused_inside}
 use Rattle.sh_lex.specs.declared.parts.Part.{Part}
 use Rattle.sh_lex.specs.declared.parts.Fault.{Fault}
 

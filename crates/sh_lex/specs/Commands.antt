@@ -1,6 +1,6 @@
 -- Words, and the tokens of a `$( )` (XCU 2.3, 2.6.3). The text in a `$( )` is lexed by the same rules and ends at its first
 -- unmatched `)`. `opened` is the number of bytes left where the `$( )` opened; with `None` the construct is the word of one token.
-use Rattle.std.specs.Prelude.{ℕ, Bool, true, false, List, [], ◌∷◌, ◌+◌, ◌==◌, ◌||◌, ◌&&◌, if◌then◌else◌, length, drop}
+use Rattle.std.specs.Prelude.{ℕ, Bool, true, false, List, [], ◌∷◌, ◌+◌, ◌==◌, ◌&&◌, if◌then◌else◌, length, drop}
 use Rattle.std.specs.declared.option.Option.{Option}
 use Rattle.std.specs.declared.option.Option.TheVariants.{None, Some}
 use Rattle.sh_lex.specs.Bytes.{is_name_start, is_name_byte, ends_word}
@@ -12,7 +12,6 @@ use Rattle.sh_lex.specs.Operators.{lexeme}
 use Rattle.sh_lex.specs.declared.bytes.TheConstants.{QUOTE, DOUBLE_QUOTE, BACKSLASH, BACKQUOTE, DOLLAR, TILDE, EQUALS, COLON}
 use Rattle.sh_lex.specs.declared.parts.Nest.{Nest}
 use Rattle.sh_lex.specs.declared.parts.Spot.{Spot}
-use Rattle.sh_lex.specs.declared.parts.Part.{Part}
 use Rattle.sh_lex.specs.declared.parts.Part.TheVariants as part
 use Rattle.sh_lex.specs.declared.parts.Spot.TheVariants as spot
 use Rattle.sh_lex.specs.declared.parts.Fault.TheVariants as fault

@@ -1,7 +1,7 @@
 -- What a `$` begins (XCU 2.6): a parameter, `${ }`, `$( )`, `$(( ))`, or nothing, and then it is ordinary.
 -- `rest` is what is left behind the `$`, `left` the number of bytes left at the `$`, and `outer` the construct that it stands in.
-use Rattle.std.specs.Prelude.{ℕ, Bool, true, false, List, [], ◌∷◌, ◌+◌, ◌==◌, nat_lt, if◌then◌else◌}
-use Rattle.std.specs.declared.option.Option.TheVariants.{None, Some}
+use Rattle.std.specs.Prelude.{ℕ, Bool, true, List, [], ◌∷◌, ◌+◌, ◌==◌, nat_lt, if◌then◌else◌}
+use Rattle.std.specs.declared.option.Option.TheVariants.{Some}
 use Rattle.sh_lex.specs.Bytes.{is_name_start, is_name_byte, is_parameter}
 use Rattle.sh_lex.specs.Texts.{unspliced}
 use Rattle.sh_lex.specs.Acts.{Act, goes, enters, ends, offends}

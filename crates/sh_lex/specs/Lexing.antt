@@ -1,5 +1,5 @@
 -- The code's own words: what one call of it has found at a place, and why it stopped.
-use Rattle.std.specs.Prelude.{◌≡◌, ℕ, ◌<◌, List, [], length}
+use Rattle.std.specs.Prelude.{ℕ, ◌<◌, List, [], length}
 use Rattle.std.specs.declared.result.Result.{Result}
 use Rattle.std.specs.declared.result.Result.TheVariants.{Ok, Err}
 use Rattle.sh_lex.specs.Lexes.{Tokens, token_between, after_token, HasRefusal}
@@ -8,7 +8,6 @@ use Rattle.sh_lex.specs.declared.lexing.Next.TheVariants as next
 use Rattle.sh_lex.specs.declared.reading.Stop.{Stop}
 use Rattle.sh_lex.specs.declared.reading.Stop.TheVariants as stop
 use Rattle.sh_lex.specs.declared.parts.Fault.{Fault}
-use Rattle.sh_lex.specs.declared.refusals.Static.{Static}
 use Rattle.sh_lex.specs.declared.refusals.LexRefusal.{LexRefusal}
 use Rattle.sh_lex.specs.declared.refusals.LexRefusal.TheVariants as lex
 use Rattle.sh_lex.specs.declared.tokens.Token.{Token}

@@ -8,7 +8,6 @@ pub mod Arithmetic
 pub mod Numbers
 pub mod Operators
 pub mod Commands
-pub mod Shrinking
 pub mod Reads
 pub mod Lexes
 pub mod Lexing

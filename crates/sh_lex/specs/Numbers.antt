@@ -1,10 +1,10 @@
 -- Digits directly before `<` or `>` are an IoNumber (XCU 2.10.1 rule 2). Where the operator is `<` it is exactly `0`, where it is
 -- `>`, `>>` or `>&` exactly `1` or `2` (own); a longer operator isn't in the profile itself.
-use Rattle.std.specs.Prelude.{ℕ, Bool, true, false, List, [], ◌∷◌, ◌+◌, ◌==◌, ◌||◌, ◌&&◌, if◌then◌else◌, length}
-use Rattle.sh_lex.specs.Bytes.{is_digit, is_blank, ends_word}
+use Rattle.std.specs.Prelude.{ℕ, Bool, false, List, [], ◌∷◌, ◌+◌, ◌==◌, ◌||◌, ◌&&◌, if◌then◌else◌, length}
+use Rattle.sh_lex.specs.Bytes.{is_digit}
 use Rattle.sh_lex.specs.Texts.{unspliced}
 use Rattle.sh_lex.specs.Acts.{Found, token, word, offence}
-use Rattle.sh_lex.specs.declared.bytes.TheConstants.{BACKSLASH, NEWLINE, LESS, GREAT, AND, PIPE, ZERO, ONE, TWO, HASH}
+use Rattle.sh_lex.specs.declared.bytes.TheConstants.{BACKSLASH, NEWLINE, LESS, GREAT, AND, PIPE, ZERO, ONE, TWO}
 use Rattle.sh_lex.specs.declared.tokens.TokenKind.TheVariants as kind
 use Rattle.sh_lex.specs.declared.parts.Fault.TheVariants as fault
 

@@ -1,6 +1,6 @@
 -- Operators (XCU 2.10.2, narrowed). Each is the longest that begins at its place (XCU 2.3 items 2 and 3); those that aren't in the
 -- profile are refused (own). `left` is the number of bytes left at the operator, `text` what is left behind its first byte.
-use Rattle.std.specs.Prelude.{ℕ, Bool, true, false, List, [], ◌∷◌, ◌+◌, ◌==◌, ◌||◌, ◌&&◌, if◌then◌else◌, length}
+use Rattle.std.specs.Prelude.{ℕ, Bool, true, List, [], ◌∷◌, ◌+◌, ◌==◌, ◌||◌, ◌&&◌, if◌then◌else◌, length}
 use Rattle.sh_lex.specs.Bytes.{is_digit, is_blank, ends_word}
 use Rattle.sh_lex.specs.Texts.{unspliced, behind_comment}
 use Rattle.sh_lex.specs.Numbers.{begins_with, digits_end, after_digit}

@@ -56,6 +56,14 @@ pub const AT: u8 = b'@';
 
 pub const BACKSLASH: u8 = b'\\';
 
+pub const UPPER_A: u8 = b'A';
+
+pub const UPPER_Z: u8 = b'Z';
+
+pub const LOWER_A: u8 = b'a';
+
+pub const LOWER_Z: u8 = b'z';
+
 pub const UNDERSCORE: u8 = b'_';
 
 pub const BACKQUOTE: u8 = b'`';
@@ -89,7 +97,9 @@ pub fn is_digit(byte: u8) -> bool
 pub fn is_name_start(byte: u8) -> bool
     ensures { result ≡ is_name_start byte }
 {
-    byte == UNDERSCORE || (b'A' <= byte && byte <= b'Z') || (b'a' <= byte && byte <= b'z')
+    byte == UNDERSCORE
+        || (UPPER_A <= byte && byte <= UPPER_Z)
+        || (LOWER_A <= byte && byte <= LOWER_Z)
 }
 
 /// A byte that goes on a name (XBD 3.235).

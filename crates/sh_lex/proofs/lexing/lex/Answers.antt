@@ -1,4 +1,4 @@
-use Rattle.std.proofs.Common.{◌≤◌, sym, subst, arith}
+use Rattle.std.proofs.Common.{sym, subst, arith}
 use Rattle.sh_lex.specs.Lexes.{HasRefusal}
 use Rattle.sh_lex.proofs.Scripts.{has_tokens, has_refusal}
 use Rattle.sh_lex.proofs.lexing.lex.Goals as goal

@@ -1,7 +1,6 @@
 use Rattle.std.proofs.Common.{sym}
 use Rattle.sh_lex.specs.Acts.{gap, open_parenthesis, close_parenthesis, token, word}
-use Rattle.sh_lex.specs.Lexes.{no_token, skips, opens, closes, takes, takes_word, refused_word, refused_token}
-use Rattle.sh_lex.specs.Lexing.{StopsAt}
+use Rattle.sh_lex.specs.Lexes.{no_token, skips, opens, closes, takes, takes_word, refused_token}
 use Rattle.sh_lex.proofs.Readings.{word-shorter}
 use Rattle.sh_lex.proofs.Scripts.{less_at, stops_in_word}
 use Rattle.sh_lex.proofs.lexing.next_token.Goals as goal

@@ -1,9 +1,7 @@
-use Rattle.std.proofs.Common.{◌≡◌, List, [], ◌++◌, Result, Ok, Err, length, refl, sym, ap, subst, arith}
+use Rattle.std.proofs.Common.{[], Ok, length, refl, subst}
 use Rattle.std.proofs.lemmas.List.{append-nil}
 use Rattle.sh_lex.specs.Lexes.{Tokens}
-use Rattle.sh_lex.proofs.Scripts.{after_tokens, after_tokens-last, stops_behind}
-use Rattle.sh_lex.specs.declared.tokens.Token.{Token}
-use Rattle.sh_lex.specs.declared.parts.Fault.{Fault}
+use Rattle.sh_lex.proofs.Scripts.{stops_behind}
 use Rattle.sh_lex.proofs.lexing.tokens_of.Goals as goal
 
 pub returns-in-Ok-End-clause-tokens : goal.returns-in-Ok-End-clause-tokens

@@ -1,4 +1,4 @@
-use Rattle.std.proofs.Common.{◌≡◌, ◌<◌, ◌≤◌, length, sym, subst, arith}
+use Rattle.std.proofs.Common.{◌<◌, ◌≤◌, length, sym, subst, arith}
 use Rattle.sh_lex.specs.Reads.{past, refused, goes_on, has_ended, offended}
 use Rattle.sh_lex.proofs.Stacks.{AllGoOn, AllGoOn-split, AllGoOn-join, AllGoOn-refused, AllGoOn-none, entered, goes-less, enters-less, ends-less}
 use Rattle.sh_lex.proofs.reading.past_construct.Goals as goal

@@ -1,5 +1,5 @@
 -- What is open goes on behind the construct that is being read, and all that is read is the first construct's.
-use Rattle.std.proofs.Common.{ℕ, ◌+◌, ◌*◌, length, vec_len}
+use Rattle.std.proofs.Common.{◌+◌, ◌*◌, length, vec_len}
 use Rattle.sh_lex.specs.Reads.{Outcome, Reads}
 use Rattle.sh_lex.proofs.Stacks.{AllGoOn}
 use Rattle.sh_lex.proofs.reading.past_construct.Given as goal

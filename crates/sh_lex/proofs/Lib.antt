@@ -1,0 +1,6 @@
+pub mod Fronts
+pub mod Shrinking
+pub mod Shorter
+pub mod Stacks
+pub mod Readings
+pub mod Scripts

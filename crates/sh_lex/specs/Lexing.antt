@@ -1,0 +1,34 @@
+-- The code's own words: what one call of it has found at a place, and why it stopped.
+use Rattle.std.specs.Prelude.{ℕ, ◌<◌, List, [], length}
+use Rattle.std.specs.declared.result.Result.{Result}
+use Rattle.std.specs.declared.result.Result.TheVariants.{Ok, Err}
+use Rattle.sh_lex.specs.Lexes.{Tokens, token_between, after_token, HasRefusal}
+use Rattle.sh_lex.specs.declared.lexing.Next.{Next}
+use Rattle.sh_lex.specs.declared.lexing.Next.TheVariants as next
+use Rattle.sh_lex.specs.declared.reading.Stop.{Stop}
+use Rattle.sh_lex.specs.declared.reading.Stop.TheVariants as stop
+use Rattle.sh_lex.specs.declared.parts.Fault.{Fault}
+use Rattle.sh_lex.specs.declared.refusals.LexRefusal.{LexRefusal}
+use Rattle.sh_lex.specs.declared.refusals.LexRefusal.TheVariants as lex
+use Rattle.sh_lex.specs.declared.tokens.Token.{Token}
+
+-- what begins at the text, and so how its tokens follow from those of what is left
+abbrev pub Advances : List ℕ → Next → Type 0
+Advances text next.End = (total : ℕ) → Tokens total text (Ok [])
+Advances text (next.Gap rest) =
+    (length rest.now < length text)
+    × ((total : ℕ) (end : Result (List Token) Fault) → Tokens total rest.now end → Tokens total text end)
+Advances text (next.Token kind rest) =
+    (length rest.now < length text)
+    × ((total : ℕ) (end : Result (List Token) Fault) → Tokens total rest.now end
+    → Tokens total text (after_token (token_between total kind text rest.now) end))
+
+-- why the scan stopped: for want of memory, which is free, or for this refusal
+abbrev pub StopsAt : ℕ → List ℕ → Stop → Type 0
+StopsAt total text (stop.Refused fault) = Tokens total text (Err fault)
+StopsAt total text stop.Memory = Unit {0}
+
+-- why there are no tokens: for want of memory, which is free, or for the text's refusal
+abbrev pub Refuses : List ℕ → LexRefusal → Type 0
+Refuses text (lex.Refused refusal) = HasRefusal text refusal
+Refuses text lex.Memory = Unit {0}

@@ -1,0 +1,13 @@
+pub mod Bytes
+pub mod Texts
+pub mod Acts
+pub mod Dollars
+pub mod DoubleQuotes
+pub mod Braces
+pub mod Arithmetic
+pub mod Numbers
+pub mod Operators
+pub mod Commands
+pub mod Reads
+pub mod Lexes
+pub mod Lexing

@@ -1,0 +1,114 @@
+//! What a `$` begins (XCU 2.6).
+ghost use Rattle.std.specs.Prelude.{◌≡◌, ◌<◌, ◌≤◌, ◌↔◌, IsTrue};
+ghost use Rattle.sh_lex.specs.Texts.{unspliced};
+ghost use Rattle.sh_lex.specs.Acts.{act_of};
+ghost use Rattle.sh_lex.specs.Dollars.{opening, substitution, parenthesis, after_dollar, in_name, deeper, inside_braces};
+
+use crate::acts::Step;
+use crate::bytes::{
+    BANG, DASH, DOLLAR, OPEN, OPEN_BRACE, is_name_byte, is_name_start, is_parameter,
+};
+use crate::parts::{Fault, Head, MAX_LEVELS, Nest, Part, Spelling, Spot};
+use crate::texts::front;
+
+/// Behind a `$`, at which `left` bytes are left, in the construct `outer`; `quoted`: in double quotes.
+pub fn after_dollar(nest: Nest, quoted: bool, left: usize, outer: Part, text: &[u8]) -> Step<'_>
+    ensures { act_of result ≡ after_dollar nest quoted left outer text.now }
+{
+    let Some((byte, rest)) = front(text) else {
+        return Step::Goes(outer, text);
+    };
+    match byte {
+        DOLLAR => Step::Offends(Fault::Spelled(Spelling::DollarDollar, left)),
+        BANG => Step::Offends(Fault::Spelled(Spelling::DollarBang, left)),
+        DASH => Step::Offends(Fault::Spelled(Spelling::DollarDash, left)),
+        OPEN_BRACE => braces(nest, quoted, left, outer, rest),
+        OPEN => parenthesis(nest, left, outer, rest),
+        _ if is_name_start(byte) => Step::Enters(Part::Name, outer, rest),
+        _ if is_parameter(byte) => Step::Goes(outer, rest),
+        _ => Step::Goes(outer, text),
+    }
+}
+
+/// Behind a `${`.
+fn braces(nest: Nest, quoted: bool, left: usize, outer: Part, rest: &[u8]) -> Step<'_>
+    ensures { act_of result ≡ opening nest left (Part.BraceHead (inside_braces nest) left quoted Head.Start) outer rest.now }
+{
+    if is_full(nest) {
+        return Step::Offends(Fault::TooDeep(left));
+    }
+    let inside = Nest {
+        levels: nest.levels + 1,
+        in_braces: true,
+    };
+    Step::Enters(
+        Part::BraceHead(inside, left, quoted, Head::Start),
+        outer,
+        rest,
+    )
+}
+
+/// Behind a `$(`, with what is left behind it.
+fn parenthesis(nest: Nest, left: usize, outer: Part, inner: &[u8]) -> Step<'_>
+    ensures { act_of result ≡ parenthesis nest left outer inner.now (unspliced inner.now) }
+{
+    match front(inner) {
+        Some((OPEN, rest)) => arithmetic(nest, left, outer, rest),
+        _ => substitution(nest, left, outer, inner),
+    }
+}
+
+/// Behind a `$((`.
+fn arithmetic(nest: Nest, left: usize, outer: Part, rest: &[u8]) -> Step<'_>
+    ensures { act_of result ≡ opening nest left (Part.Arithmetic (deeper nest) left) outer rest.now }
+{
+    if is_full(nest) {
+        return Step::Offends(Fault::TooDeep(left));
+    }
+    Step::Enters(Part::Arithmetic(deeper(nest), left), outer, rest)
+}
+
+/// Behind a `$(` that begins a command substitution.
+fn substitution(nest: Nest, left: usize, outer: Part, rest: &[u8]) -> Step<'_>
+    ensures { act_of result ≡ substitution nest left outer rest.now }
+{
+    if nest.in_braces {
+        return Step::Offends(Fault::Spelled(Spelling::Substitution, left));
+    }
+    if is_full(nest) {
+        return Step::Offends(Fault::TooDeep(left));
+    }
+    Step::Enters(
+        Part::Commands(deeper(nest), Some(left), Spot::Between),
+        outer,
+        rest,
+    )
+}
+
+/// Whether no further level may open.
+fn is_full(nest: Nest) -> bool
+    ensures { IsTrue result ↔ (MAX_LEVELS ≤ nest.levels) }
+{
+    nest.levels >= MAX_LEVELS
+}
+
+/// One level deeper.
+fn deeper(nest: Nest) -> Nest
+    requires { nest.levels < MAX_LEVELS }
+    ensures { result ≡ deeper nest }
+{
+    Nest {
+        levels: nest.levels + 1,
+        in_braces: nest.in_braces,
+    }
+}
+
+/// In the name of a `$name`.
+pub fn in_name(text: &[u8]) -> Step<'_>
+    ensures { act_of result ≡ in_name text.now }
+{
+    match front(text) {
+        Some((byte, rest)) if is_name_byte(byte) => Step::Goes(Part::Name, rest),
+        _ => Step::Ends(text),
+    }
+}

@@ -1,0 +1,12 @@
+//! Variables, and arithmetic expansion over them (XCU 2.5, 2.6.4).
+//!
+//! A name and a text are lists of bytes. Variables are a finite map from names to texts; a name that isn't in it is unset.
+//!
+//! `specs/Variables.antt` says which map an environment is.
+#![tactic(auto)]
+
+#[cfg(test)]
+mod tests;
+mod variables;
+
+pub use variables::Env;

@@ -1,1 +1,2 @@
 mod VariableLemmas
+mod ConstantLemmas

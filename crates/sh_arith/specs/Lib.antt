@@ -1,2 +1,4 @@
 pub mod Names
 pub mod Variables
+pub mod Operators
+pub mod Constants

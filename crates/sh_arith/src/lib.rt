@@ -5,8 +5,12 @@
 //! `specs/Variables.antt` says which map an environment is.
 #![tactic(auto)]
 
+mod constants;
+mod faults;
+mod operators;
 #[cfg(test)]
 mod tests;
 mod variables;
 
+pub use faults::ArithFault;
 pub use variables::Env;

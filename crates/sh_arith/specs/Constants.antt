@@ -1,5 +1,5 @@
 -- Constants (XCU 2.6.4: those of ISO C, decimal, octal and hexadecimal), and the numbers that variables hold.
-use Rattle.std.specs.Prelude.{◌≡◌, ℕ, ◌+◌, ◌-◌, ◌*◌, ◌==◌, ◌&&◌, ◌||◌, nat_le, nat_lt, Bool, true, false, List, [], ◌∷◌, Option, Some, None, option_map, if◌then◌else◌, ℤ, pos, ◌+ℤ◌, ◌-ℤ◌, Result, Ok, Err}
+use Rattle.std.specs.Prelude.{ℕ, ◌+◌, ◌-◌, ◌*◌, ◌==◌, ◌&&◌, ◌||◌, nat_le, nat_lt, Bool, true, false, List, [], ◌∷◌, Option, Some, None, option_map, if◌then◌else◌, ℤ, pos, ◌+ℤ◌, ◌-ℤ◌, Result, Err}
 use Rattle.std.specs.Option.{option_map_or}
 use Rattle.sh_arith.specs.declared.faults.ArithFault.{ArithFault}
 use Rattle.sh_arith.specs.declared.faults.ArithFault.TheVariants as fault

@@ -2,3 +2,4 @@ pub mod Names
 pub mod Variables
 pub mod Operators
 pub mod Constants
+pub mod Tokens

@@ -90,7 +90,7 @@ fn number(base: u64, digits: &[u8]) -> Option<u64>
 }
 
 /// The number that a word writes as a constant, at most the greatest of the type, or none where it writes none.
-fn constant(word: &[u8]) -> Option<u64>
+pub(crate) fn constant(word: &[u8]) -> Option<u64>
     ensures { result ≡ option_map (λ n. min n (2 ^ 64 - 1)) (constant word.now) }
 {
     match word.split_first() {

@@ -2,7 +2,8 @@
 //!
 //! A name and a text are lists of bytes. Variables are a finite map from names to texts; a name that isn't in it is unset.
 //!
-//! `specs/Variables.antt` says which map an environment is.
+//! `specs/Variables.antt` says which map an environment is, `specs/Tokens.antt` which tokens a text is made of,
+//! `specs/Constants.antt` which numbers words and texts write, and `specs/Operators.antt` what the operators compute.
 #![tactic(auto)]
 
 mod constants;
@@ -10,6 +11,7 @@ mod faults;
 mod operators;
 #[cfg(test)]
 mod tests;
+mod tokens;
 mod variables;
 
 pub use faults::ArithFault;

@@ -1,0 +1,3 @@
+mod VariableLemmas
+mod ConstantLemmas
+pub mod TokenLemmas

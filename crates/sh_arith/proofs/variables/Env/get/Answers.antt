@@ -1,0 +1,14 @@
+use Rattle.std.proofs.Common.{ap, sym, ◌∙◌}
+use Rattle.std.specs.FinMap as map
+use Rattle.sh_arith.specs.Names.{name_cmp}
+use Rattle.sh_arith.specs.Variables.{pairs}
+use Rattle.sh_arith.proofs.VariableLemmas.{get_variable}
+use Rattle.sh_arith.proofs.variables.Env.get.Goals as goal
+
+pub returns : goal.returns
+returns c =
+    let name = c.args.name.now in
+    c.value_of.ensures
+    ∙ ap (λ list. map.find name_cmp name (pairs list)) c.as_slice.ensures.value
+    ∙ sym (get_variable c.self.inside.variables.items name)
+    ∙ ap (λ variables. map.get variables name) c.self.view_is

@@ -1,0 +1,16 @@
+use Rattle.std.proofs.Common.{ap, ◌∙◌, not, rules}
+use Rattle.std.proofs.lemmas.Fn.{filter_same}
+use Rattle.std.specs.Ordering.{eq_by_cmp}
+use Rattle.std.specs.FinMap as map
+use Rattle.sh_arith.specs.Names.{name_cmp}
+use Rattle.sh_arith.specs.Variables.{variables_of}
+use Rattle.sh_arith.proofs.VariableLemmas.{drop_variable}
+use Rattle.sh_arith.proofs.variables.Env.unset.Goals as goal
+
+pub returns : goal.returns
+returns c =
+    let name = c.args.name.now in
+    let list = c.self.inside.variables.items in
+    ap variables_of (filter_same _ (λ variable. not (eq_by_cmp name_cmp name variable.name)) _ (λ x b f h. search rules) list _ c.retain.ensures.filtered)
+    ∙ drop_variable list name
+    ∙ ap (λ variables. map.remove variables name) c.self.view_is

@@ -1,0 +1,5 @@
+pub mod Names
+pub mod Variables
+pub mod Operators
+pub mod Constants
+pub mod Tokens

@@ -1,0 +1,18 @@
+//! Variables, and arithmetic expansion over them (XCU 2.5, 2.6.4).
+//!
+//! A name and a text are lists of bytes. Variables are a finite map from names to texts; a name that isn't in it is unset.
+//!
+//! `specs/Variables.antt` says which map an environment is, `specs/Tokens.antt` which tokens a text is made of,
+//! `specs/Constants.antt` which numbers words and texts write, and `specs/Operators.antt` what the operators compute.
+#![tactic(auto)]
+
+mod constants;
+mod faults;
+mod operators;
+#[cfg(test)]
+mod tests;
+mod tokens;
+mod variables;
+
+pub use faults::ArithFault;
+pub use variables::Env;

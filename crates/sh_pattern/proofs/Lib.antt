@@ -1,0 +1,2 @@
+mod FitLemmas
+pub mod ReadingLemmas

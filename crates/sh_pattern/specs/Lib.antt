@@ -1,0 +1,6 @@
+pub mod Marks
+pub mod Classes
+pub mod Brackets
+pub mod Reading
+pub mod Fits
+pub mod Walks

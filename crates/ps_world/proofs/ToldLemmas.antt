@@ -54,19 +54,23 @@ grew_by_whole old new text grew = ([], record { part = text; whole = sym (append
 
 -- a prefix of a front of the text is a prefix of the text
 pub grew_by_front : (old new : Option (List ℕ)) (front back : List ℕ) → GrewByPrefix old new front → GrewByPrefix old new (front ++ back)
-grew_by_front old new front back grew =
-    (grew.0 ++ back, record {
-      part = grew.1.part;
-      whole = ap (λ (text : List ℕ). text ++ back) grew.1.whole ∙ append_assoc grew.1.part grew.0 back;
-      grew = grew.1.grew;
-    })
+grew_by_front old new front back grew = (
+  grew.0 ++ back,
+  record {
+    part = grew.1.part;
+    whole = ap (λ (text : List ℕ). text ++ back) grew.1.whole ∙ append_assoc grew.1.part grew.0 back;
+    grew = grew.1.grew;
+  },
+)
 
 -- a front of the text, and then a prefix of what is behind it
 pub grew_by_more : (old mid new : Option (List ℕ)) (front back : List ℕ) → mid ≡ then_bytes old front → GrewByPrefix mid new back
     → GrewByPrefix old new (front ++ back)
-grew_by_more old mid new front back first grew =
-    (grew.0, record {
-      part = front ++ grew.1.part;
-      whole = ap (λ (text : List ℕ). front ++ text) grew.1.whole ∙ sym (append_assoc front grew.1.part grew.0);
-      grew = grew.1.grew ∙ ap (λ (told : Option (List ℕ)). then_bytes told grew.1.part) first ∙ then_bytes-append old front grew.1.part;
-    })
+grew_by_more old mid new front back first grew = (
+  grew.0,
+  record {
+    part = front ++ grew.1.part;
+    whole = ap (λ (text : List ℕ). front ++ text) grew.1.whole ∙ sym (append_assoc front grew.1.part grew.0);
+    grew = grew.1.grew ∙ ap (λ (told : Option (List ℕ)). then_bytes told grew.1.part) first ∙ then_bytes-append old front grew.1.part;
+  },
+)

@@ -3,3 +3,5 @@ pub mod Variables
 pub mod Operators
 pub mod Constants
 pub mod Tokens
+pub mod Trees
+pub mod Syntax

@@ -3,12 +3,14 @@
 //! A name and a text are lists of bytes. Variables are a finite map from names to texts; a name that isn't in it is unset.
 //!
 //! `specs/Variables.antt` says which map an environment is, `specs/Tokens.antt` which tokens a text is made of,
-//! `specs/Constants.antt` which numbers words and texts write, and `specs/Operators.antt` what the operators compute.
+//! `specs/Trees.antt` which expression tokens are, `specs/Constants.antt` which numbers words and texts write, and
+//! `specs/Operators.antt` what the operators compute.
 #![tactic(auto)]
 
 mod constants;
 mod faults;
 mod operators;
+mod syntax;
 #[cfg(test)]
 mod tests;
 mod tokens;

@@ -3,6 +3,7 @@
 use crate::Env;
 use crate::constants::variable_value;
 use crate::operators::{Operator, applied};
+use crate::syntax::is_expression;
 use crate::tokens::tokens;
 use std::test::Fail;
 
@@ -95,5 +96,49 @@ fn tokens_are_as_long_as_they_can_be(rt: HostRuntime) -> Result<(), Fail> {
     assert_eq!(rt; found.len(), 8);
     assert_eq!(rt; tokens(rt.alloc(), b"1x").is_err(), true);
     assert_eq!(rt; tokens(rt.alloc(), b"a;").is_err(), true);
+    Ok(())
+}
+
+/// Texts that are tokens, and whether they are expressions, as `dash` answers.
+static EXPRESSIONS: [(&str, bool); 30] = [
+    ("1", true),
+    ("-+~!x", true),
+    ("1--1", true),
+    ("x++", false),
+    ("1+", false),
+    ("*1", false),
+    ("1**2", false),
+    ("()", false),
+    ("((1)", false),
+    ("(1))", false),
+    ("(1)(2)", false),
+    ("1 2", false),
+    ("1 ! 2", false),
+    ("1 < < 2", false),
+    ("1!==1", false),
+    ("1?2:3?4:5", true),
+    ("1?0?2:3:4", true),
+    ("1?x=2:3", true),
+    ("0?1:x=2", false),
+    ("1?2", false),
+    ("1?:2", false),
+    ("1:2", false),
+    ("1 ? 2 : : 3", false),
+    ("(1?2):3", false),
+    ("x=y=2", true),
+    ("x=1?2:3", true),
+    ("(x)=1", false),
+    ("1+x=2", false),
+    ("!x=1", false),
+    ("x=", false),
+];
+
+#[test]
+fn tokens_are_an_expression_or_not(rt: HostRuntime) -> Result<(), Fail> {
+    for &(text, wanted) in EXPRESSIONS.iter() {
+        let found = tokens(rt.alloc(), text.as_bytes()).ok().ok_or("refused")?;
+        let holds = is_expression(rt.alloc(), found.as_slice())?;
+        assert_eq!(rt; holds, wanted, "{text}");
+    }
     Ok(())
 }

@@ -12,6 +12,8 @@ pub enum Call {
     Lines,
     /// `read_all` of an opened file.
     ReadAll,
+    /// `lex` of a whole script.
+    Lex,
 }
 
 impl Call {
@@ -21,6 +23,7 @@ impl Call {
             "next_line" => Some(Call::NextLine),
             "lines" => Some(Call::Lines),
             "read_all" => Some(Call::ReadAll),
+            "lex" => Some(Call::Lex),
             _ => None,
         }
     }

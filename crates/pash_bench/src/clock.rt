@@ -4,6 +4,7 @@ use crate::calls::count_newlines;
 use ps_lines::lines;
 use ps_real::Reading;
 use ps_world::{WorldErr, read_all};
+use sh_lex::{LexRefusal, lex};
 use std::io;
 use std::io::{ErrorKind, Read};
 use std::rt::Clock;
@@ -52,6 +53,21 @@ pub fn time_read_all<R: Read + Drop>(
     let nanoseconds = start.elapsed(rt)?.as_nanos();
     Ok(Timed {
         count: text.len(),
+        nanoseconds,
+    })
+}
+
+/// `lex` of the whole script, which finds tokens.
+pub fn time_lex(rt: &(impl AllocGlobal + Clock), script: &[u8]) -> io::Result<Timed> {
+    let start = Instant::now(rt)?;
+    let tokens = match lex(rt.alloc(), script) {
+        Ok(tokens) => tokens,
+        Err(LexRefusal::Memory) => return Err(io::Error::from(ErrorKind::OutOfMemory)),
+        Err(LexRefusal::Refused(_)) => return Err(io::Error::from(ErrorKind::InvalidData)),
+    };
+    let nanoseconds = start.elapsed(rt)?.as_nanos();
+    Ok(Timed {
+        count: tokens.len(),
         nanoseconds,
     })
 }

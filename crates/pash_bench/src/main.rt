@@ -1,4 +1,4 @@
-//! Times one call of a crate on one file: `pash_bench CALL FILE`, where CALL is `next_line`, `lines` or `read_all`.
+//! Times one call of a crate on one file: `pash_bench CALL FILE`, where CALL is `next_line`, `lines`, `read_all` or `lex`.
 //!
 //! What the call finds, a count, goes to the output, and the time of the call alone, in nanoseconds, to the error
 //! output: what a call takes is ready before the clock starts, and what it gives is dropped after the clock stopped.
@@ -23,6 +23,7 @@ fn main(rt: HostRuntime) -> io::Result<()> {
     let timed = match call {
         Call::NextLine => clock::time_next_line(&rt, fs::read(&rt, path)?.as_slice())?,
         Call::Lines => clock::time_lines(&rt, fs::read(&rt, path)?.as_slice())?,
+        Call::Lex => clock::time_lex(&rt, fs::read(&rt, path)?.as_slice())?,
         Call::ReadAll => clock::time_read_all(&rt, fs::open(&rt, path)?)?,
     };
     eprintln!(rt; "{}", timed.nanoseconds)?;

@@ -14,7 +14,7 @@ mod top;
 mod words;
 
 use ps_fakes::OpenGate;
-use ps_real::{Reading, RealTree, Writing};
+use ps_real::{RealError, RealInput, RealOutput, RealTree};
 use ps_world::Path;
 use std::env;
 use std::io::{self, ErrorKind};
@@ -25,9 +25,9 @@ use std::rt::Env;
 fn main(rt: HostRuntime) -> io::Result<ExitCode> {
     let words = given_words(&rt)?;
     let home = working_directory(&rt)?;
-    let input = Reading::new(rt.stdin());
-    let out = Writing::new(rt.stdout());
-    let mut err = Writing::new(rt.stderr());
+    let input = RealInput::new(&rt);
+    let out = RealOutput::new(&rt);
+    let mut err = RealError::new(&rt);
     let alloc = rt.alloc();
     let mut tree = RealTree::new(rt, home);
     let end = top::pash(

@@ -43,7 +43,7 @@ pub fn time_read_all<R: Read + Drop>(
     rt: &(impl AllocGlobal + Clock),
     reader: R,
 ) -> io::Result<Timed> {
-    let mut source = Reading::new(reader);
+    let mut source = Reading::over(reader);
     let start = Instant::now(rt)?;
     let text = match read_all(rt.alloc(), &mut source) {
         Ok(text) => text,

@@ -20,9 +20,18 @@ pub struct Reading<R> {
 /// Standard input.
 pub type RealInput = Reading<Stdin>;
 
+impl RealInput {
+    /// Standard input, from where it stands.
+    pub fn new(rt: &HostRuntime) -> RealInput
+        ensures { (result.given ≡ 0) × (result.faults ≡ 0) }
+    {
+        Reading::over(rt.stdin())
+    }
+}
+
 impl<R> Reading<R> {
     /// A source of what the reader gives from here on.
-    pub fn new(reader: R) -> Reading<R>
+    pub fn over(reader: R) -> Reading<R>
         ensures { (result.given ≡ 0) × (result.faults ≡ 0) }
     {
         Reading {

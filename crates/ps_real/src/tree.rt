@@ -86,7 +86,7 @@ impl Tree for RealTree {
         match File::open(&self.rt, name.as_str()) {
             Ok(file) => {
                 self.lent = self.lent.saturating_add(1);
-                Ok(Reading::new(file))
+                Ok(Reading::over(file))
             }
             Err(_) => Err(self.fail()),
         }

@@ -18,9 +18,27 @@ pub type RealOutput = Writing<Stdout>;
 /// Standard error.
 pub type RealError = Writing<Stderr>;
 
+impl RealOutput {
+    /// Standard output.
+    pub fn new(rt: &HostRuntime) -> RealOutput
+        ensures { result.faults ≡ 0 }
+    {
+        Writing::over(rt.stdout())
+    }
+}
+
+impl RealError {
+    /// Standard error.
+    pub fn new(rt: &HostRuntime) -> RealError
+        ensures { result.faults ≡ 0 }
+    {
+        Writing::over(rt.stderr())
+    }
+}
+
 impl<W> Writing<W> {
     /// A sink of what goes to the writer.
-    pub fn new(writer: W) -> Writing<W>
+    pub fn over(writer: W) -> Writing<W>
         ensures { result.faults ≡ 0 }
     {
         Writing { writer, faults: 0 }

@@ -10,6 +10,8 @@ mod cat_form;
 mod copying;
 mod lines;
 mod run;
+#[cfg(test)]
+mod tests;
 mod top;
 mod words;
 

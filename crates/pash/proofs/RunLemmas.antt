@@ -1,5 +1,5 @@
 -- Answers of one line.
-use Rattle.std.proofs.Common.{◌≡◌, ℕ, ◌+◌, ◌<◌, ◌≤◌, Bool, true, false, cond, List, [], ◌++◌, length, Option, Some, None, Result, Ok, Err, OnErr, IfOk, MatchResult, sym, ap, refl, subst, ◌∙◌, arith, leb, inl, inr}
+use Rattle.std.proofs.Common.{◌≡◌, ℕ, ◌+◌, ◌<◌, ◌≤◌, List, [], ◌++◌, length, Option, Some, None, Result, Ok, Err, OnErr, IfOk, MatchResult, sym, ap, refl, subst, ◌∙◌, arith, inl, inr}
 use Rattle.std.specs.Option.{IfSome}
 use Rattle.std.proofs.lemmas.Bool.{cases_lt}
 use Rattle.std.proofs.lemmas.Grind.{common_steps}
@@ -7,15 +7,15 @@ use Rattle.std.proofs.lemmas.List.{append-nil, length-append}
 use Rattle.ps_world.specs.Files.{Files, bytes_at}
 use Rattle.ps_world.specs.Paths.{Components}
 use Rattle.ps_world.specs.TreeState.{TreeState, OnlyLent}
-use Rattle.ps_world.specs.Told.{then_bytes, bytes_then, GrewByPrefix, IsFront}
+use Rattle.ps_world.specs.Told.{then_bytes, GrewByPrefix, IsFront}
 use Rattle.ps_world.proofs.ToldLemmas.{then_bytes-nil, grew_by_nothing}
-use Rattle.pash.specs.CatForm.{operands_of, operands_from, is_space, without_newline}
+use Rattle.pash.specs.CatForm.{operands_of}
 use Rattle.pash.specs.declared.cat_form.TheConstants.{MOST_BYTES}
 use Rattle.pash.proofs.CatLemmas.{moved}
 use Rattle.pash.specs.Meaning.{Reply, only_line, reply_of_text, reply_of_operands}
 use Rattle.pash.specs.declared.answers.Outcome.{Outcome}
 use Rattle.pash.specs.declared.answers.Stop.{Stop}
-use Rattle.pash.specs.Runs.{Grew, GrewByPrefixes, Meets}
+use Rattle.pash.specs.Runs.{GrewByPrefixes, Meets}
 use Rattle.pash.specs.declared.answers.Why.{Why}
 
 -- a line was told, and nothing else

@@ -1,11 +1,11 @@
 -- A path's components.
-use Rattle.std.proofs.Common.{◌≡◌, ℕ, ◌+◌, ◌-◌, ◌<◌, ◌≤◌, suc, Bool, true, false, cond, not, List, [], ◌∷◌, length, take, drop, Some, None, refl, sym, ap, subst, arith, ◌∙◌, ltb, inl, inr, length-drop}
-use Rattle.std.specs.List.{list_any, position, position_or_len, prefix_len, before_first, after_first, slice_split, onto_first}
+use Rattle.std.proofs.Common.{◌≡◌, ℕ, ◌+◌, ◌-◌, ◌<◌, ◌≤◌, suc, Bool, true, false, cond, not, List, [], ◌∷◌, length, take, drop, Some, None, refl, sym, ap, arith, ◌∙◌, ltb, inl, inr, length-drop}
+use Rattle.std.specs.List.{list_any, position, position_or_len, prefix_len, before_first, slice_split, onto_first}
 use Rattle.std.proofs.lemmas.List.{take_rest, take_all}
 use Rattle.std.proofs.lemmas.Bool.{cases_lt, false≢true}
 use Rattle.std.proofs.lemmas.List.Splits.{slice_split_first, slice_split-cons_no}
 use Rattle.std.proofs.lemmas.Grind.{common_steps}
-use Rattle.ps_world.specs.Paths.{components, is_slash, has_slash}
+use Rattle.ps_world.specs.Paths.{is_slash, has_slash}
 use Rattle.ps_world.specs.Places.{IsLastComponent, BeginsWithComponent}
 
 module _ {Item : Type 0} (test : Item → Bool) where

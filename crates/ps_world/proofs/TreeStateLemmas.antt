@@ -1,5 +1,5 @@
 -- Readers that were lent and given back.
-use Rattle.std.proofs.Common.{◌≡◌, ℕ, ◌+◌, zero, suc, refl, sym, ap, ◌∙◌, zero-add, arith}
+use Rattle.std.proofs.Common.{◌≡◌, ℕ, ◌+◌, zero, suc, refl, ap, ◌∙◌, zero-add, arith}
 use Rattle.ps_world.specs.Counts.{one_more}
 use Rattle.ps_world.specs.TreeState.{TreeState, raised, OnlyLent, lend, take_back}
 

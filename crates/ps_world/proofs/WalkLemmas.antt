@@ -5,7 +5,6 @@ use Rattle.std.specs.List.{onto_first}
 use Rattle.ps_world.specs.Paths.{components, Components, is_slash}
 use Rattle.ps_world.specs.Files.{Files}
 use Rattle.ps_world.specs.Places.{enter, resolve_from, BeginsWithComponent}
-use Rattle.ps_world.specs.declared.places.Place.{Place}
 use Rattle.ps_world.specs.declared.places.Place.TheVariants as place
 
 -- every text has a first component

@@ -1,5 +1,5 @@
 -- Normal absolute paths, as lists of components (XBD 3.2 Absolute Pathname, 4.13 Pathname Resolution).
-use Rattle.std.specs.Prelude.{◌≡◌, ℕ, ◌-◌, List, [], ◌∷◌, ◌++◌, length, take, Bool, ◌&&◌, not, codes, nat_eq, true, if◌then◌else◌, Option, Some, None}
+use Rattle.std.specs.Prelude.{ℕ, ◌-◌, List, [], ◌∷◌, length, take, Bool, ◌&&◌, not, codes, nat_eq, true, if◌then◌else◌, Option, Some, None}
 use Rattle.std.specs.List.{list_any, list_all, slice_split, flat_map}
 use Rattle.std.specs.Str.{bytes_eq}
 use Rattle.std.specs.declared.cmp.Ordering.{Ordering}

@@ -1,4 +1,4 @@
-use Rattle.std.proofs.Common.{◌≡◌, ℕ, length}
+use Rattle.std.proofs.Common.{◌≡◌, length}
 use Rattle.std.specs.Option.{IfSome}
 use Rattle.ps_world.specs.Paths.{components}
 use Rattle.ps_world.specs.Places.{resolve_from}

@@ -1,4 +1,4 @@
-use Rattle.std.proofs.Common.{◌≡◌, ℕ, length}
+use Rattle.std.proofs.Common.{◌≡◌, length}
 use Rattle.ps_world.specs.Told.{Written}
 use Rattle.ps_world.proofs.streams.write_all.Given as goal
 

@@ -1,8 +1,5 @@
-use Rattle.std.proofs.Common.{◌≡◌, IsTrue, sym, subst, ◌∙◌}
-use Rattle.std.specs.List.{list_all}
-use Rattle.ps_lines.specs.Texts.{texts_of}
+use Rattle.std.proofs.Common.{◌∙◌}
 use Rattle.ps_lines.proofs.TextsLemmas.{texts_of-clones}
-use Rattle.ps_world.specs.Paths.{is_name}
 use Rattle.ps_world.proofs.path.Path.copy.Goals as goal
 
 pub invariant_of-result : goal.invariant_of-result

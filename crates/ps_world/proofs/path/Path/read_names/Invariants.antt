@@ -1,4 +1,4 @@
-use Rattle.std.proofs.Common.{◌≡◌, ℕ, length}
+use Rattle.std.proofs.Common.{◌≡◌, length}
 use Rattle.ps_world.specs.Paths.{components, path_from}
 use Rattle.ps_world.proofs.PathLemmas.{path_after}
 use Rattle.ps_world.proofs.path.Path.read_names.Given as goal

@@ -1,6 +1,4 @@
-use Rattle.std.proofs.Common.{◌≡◌, nat_eq, sym, ◌∙◌}
 use Rattle.std.specs.Cmp.Derive.Mapped.{pointwise-map}
-use Rattle.std.specs.Cmp.Lexicographic.{pointwise}
 use Rattle.ps_world.proofs.path.PathPartialEq.eq.Goals as goal
 
 pub returns : goal.returns

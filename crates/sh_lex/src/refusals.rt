@@ -32,6 +32,11 @@ pub enum LexRefusal {
 }
 
 impl From<Memory> for LexRefusal {
+    ghost use Rattle.std.specs.Prelude.{◌≡◌};
+    ghost use Rattle.sh_lex.specs.declared.refusals.LexRefusal.TheVariants as lex;
+
+    ghost from_gives = { λ _ refusal. refusal ≡ lex.Memory };
+
     fn from(_refused: Memory) -> LexRefusal {
         LexRefusal::Memory
     }

@@ -5,6 +5,9 @@ ghost use Rattle.ps_lines.specs.Numbers.{number_of, with_one_more};
 use crate::memory::Memory;
 use itoa::Buffer;
 
+/// The most digits that a number below 2^64 is read from.
+const MOST_DIGITS: usize = 20;
+
 /// Appends the number in decimal: digits alone, with no zero before the first digit of a number that isn't 0.
 pub fn decimal(number: u64, out: &mut Vec<u8>) -> Result<(), Memory>
     ensures ok { OnOk result (out.new.items ≡ out.old.items ++ decimal number) }
@@ -22,7 +25,7 @@ pub fn decimal(number: u64, out: &mut Vec<u8>) -> Result<(), Memory>
 pub fn read_decimal(text: &[u8]) -> Option<u64>
     ensures { result ≡ number_of text.now }
 {
-    if text.is_empty() || text.len() > 20 {
+    if text.is_empty() || text.len() > MOST_DIGITS {
         return None;
     }
     let mut number = 0;

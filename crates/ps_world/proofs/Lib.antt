@@ -3,3 +3,4 @@ pub mod WalkLemmas
 pub mod ToldLemmas
 pub mod PathLemmas
 pub mod TreeStateLemmas
+pub mod WritingLemmas

@@ -1,5 +1,5 @@
 -- Counts of faults. Each object of the outside keeps one; it never falls, and it has 64 bits, so it stands still at its type's end.
-use Rattle.std.specs.Prelude.{◌≡◌, ℕ, ◌+◌, ◌-◌, ◌^◌, ◌≤◌, min, Result, OnOk, IsErrOf}
+use Rattle.std.specs.Prelude.{◌≡◌, ℕ, ◌+◌, ◌-◌, ◌<◌, ◌^◌, ◌≤◌, min, Result, OnOk, IsErrOf}
 use Rattle.ps_world.specs.declared.error.WorldErr.{WorldErr}
 use Rattle.ps_world.specs.declared.error.WorldErr.TheVariants.{Failed, Memory}
 
@@ -17,3 +17,12 @@ pub record Counts {T : Type 0} (before now : ℕ) (result : Result T WorldErr) :
   pub failed : IsErrOf result Failed → Rose before now
   pub ok : OnOk result (now ≡ before)
   pub memory : IsErrOf result Memory → now ≡ before
+
+-- what the answer to a writer's return says of the tree's count: it never falls, it rose where the writer's count is above 0 and where
+-- the return failed, and stands elsewhere
+pub record CountsReturn {T : Type 0} (of_writer before now : ℕ) (result : Result T WorldErr) : Type 0 where
+  pub later : before ≤ now
+  pub writer : 0 < of_writer → Rose before now
+  pub failed : IsErrOf result Failed → Rose before now
+  pub ok : of_writer ≡ 0 → OnOk result (now ≡ before)
+  pub memory : of_writer ≡ 0 → IsErrOf result Memory → now ≡ before

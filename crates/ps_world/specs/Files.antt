@@ -1,9 +1,13 @@
 -- The files: a finite map from paths to what stands there.
-use Rattle.std.specs.Prelude.{◌≡◌, ℕ, List, [], Option, Some, None}
+use Rattle.std.specs.Prelude.{◌≡◌, ℕ, List, [], ◌∷◌, ◌++◌, Option, Some, None, IsTrue, if◌then◌else◌}
 use Rattle.std.specs.FinMap as map
-use Rattle.ps_world.specs.Paths.{Components, path_cmp}
+use Rattle.std.specs.List.{count_by}
+use Rattle.std.specs.Str.{bytes_eq}
+use Rattle.ps_world.specs.Paths.{Components, is_name, parent_of, path_cmp}
 use Rattle.ps_world.specs.declared.tree.Kind.{Kind}
 use Rattle.ps_world.specs.declared.tree.Kind.TheVariants as kind
+use Rattle.ps_world.specs.declared.tree.Mode.{Mode}
+use Rattle.ps_world.specs.declared.tree.Mode.TheVariants as mode
 
 -- what stands at a path: a file's bytes, a directory, or a file while its writer is out
 pub data Node : Type 0 where
@@ -43,6 +47,37 @@ IsFile (Some WriterOut) = ⊥
 -- a file is there, and no writer of it is out
 abbrev pub IsFileAt : Files → Components → Type 0
 IsFileAt files path = IsFile (map.get files path)
+
+abbrev pub IsDir : Option Node → Type 0
+IsDir None = ⊥
+IsDir (Some (Bytes bytes)) = ⊥
+IsDir (Some Directory) = Unit {0}
+IsDir (Some WriterOut) = ⊥
+
+-- a directory is there
+abbrev pub IsDirAt : Files → Components → Type 0
+IsDirAt files path = IsDir (map.get files path)
+
+-- a file can be made here: anew where one is in, and where nothing is, in a directory
+abbrev pub CanBe : Option Node → Option Node → Type 0
+CanBe None parent = IsDir parent
+CanBe (Some (Bytes bytes)) parent = Unit {0}
+CanBe (Some Directory) parent = ⊥
+CanBe (Some WriterOut) parent = ⊥
+
+-- a file can be made at the path: one is there and no writer of it is out, or nothing is there and the parent is a directory
+abbrev pub CanBeMade : Files → Components → Type 0
+CanBeMade files path = CanBe (map.get files path) (map.get files (parent_of path))
+
+-- the bytes that a new writer of a file begins with
+abbrev pub begun : Files → Components → Mode → List ℕ
+begun files path mode.Fresh = []
+begun files path mode.Append = bytes_at files path
+
+-- the names are those that stand in the directory, each once, in any order
+abbrev pub IsListing : Files → Components → List (List ℕ) → Type 0
+IsListing files dir names =
+    (name : List ℕ) → IsTrue (is_name name) → count_by (bytes_eq name) names ≡ (if map.contains_key files (dir ++ name ∷ []) then 1 else 0)
 
 -- no writer is out
 abbrev pub NoWriterOut : Files → Type 0

@@ -1,8 +1,10 @@
 -- What a tree is to its callers.
-use Rattle.std.specs.Prelude.{◌≡◌, ℕ, zero, suc, Option}
+use Rattle.std.specs.Prelude.{◌≡◌, ℕ, zero, suc, List, Option, IfSome}
+use Rattle.std.specs.FinMap as map
+use Rattle.std.specs.Option.{option_map}
 use Rattle.ps_world.specs.Counts.{one_more}
 use Rattle.ps_world.specs.Paths.{Components}
-use Rattle.ps_world.specs.Files.{Files}
+use Rattle.ps_world.specs.Files.{Files, Node, Bytes, WriterOut}
 
 -- the working directory, the files where they are told, and how many readers and writers were lent and given back
 pub record TreeState : Type 0 where
@@ -15,9 +17,27 @@ pub record TreeState : Type 0 where
 abbrev pub lend : TreeState → TreeState
 lend state = record state { lent = one_more state.lent }
 
--- a reader is given back
+-- a reader or writer is given back
 abbrev pub take_back : TreeState → TreeState
 take_back state = record state { back = one_more state.back }
+
+-- this stands at the path now
+abbrev pub place : Components → Node → TreeState → TreeState
+place path node state = record state { held = option_map (λ files. map.insert files path node) state.held }
+
+-- the writer of a file is out
+abbrev pub take_out : Components → TreeState → TreeState
+take_out path state = place path WriterOut state
+
+-- a file of these bytes is there
+abbrev pub fill : Components → List ℕ → TreeState → TreeState
+fill path bytes state = place path (Bytes bytes) state
+
+-- a writer was given back, and what it had taken is the file now; where this isn't told, some bytes are
+pub record IsFilled (path : Components) (taken : Option (List ℕ)) (old new : TreeState) : Type 0 where
+  pub bytes : List ℕ
+  pub told : IfSome taken (λ written. bytes ≡ written)
+  pub state : new ≡ take_back (fill path bytes old)
 
 -- so many times one more
 abbrev pub raised : ℕ → ℕ → ℕ

@@ -20,13 +20,15 @@ pub trait Source {
 
     /// Reads into the front of `buf`, and answers how many bytes it gave.
     ///
-    /// Ok(0) at a buffer with room means the end. Failed leaves what is still to come as it was. No memory is taken.
+    /// Ok(0) at a buffer with room means the end, and is the answer to an empty buffer. Failed leaves what is still to come as it
+    /// was. No memory is taken.
     fn read(&mut self, buf: &mut [u8]) -> Result<usize, WorldErr>
         ensures bound { IfOk result (λ count. count ≤ length buf.new) }
         ensures bytes { MatchResult result
             (λ count. left self.old ≡ bytes_then (take count buf.new) (left self.new))
             (λ _. left self.new ≡ left self.old) }
         ensures end { result ≡ Ok 0 → 0 < length buf.new → left self.old ≡ option_map (λ _. []) (left self.old) }
+        ensures empty { length buf.old ≡ 0 → result ≡ Ok 0 }
         ensures given { MatchResult result
             (λ count. given self.new ≡ given self.old + count)
             (λ _. given self.new ≡ given self.old) }

@@ -4,7 +4,6 @@ use Rattle.ut_args.specs.declared.invocations.Inv.{Inv}
 use Rattle.ut_args.specs.declared.invocations.Inv.TheVariants as inv
 use Rattle.ut_args.specs.declared.classes.Class.{Class}
 use Rattle.ut_args.specs.declared.classes.Class.TheVariants as class
-use Rattle.ut_args.specs.declared.classes.Seam.{Seam}
 use Rattle.ut_args.specs.declared.classes.Seam.TheVariants as seam
 
 -- the class of an invocation

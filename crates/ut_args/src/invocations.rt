@@ -110,7 +110,11 @@ impl CatInv {
         ensures { result ≡ joined_inputs (operands_of self.now.words) }
     {
         let operands = self.operands();
-        if !operands.is_empty() && are_empty(operands) { 0 } else { 1 }
+        if !operands.is_empty() && are_empty(operands) {
+            0
+        } else {
+            1
+        }
     }
 
     fn copy(&self) -> Result<CatInv, Memory>

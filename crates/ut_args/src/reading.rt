@@ -61,7 +61,9 @@ fn is_grep(words: &[Vec<u8>]) -> bool
 {
     match words {
         [name, option, word] => {
-            name.as_slice() == b"grep".as_slice() && option.as_slice() == b"-F".as_slice() && is_pattern(word.as_slice())
+            name.as_slice() == b"grep".as_slice()
+                && option.as_slice() == b"-F".as_slice()
+                && is_pattern(word.as_slice())
         }
         _ => false,
     }
@@ -72,7 +74,8 @@ fn is_wc(words: &[Vec<u8>]) -> bool
     ensures { result ≡ is_wc_lem (texts_of words.now) }
 {
     match words {
-        [name, option] => name.as_slice() == b"wc".as_slice() && option.as_slice() == b"-l".as_slice(),
+        [name, option] => name.as_slice() == b"wc".as_slice()
+            && option.as_slice() == b"-l".as_slice(),
         _ => false,
     }
 }

@@ -1,0 +1,4 @@
+pub mod ListLemmas
+pub mod NetLemmas
+pub mod EdgeLemmas
+pub mod CheckLemmas

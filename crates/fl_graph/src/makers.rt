@@ -1,0 +1,78 @@
+//! The maps that aggregates and finishes join.
+ghost use Rattle.std.specs.Prelude.{◌≡◌, ◌≤◌, [], false, if◌then◌else◌, length};
+ghost use Rattle.ut_args.specs.Invocations.{words_of};
+ghost use Rattle.fl_graph.specs.Cells.{cell, cells};
+ghost use Rattle.fl_graph.specs.Checks.{are_mapped as are_mapped_lem, comes_mapped, each_after, joins_its_maps as joins_its_maps_lem};
+ghost use Rattle.fl_graph.specs.Makers.{is_mapped as is_mapped_lem, made_by};
+ghost use Rattle.fl_graph.specs.Net.{has};
+
+use crate::graphs::Node;
+use crate::kinds::NodeKind;
+use ut_args::Inv;
+
+/// Whether the ins of each aggregate and of each finish come from maps or aggregates of the same words.
+pub fn joins_maps(nodes: &[Node]) -> bool
+    ensures { result ≡ each_after joins_its_maps_lem [] (cells nodes.now) }
+{
+    for place in 0..nodes.len() {
+        if !joins_its_maps(&nodes[..place], &nodes[place]) {
+            return false;
+        }
+    }
+    true
+}
+
+/// Whether the node's ins do, if it joins maps.
+fn joins_its_maps(earlier: &[Node], node: &Node) -> bool
+    ensures { result ≡ joins_its_maps_lem (cells earlier.now) (cell node.now) }
+{
+    match &node.kind {
+        NodeKind::Agg(inv) | NodeKind::Finish(inv) => are_mapped(earlier, node.ins.as_slice(), inv),
+        _ => true,
+    }
+}
+
+/// Whether these edges come from maps or aggregates of the invocation.
+fn are_mapped(earlier: &[Node], edges: &[u32], inv: &Inv) -> bool
+    ensures { result ≡ are_mapped_lem (words_of inv.now) (cells earlier.now) edges.now }
+{
+    for edge in edges {
+        if !is_mapped(earlier, *edge, inv) {
+            return false;
+        }
+    }
+    true
+}
+
+/// Whether the edge comes from a map or an aggregate of the invocation.
+fn is_mapped(earlier: &[Node], edge: u32, inv: &Inv) -> bool
+    ensures { result ≡ comes_mapped (words_of inv.now) edge false (cells earlier.now) }
+{
+    let mut mapped = false;
+    for node in earlier {
+        mapped = is_mapped_behind(node, edge, inv, mapped);
+    }
+    mapped
+}
+
+/// Whether the edge comes from a map or an aggregate of the invocation, where `before` says so of the nodes before this one.
+fn is_mapped_behind(node: &Node, edge: u32, inv: &Inv, before: bool) -> bool
+    ensures { result ≡ (if has edge node.now.outs.items then is_mapped_lem (words_of inv.now) (made_by node.now.kind) else before) }
+{
+    if node.outs.contains(&edge) {
+        maps(&node.kind, inv)
+    } else {
+        before
+    }
+}
+
+/// Whether this is a map or an aggregate of the invocation.
+#[tactic(auto, using(crate::proofs::CheckLemmas::same_as_words))]
+fn maps(kind: &NodeKind, inv: &Inv) -> bool
+    ensures { result ≡ is_mapped_lem (words_of inv.now) (made_by kind.now) }
+{
+    match kind {
+        NodeKind::Map(other) | NodeKind::Agg(other) => inv.is(other),
+        _ => false,
+    }
+}

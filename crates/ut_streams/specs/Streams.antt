@@ -1,0 +1,27 @@
+-- What a stream has written and what it still owes. A stream is fed its input in pieces, cut anywhere; these words speak of every way
+-- in which the input may go on, and of no piece.
+use Rattle.std.specs.Prelude.{◌≡◌, ℕ, List, ◌++◌, length, take, Bool, true, false}
+use Rattle.ps_lines.specs.Lines.{has_newline, is_closed}
+
+-- the text begins with this front
+abbrev pub BeginsWith : List ℕ → List ℕ → Type 0
+BeginsWith text front = take (length front) text ≡ front
+
+-- old grew to new: however the input goes on, what was due before is what was written and what is due now; where memory was
+-- wanted, a front of what was due was written
+pub record Wrote {Input : Type 0} (was now : Input → List ℕ) (old new : List ℕ) (whole : Bool) : Type 0 where
+  pub kept : BeginsWith new old
+  pub grew : whole ≡ true → (more : Input) → new ++ now more ≡ old ++ was more
+  pub part : (more : Input) → BeginsWith (old ++ was more) new
+
+-- old grew to new by this text, and by a front of it where memory was wanted
+pub record Put (text old new : List ℕ) (whole : Bool) : Type 0 where
+  pub kept : BeginsWith new old
+  pub grew : whole ≡ true → new ≡ old ++ text
+  pub part : BeginsWith (old ++ text) new
+
+-- the text is these whole lines, and then the beginning of a line
+pub record CutsLastLine (text closed rest : List ℕ) : Type 0 where
+  pub whole : text ≡ closed ++ rest
+  pub ends : is_closed closed ≡ true
+  pub plain : has_newline rest ≡ false

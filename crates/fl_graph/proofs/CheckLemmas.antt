@@ -1,5 +1,5 @@
 -- The tests of validity decide its conditions.
-use Rattle.std.proofs.Common.{◌≡◌, ℕ, ◌≤◌, ◌==◌, List, [], Bool, true, false, ◌&&◌, not, length, refl, ap, sym, ◌∙◌, arith, nat_le, eq-eqb}
+use Rattle.std.proofs.Common.{◌≡◌, ℕ, ◌<◌, ◌≤◌, ◌==◌, List, [], Bool, true, false, ◌&&◌, not, length, refl, ap, sym, ◌∙◌, arith, nat_le, eq-eqb}
 use Rattle.std.specs.List.{list_all, list_any, count_by}
 use Rattle.std.proofs.lemmas.Bool.{and_parts, and_from, or_parts, or_from, eqb-true, ltb-true, lt-ltb, leb-true, le-leb}
 use Rattle.std.proofs.lemmas.List.Folds.{list_any-append}
@@ -16,6 +16,7 @@ use Rattle.fl_graph.specs.Checks.{is_single, has_single_edges, is_below, gives_b
 use Rattle.fl_graph.specs.declared.kinds.NodeKind.{NodeKind}
 use Rattle.fl_graph.specs.declared.graphs.StatusRule.{StatusRule}
 use Rattle.fl_graph.proofs.ListLemmas.{same_tests, list_all-both, list_all-flat_map, holds-has, all-has, count-has, count-none}
+use Rattle.fl_graph.proofs.PlaceLemmas.{each_below}
 use Rattle.fl_graph.proofs.EdgeLemmas.{leads_on-each, joins_maps-each}
 
 -- invocations are compared as their words are
@@ -189,3 +190,10 @@ only_if_valid cells status valid =
     (and_from maps (ends && (apart && named)) joined
     (and_from ends (apart && named) (ends_only_if cells valid.ends)
     (and_from apart named (paths_only_if cells valid.paths) valid.named))))
+
+-- each number below the number of edges is given once and taken once
+pub each_number : (cells : List (Cell NodeKind)) (status : StatusRule) → Valid cells status → (edge : ℕ) → edge < length (gives cells)
+    → (count edge (gives cells) ≡ 1) × (count edge (takes cells) ≡ 1)
+each_number cells status valid edge within =
+    let given = each_below (gives cells) valid.edges.below valid.edges.once edge within in
+    (given, valid.edges.taken edge ∙ given)

@@ -1,4 +1,6 @@
 pub mod ListLemmas
+pub mod PlaceLemmas
 pub mod NetLemmas
 pub mod EdgeLemmas
 pub mod CheckLemmas
+pub mod RunLemmas

@@ -5,3 +5,5 @@ pub mod Makers
 pub mod Paths
 pub mod Valid
 pub mod Checks
+pub mod Machines
+pub mod Runs

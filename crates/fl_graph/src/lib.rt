@@ -9,9 +9,14 @@
 
 mod edges;
 mod graphs;
+#[cfg(test)]
+mod hand_on;
 mod kinds;
+pub mod laws;
+mod machines;
 mod makers;
 mod paths;
+mod pieces;
 mod ports;
 mod status;
 #[cfg(test)]
@@ -20,4 +25,6 @@ mod validity;
 
 pub use graphs::{Graph, Node, StatusRule};
 pub use kinds::{From, NodeKind, To};
+pub use machines::Machine;
+pub use pieces::{Act, Bytes, MAX_PIECE, Piece};
 pub use validity::validate;

@@ -3,7 +3,7 @@ ghost use Rattle.std.specs.Prelude.{◌≡◌, ◌≤◌, [], false, if◌then�
 ghost use Rattle.ut_args.specs.Invocations.{words_of};
 ghost use Rattle.fl_graph.specs.Cells.{cell, cells};
 ghost use Rattle.fl_graph.specs.Checks.{are_mapped as are_mapped_lem, comes_mapped, each_after, joins_its_maps as joins_its_maps_lem};
-ghost use Rattle.fl_graph.specs.Makers.{is_mapped as is_mapped_lem, made_by};
+ghost use Rattle.fl_graph.specs.Makers.{is_mapped as is_mapped_lem, made_by, same_words};
 ghost use Rattle.fl_graph.specs.Net.{has};
 
 use crate::graphs::Node;
@@ -67,12 +67,18 @@ fn is_mapped_behind(node: &Node, edge: u32, inv: &Inv, before: bool) -> bool
 }
 
 /// Whether this is a map or an aggregate of the invocation.
-#[tactic(auto, using(crate::proofs::CheckLemmas::same_as_words))]
 fn maps(kind: &NodeKind, inv: &Inv) -> bool
     ensures { result ≡ is_mapped_lem (words_of inv.now) (made_by kind.now) }
 {
     match kind {
-        NodeKind::Map(other) | NodeKind::Agg(other) => inv.is(other),
+        NodeKind::Map(other) | NodeKind::Agg(other) => are_same(inv, other),
         _ => false,
     }
+}
+
+/// Whether two invocations have the same words.
+fn are_same(one: &Inv, other: &Inv) -> bool
+    ensures { result ≡ same_words (words_of one.now) (words_of other.now) }
+{
+    one.is(other)
 }

@@ -2,6 +2,7 @@
 //!
 //! A graph is written as its nodes, parted by bars, each as its kind, its ins and its outs; a node's edges are digits, and a hyphen
 //! is none.
+use crate::laws::each_number_is_an_edge;
 use crate::{From, Graph, Node, NodeKind, StatusRule, To, validate};
 use ps_lines::{Memory, Text};
 use ps_world::{Mode, Path};
@@ -169,7 +170,13 @@ fn expect_all(
 ) -> Result<(), Fail> {
     for (text, names) in cases {
         match graph(alloc, text, names)? {
-            Some(graph) => assert_eq!(rt; validate(&graph), valid, "{text} {names}"),
+            Some(graph) => {
+                let answer = validate(&graph);
+                if answer {
+                    each_number_is_an_edge(&graph);
+                }
+                assert_eq!(rt; answer, valid, "{text} {names}");
+            }
             None => assert!(rt; false, "no graph: {text}"),
         }
     }

@@ -1,0 +1,54 @@
+-- Runs of a machine (own): what it has taken and put so far, against its equation.
+use Rattle.std.specs.Prelude.{◌≡◌, ℕ, List, [], ◌∷◌, ◌++◌, Bool, true, false, ◌==◌, ◌||◌, if◌then◌else◌, length, take}
+use Rattle.fl_graph.specs.Machines.{comes_first}
+use Rattle.fl_graph.specs.declared.pieces.Piece.{Piece}
+use Rattle.fl_graph.specs.declared.pieces.Piece.TheVariants as piece
+
+-- the text begins so
+abbrev pub BeginsWith : List ℕ → List ℕ → Type 0
+BeginsWith text front = take (length front) text ≡ front
+
+-- the text of pieces
+abbrev pub text_of : List Piece → List ℕ
+text_of [] = []
+text_of (piece.Bytes bytes ∷ pieces) = bytes ++ text_of pieces
+text_of (piece.Mark ∷ pieces) = text_of pieces
+text_of (piece.End ∷ pieces) = text_of pieces
+text_of (piece.Broken ∷ pieces) = text_of pieces
+
+-- the whole text is there: the end has come
+abbrev pub is_end : Piece → Bool
+is_end (piece.Bytes bytes) = false
+is_end piece.Mark = false
+is_end piece.End = true
+is_end piece.Broken = false
+
+abbrev pub has_end : List Piece → Bool
+has_end [] = false
+has_end (piece ∷ pieces) = is_end piece || has_end pieces
+
+-- the text that pieces and then this rest are; nothing comes behind an end
+abbrev pub completed : List Piece → List ℕ → List ℕ
+completed [] rest = rest
+completed (piece ∷ pieces) rest = comes_first piece (completed pieces rest)
+
+-- the texts at all ports, of what was taken there and of what may still come
+abbrev pub completion : (ℕ → List Piece) → (ℕ → List ℕ) → ℕ → List ℕ
+completion taken rest port = completed (taken port) (rest port)
+
+-- the pieces of all ports, with one more at this one
+abbrev pub add : ℕ → Piece → (ℕ → List Piece) → ℕ → List Piece
+add port piece pieces other = if other == port then pieces other ++ piece ∷ [] else pieces other
+
+-- a machine whose equation was this one has taken and put these pieces, and this is due
+pub record Ran (equation due : (ℕ → List ℕ) → ℕ → List ℕ) (taken put : ℕ → List Piece) (broken : Bool) : Type 0 where
+  -- what was put begins the text of its equation, however the texts at its ins go on
+  pub front : (rest : ℕ → List ℕ) (port : ℕ) → BeginsWith (equation (completion taken rest) port) (text_of (put port))
+  -- where it isn't broken, that and what is due is the text
+  pub whole : broken ≡ false → (rest : ℕ → List ℕ) (port : ℕ) → equation (completion taken rest) port ≡ text_of (put port) ++ due rest port
+  -- where an out was ended, all of it was put
+  pub ended : (port : ℕ) → has_end (put port) ≡ true → (rest : ℕ → List ℕ) → equation (completion taken rest) port ≡ text_of (put port)
+
+-- and this is what it will have selected, whatever comes
+abbrev pub Selects : ((ℕ → List ℕ) → Bool) → ((ℕ → List ℕ) → Bool) → (ℕ → List Piece) → Bool → Type 0
+Selects equation selects taken broken = broken ≡ false → (rest : ℕ → List ℕ) → equation (completion taken rest) ≡ selects rest

@@ -1,0 +1,36 @@
+//! What each class says of its commands, in laws: each is the contract of a function that does nothing.
+#![tactic(auto, using(crate::proofs::ClassLemmas::class_laws, crate::proofs::PartLemmas::part_laws))]
+
+ghost use Rattle.std.specs.Prelude.{◌≡◌, ◌<◌, ℕ, List, length, true};
+ghost use Rattle.std.specs.List.{concat};
+ghost use Rattle.ps_lines.specs.Lines.{is_cutlist};
+ghost use Rattle.ut_args.specs.declared.invocations.Inv.TheVariants as inv;
+ghost use Rattle.ut_args.specs.declared.invocations.CatInv.{CatInv};
+ghost use Rattle.ut_args.specs.declared.invocations.GrepInv.{GrepInv};
+ghost use Rattle.ut_args.specs.declared.invocations.WcInv.{WcInv};
+ghost use Rattle.fl_classes.specs.Parts.{parts_of};
+ghost use Rattle.fl_classes.specs.Laws.{IsParallel, IsStatelessInBytes, IsStatelessInLines, KeepsClosed};
+
+/// `cat` may be cut between any two bytes.
+pub fn cat_is_stateless_in_bytes()
+    ensures output { (cat : CatInv) → IsStatelessInBytes (inv.Cat cat) }
+    ensures closed { (cat : CatInv) → KeepsClosed (inv.Cat cat) }
+{}
+
+/// `grep` of one input that writes lines may be cut at the ends of lines.
+pub fn grep_is_stateless_in_lines()
+    ensures output { (grep : GrepInv) → IsStatelessInLines (inv.Grep grep) }
+    ensures closed { (grep : GrepInv) → KeepsClosed (inv.Grep grep) }
+{}
+
+/// The counts of `wc` are the sums of those of the parts.
+pub fn wc_is_parallel()
+    ensures { (wc : WcInv) → IsParallel (inv.Wc wc) }
+{}
+
+/// The parts of a text, joined, are the text, and it is cut at ends of lines.
+pub fn parts_cut_the_text_at_ends_of_lines()
+    ensures count { (text : List ℕ) (parts : ℕ) → length (parts_of text parts) ≡ parts }
+    ensures joined { (text : List ℕ) (parts : ℕ) → 0 < parts → concat (parts_of text parts) ≡ text }
+    ensures cut { (text : List ℕ) (parts : ℕ) → 0 < parts → is_cutlist (parts_of text parts) ≡ true }
+{}

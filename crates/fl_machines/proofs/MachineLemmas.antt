@@ -1,0 +1,4 @@
+-- Streams in machines.
+use Rattle.ut_streams.proofs.StreamLemmas.{Wrote-put}
+
+pub ruleset copied = (Wrote-put)

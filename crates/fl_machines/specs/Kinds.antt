@@ -1,0 +1,29 @@
+-- The kinds of nodes that run a utility.
+use Rattle.std.specs.Prelude.{ℕ, List, [], ◌∷◌, Bool, true, false, ◌&&◌}
+use Rattle.fl_classes.specs.Utilities.{output_of, selects_of}
+use Rattle.fl_graph.specs.Kinds.{may_have, reads_one_input}
+use Rattle.fl_graph.specs.declared.kinds.NodeKind.{NodeKind}
+use Rattle.fl_graph.specs.declared.kinds.NodeKind.TheVariants as kind
+
+-- a map, a whole or a finish
+abbrev pub runs_utility : NodeKind → Bool
+runs_utility (kind.Map inv) = true
+runs_utility (kind.Whole inv) = true
+runs_utility (kind.Finish inv) = true
+runs_utility other = false
+
+-- a node of this kind with so many ports may stand in a valid graph
+abbrev pub is_utility_node : NodeKind → ℕ → ℕ → Bool
+is_utility_node kind ins outs = runs_utility kind && (may_have kind ins outs && reads_one_input kind)
+
+-- what the stream of such a node writes for one input
+abbrev pub stream_output : NodeKind → List ℕ → List ℕ
+stream_output (kind.Map inv) text = output_of inv (text ∷ [])
+stream_output (kind.Whole inv) text = output_of inv (text ∷ [])
+stream_output other text = text
+
+-- and whether it selects something
+abbrev pub stream_selects : NodeKind → List ℕ → Bool
+stream_selects (kind.Map inv) text = selects_of inv (text ∷ [])
+stream_selects (kind.Whole inv) text = selects_of inv (text ∷ [])
+stream_selects other text = false

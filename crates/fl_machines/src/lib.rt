@@ -1,0 +1,18 @@
+//! The machines of nodes that run a utility: maps, wholes and finishes.
+//!
+//! Each utility is a stream; `Through` makes a machine of any stream, and `util_machine` takes the one that a node's kind asks for. What
+//! the machine owes at its beginning is the node's equation, `fl_classes`' word.
+#![tactic(auto)]
+
+mod any_stream;
+mod copies;
+mod kinds;
+mod machines;
+#[cfg(test)]
+mod tests;
+mod through;
+
+pub use any_stream::AnyStream;
+pub use kinds::is_utility_node;
+pub use machines::{UtilMachine, util_machine};
+pub use through::Through;

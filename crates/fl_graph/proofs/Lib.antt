@@ -4,3 +4,4 @@ pub mod NetLemmas
 pub mod EdgeLemmas
 pub mod CheckLemmas
 pub mod RunLemmas
+pub mod StateLemmas

@@ -27,7 +27,7 @@ text_of-more (piece.End ∷ pieces) last = text_of-more pieces last
 text_of-more (piece.Broken ∷ pieces) last = text_of-more pieces last
 
 -- they have an end where they had one, or it is one
-has_end-more : (pieces : List Piece) (last : Piece) → has_end (pieces ++ last ∷ []) ≡ (has_end pieces || is_end last)
+pub has_end-more : (pieces : List Piece) (last : Piece) → has_end (pieces ++ last ∷ []) ≡ (has_end pieces || is_end last)
 has_end-more [] last = or-none (is_end last)
   where
     or-none : (test : Bool) → (test || false) ≡ test

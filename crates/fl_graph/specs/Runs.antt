@@ -1,6 +1,6 @@
 -- Runs of a machine (own): what it has taken and put so far, against its equation.
-use Rattle.std.specs.Prelude.{◌≡◌, ℕ, List, [], ◌∷◌, ◌++◌, Bool, true, false, ◌==◌, ◌||◌, if◌then◌else◌, length, take}
-use Rattle.fl_graph.specs.Machines.{comes_first}
+use Rattle.std.specs.Prelude.{◌≡◌, ℕ, List, [], ◌∷◌, ◌++◌, Bool, true, false, not, ◌==◌, ◌&&◌, ◌||◌, if◌then◌else◌, length, take}
+use Rattle.fl_graph.specs.Machines.{comes_first, closes}
 use Rattle.fl_graph.specs.declared.pieces.Piece.{Piece}
 use Rattle.fl_graph.specs.declared.pieces.Piece.TheVariants as piece
 
@@ -52,3 +52,38 @@ pub record Ran (equation due : (ℕ → List ℕ) → ℕ → List ℕ) (taken p
 -- and this is what it will have selected, whatever comes
 abbrev pub Selects : ((ℕ → List ℕ) → Bool) → ((ℕ → List ℕ) → Bool) → (ℕ → List Piece) → Bool → Type 0
 Selects equation selects taken broken = broken ≡ false → (rest : ℕ → List ℕ) → equation (completion taken rest) ≡ selects rest
+
+-- what a machine is to its callers
+pub record State : Type 0 where
+  pub takes : ℕ → Bool
+  pub puts : ℕ → Bool
+  pub broken : Bool
+  pub due : (ℕ → List ℕ) → ℕ → List ℕ
+  pub selects : (ℕ → List ℕ) → Bool
+
+-- nothing follows these pieces
+abbrev pub are_closed : List Piece → Bool
+are_closed [] = false
+are_closed (piece ∷ pieces) = closes piece || are_closed pieces
+
+-- the ports that were open are so until a piece closes them
+abbrev pub StayOpen : (ℕ → Bool) → (ℕ → Bool) → (ℕ → List Piece) → Type 0
+StayOpen start now pieces = (port : ℕ) → now port ≡ (start port && not (are_closed (pieces port)))
+
+-- a machine has come from one state to another by taking and putting these pieces
+pub record Run (start now : State) (taken put : ℕ → List Piece) : Type 0 where
+  pub texts : Ran start.due now.due taken put now.broken
+  pub selection : Selects start.selects now.selects taken now.broken
+  pub ins : StayOpen start.takes now.takes taken
+  pub outs : StayOpen start.puts now.puts put
+  -- where it isn't broken, what closes an out is its end
+  pub honest : now.broken ≡ false → (port : ℕ) → are_closed (put port) ≡ has_end (put port)
+
+-- what has come of a machine that has stopped
+pub record Stopped (start now : State) (taken put : ℕ → List Piece) : Type 0 where
+  pub ins : (port : ℕ) → start.takes port ≡ true → are_closed (taken port) ≡ true
+  pub outs : (port : ℕ) → start.puts port ≡ true → are_closed (put port) ≡ true
+  -- where it isn't broken, each out has its end, behind the text of its equation
+  pub ended : now.broken ≡ false → (port : ℕ) → start.puts port ≡ true → has_end (put port) ≡ true
+  pub texts : now.broken ≡ false → (port : ℕ) → start.puts port ≡ true → (rest : ℕ → List ℕ) → start.due (completion taken rest) port ≡ text_of (put port)
+  pub selection : now.broken ≡ false → (rest : ℕ → List ℕ) → start.selects (completion taken rest) ≡ now.selects rest

@@ -1,8 +1,10 @@
 //! A machine for tests, which hands the text of its one in on to its one out.
 ghost use Rattle.std.specs.Prelude.{◌≡◌, true, false, is_some};
 
+use crate::laws::{a_run_begins, a_stop_ends_a_run};
 use crate::machines::Machine;
 use crate::pieces::{Act, Bytes, Piece};
+use crate::runs::{put_piece, take_piece};
 use ps_lines::Memory;
 use std::alloc::Global;
 use std::test::Fail;
@@ -21,8 +23,12 @@ pub struct HandOn {
 }
 
 impl HandOn {
+    ghost use Rattle.std.specs.Prelude.{◌≡◌, false};
+
     /// The machine before its first piece.
-    pub fn new() -> HandOn {
+    pub fn new() -> HandOn
+        ensures { ⟦<HandOn as Machine>⟧.broken result ≡ false }
+    {
         HandOn {
             held: None,
             taking: true,
@@ -101,16 +107,19 @@ fn step<M: Machine>(
         Act::Take(_) => {
             match input.pop() {
                 None | Some(Piece::Mark) => return Ok(false),
-                Some(piece) => machine.take(piece)?,
+                Some(piece) => take_piece(machine, piece)?,
             }
             Ok(true)
         }
         Act::Put(_) => {
-            let piece = machine.put()?;
+            let piece = put_piece(machine)?;
             output.push(piece)?;
             Ok(true)
         }
-        Act::Stop => Ok(false),
+        Act::Stop => {
+            a_stop_ends_a_run(machine);
+            Ok(false)
+        }
     }
 }
 
@@ -128,6 +137,7 @@ fn show(piece: &Piece, text: &mut Vec<u8>) -> Result<(), Memory> {
 /// What a machine puts for these pieces, the last of them first.
 fn put_for(alloc: Global, input: Vec<Piece>) -> Result<Vec<u8>, Memory> {
     let mut machine = HandOn::new();
+    a_run_begins(&machine);
     let mut left = input;
     let mut output = Vec::new(alloc);
     for _ in 0..12 {

@@ -18,6 +18,7 @@ mod makers;
 mod paths;
 mod pieces;
 mod ports;
+mod runs;
 mod status;
 #[cfg(test)]
 mod tests;
@@ -27,4 +28,5 @@ pub use graphs::{Graph, Node, StatusRule};
 pub use kinds::{From, NodeKind, To};
 pub use machines::Machine;
 pub use pieces::{Act, Bytes, MAX_PIECE, Piece};
+pub use runs::{put_piece, take_piece};
 pub use validity::validate;

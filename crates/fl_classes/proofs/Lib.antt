@@ -1,2 +1,3 @@
 pub mod ClassLemmas
 pub mod PartLemmas
+pub mod FlowLemmas

@@ -1,6 +1,6 @@
 -- The flow of a graph (own): each edge has its text by the equation of the node that gives it, taken in the order of the nodes; and what
 -- the graph leaves. No machine and no piece is in it.
-use Rattle.std.specs.Prelude.{ℕ, ◌+◌, List, [], ◌∷◌, ◌++◌, Bool, true, false, if◌then◌else◌, get_or}
+use Rattle.std.specs.Prelude.{◌≡◌, ℕ, ◌+◌, length, map, List, [], ◌∷◌, ◌++◌, Bool, true, false, if◌then◌else◌, get_or}
 use Rattle.std.specs.List.{concat, flat_map, list_any}
 use Rattle.ps_lines.specs.Lines.{closing}
 use Rattle.ps_world.specs.Paths.{Components}
@@ -120,3 +120,9 @@ outcome graph sources =
       files = flat_map to_file (writes (cells graph.nodes.items) sources);
       status = status_by graph.status (selections (cells graph.nodes.items) sources);
     }
+
+-- the texts meet each node's equation
+abbrev pub Solves : List (List ℕ) → List (Cell Placed) → (ℕ → List ℕ) → Type 0
+Solves sources [] texts = Unit {0}
+Solves sources (cell ∷ others) texts =
+    (map texts cell.outs ≡ equation sources cell.kind (length cell.outs) (map texts cell.ins)) × Solves sources others texts

@@ -1,5 +1,5 @@
 //! What each class says of its commands, in laws: each is the contract of a function that does nothing.
-#![tactic(auto, using(crate::proofs::ClassLemmas::class_laws, crate::proofs::PartLemmas::part_laws))]
+#![tactic(auto, using(crate::proofs::ClassLemmas::class_laws, crate::proofs::PartLemmas::part_laws, crate::proofs::FlowLemmas::flow_laws))]
 
 ghost use Rattle.std.specs.Prelude.{◌≡◌, ◌<◌, ℕ, List, length, true};
 ghost use Rattle.std.specs.List.{concat};
@@ -8,8 +8,14 @@ ghost use Rattle.ut_args.specs.declared.invocations.Inv.TheVariants as inv;
 ghost use Rattle.ut_args.specs.declared.invocations.CatInv.{CatInv};
 ghost use Rattle.ut_args.specs.declared.invocations.GrepInv.{GrepInv};
 ghost use Rattle.ut_args.specs.declared.invocations.WcInv.{WcInv};
+ghost use Rattle.fl_graph.specs.Cells.{cells};
+ghost use Rattle.fl_graph.specs.Net.{gives};
+ghost use Rattle.fl_graph.specs.Valid.{Valid};
+ghost use Rattle.fl_classes.specs.Flow.{flow, placed, Solves};
 ghost use Rattle.fl_classes.specs.Parts.{parts_of};
 ghost use Rattle.fl_classes.specs.Laws.{IsParallel, IsStatelessInBytes, IsStatelessInLines, KeepsClosed};
+
+use fl_graph::Graph;
 
 /// `cat` may be cut between any two bytes.
 pub fn cat_is_stateless_in_bytes()
@@ -33,4 +39,11 @@ pub fn parts_cut_the_text_at_ends_of_lines()
     ensures count { (text : List ℕ) (parts : ℕ) → length (parts_of text parts) ≡ parts }
     ensures joined { (text : List ℕ) (parts : ℕ) → 0 < parts → concat (parts_of text parts) ≡ text }
     ensures cut { (text : List ℕ) (parts : ℕ) → 0 < parts → is_cutlist (parts_of text parts) ≡ true }
+{}
+
+/// The flow of a valid graph is the only assignment of texts to its edges that meets the equation of each node.
+pub fn every_solution_is_the_flow(graph: &Graph)
+    requires { Valid (cells graph.now.nodes.items) graph.now.status }
+    ensures { (sources : List (List ℕ)) (texts : ℕ → List ℕ) → Solves sources (placed (cells graph.now.nodes.items)) texts →
+        (edge : ℕ) → edge < length (gives (cells graph.now.nodes.items)) → flow (cells graph.now.nodes.items) sources edge ≡ texts edge }
 {}

@@ -1,7 +1,7 @@
 -- One item more in brackets.
-use Rattle.std.proofs.Common.{ℕ, ◌≡◌, ◌<◌, Bool, true, false, ◌||◌, List, [], ◌∷◌, Some, None, refl, ◌∙◌, ap, sym}
+use Rattle.std.proofs.Common.{ℕ, ◌≡◌, ◌<◌, Bool, true, false, ◌||◌, List, ◌∷◌, Some, None, refl, ◌∙◌, ap}
 use Rattle.ut_regex.specs.declared.brackets.Item.{Item}
-use Rattle.ut_regex.specs.Brackets.{begins_with, holds, lists, item, IsItems, no_item, next_item, IsNoItems, bad_item, later_item, IsListing, IsNoListing}
+use Rattle.ut_regex.specs.Brackets.{begins_with, holds, lists, item, IsItems, next_item, IsNoItems, bad_item, later_item, IsListing, IsNoListing}
 
 or_swap : (a b c : Bool) → (a || (b || c)) ≡ ((b || a) || c)
 or_swap true true c = refl

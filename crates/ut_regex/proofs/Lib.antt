@@ -7,3 +7,10 @@ pub mod ScanLemmas
 pub mod BracketLemmas
 pub mod NumberLemmas
 pub mod ReadingLemmas
+pub mod GrowthLemmas
+pub mod NextLemmas
+pub mod SpellingLemmas
+pub mod SizeLemmas
+pub mod UniqueLemmas
+pub mod SameLemmas
+pub mod OneReadingLemmas

@@ -16,3 +16,6 @@ with_nodes-take nodes place node is h =
     ∙ ap (λ front. with_nodes [] front) (take-suc nodes place node h)
     ∙ with_nodes-append [] (take place nodes) (get_or nodes place node ∷ [])
     ∙ ap (λ one. with_node (with_nodes [] (take place nodes)) one) (sym is)
+
+pub with_nodes_one : (front : List Node) (node : Node) → with_nodes [] (front ++ node ∷ []) ≡ with_node (with_nodes [] front) node
+with_nodes_one front node = with_nodes-append [] front (node ∷ [])

@@ -1,5 +1,5 @@
 -- Bracket expressions (XBD 9.3.5). What is listed is read from the left.
-use Rattle.std.specs.Prelude.{ℕ, ◌≡◌, ◌<◌, ◌==◌, ◌&&◌, ◌||◌, not, nat_le, Bool, true, false, List, [], ◌∷◌, Option, Some, None, IsTrue, if◌then◌else◌, codes, drop, take, position, nat_eq, ◌+◌, ◌⊎◌}
+use Rattle.std.specs.Prelude.{ℕ, ◌≡◌, ◌<◌, ◌==◌, ◌&&◌, ◌||◌, not, nat_le, Bool, false, List, [], ◌∷◌, Option, Some, None, if◌then◌else◌, codes, drop, take, position, nat_eq, ◌+◌, ◌⊎◌}
 use Rattle.std.specs.Cmp.Lexicographic.{pointwise}
 use Rattle.ps_lines.specs.ByteSet.{has_byte}
 use Rattle.ut_regex.specs.declared.brackets.Class.{Class}

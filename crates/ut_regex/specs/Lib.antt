@@ -7,4 +7,9 @@ pub mod Seeks
 pub mod Brackets
 pub mod Intervals
 pub mod Pieces
+pub mod Grammar
+pub mod Sizes
+pub mod Building
 pub mod Reading
+pub mod Same
+pub mod OneReading

@@ -1,8 +1,7 @@
 -- The pieces of a text (XBD 9.3, 9.4): what each byte is where it stands.
-use Rattle.std.specs.Prelude.{ℕ, ◌≡◌, ◌==◌, ◌&&◌, ◌||◌, ◌⊎◌, not, cond, Bool, true, false, List, [], ◌∷◌, Option, Some, None, if◌then◌else◌}
+use Rattle.std.specs.Prelude.{ℕ, ◌≡◌, ◌==◌, ◌&&◌, ◌||◌, ◌⊎◌, cond, Bool, true, false, List, [], ◌∷◌, Option, Some, None, if◌then◌else◌}
 use Rattle.ut_regex.specs.declared.fault.ReFault.{ReFault}
 use Rattle.ut_regex.specs.declared.fault.ReFault.TheVariants.{NotARegex, BackReference}
-use Rattle.ut_regex.specs.declared.tree.Leaf.{Leaf}
 use Rattle.ut_regex.specs.declared.tree.Leaf.TheVariants.{Byte, Any, Among, NotAmong}
 use Rattle.ut_regex.specs.declared.pieces.Before.{Before}
 use Rattle.ut_regex.specs.declared.pieces.Before.TheVariants as before

@@ -1,12 +1,15 @@
 -- Which texts are expressions, and the first fault of the others (XBD 9.3, 9.4).
 use Rattle.std.specs.Prelude.{ℕ, ◌≡◌, ◌+◌, ◌-◌, ◌==◌, ◌&&◌, nat_lt, not, Bool, true, false, List, [], ◌∷◌}
 use Rattle.ut_regex.specs.declared.fault.ReFault.{ReFault}
-use Rattle.ut_regex.specs.declared.fault.ReFault.TheVariants.{NotARegex}
+use Rattle.ut_regex.specs.declared.fault.ReFault.TheVariants.{NotARegex, BackReference, RepeatTooLarge, TooLarge, Memory}
 use Rattle.ut_regex.specs.declared.pieces.Before.{Before}
 use Rattle.ut_regex.specs.declared.pieces.Before.TheVariants as before
 use Rattle.ut_regex.specs.declared.pieces.Piece.{Piece}
 use Rattle.ut_regex.specs.declared.pieces.Piece.TheVariants as piece
+use Rattle.ut_regex.specs.Tree.{Tree}
 use Rattle.ut_regex.specs.Pieces.{next, IsPiece, IsNoPiece}
+use Rattle.ut_regex.specs.Grammar.{IsSides}
+use Rattle.ut_regex.specs.Sizes.{IsTooLarge}
 
 -- what a piece is for the one behind it
 abbrev pub leaves : Piece → Before
@@ -56,10 +59,22 @@ pub data HasFault (basic : Bool) : Before → ℕ → List ℕ → ReFault → T
       → IsPiece basic (next basic last (nat_lt 0 depth) text) one rest → HasFault basic (leaves one) (depth_behind depth one) rest fault
       → HasFault basic last depth text fault
 
--- the text is a basic or an extended expression
-abbrev pub Reads : Bool → List ℕ → Type 0
-Reads basic text = (pieces : List Piece) × IsExpression basic before.Start 0 text pieces
+-- the text is a basic or an extended expression, and this is its tree
+abbrev pub Reads : Bool → List ℕ → Tree → Type 0
+Reads basic text re = (pieces : List Piece) × IsExpression basic before.Start 0 text pieces × IsSides pieces re
+
+-- the text is an expression
+abbrev pub IsRead : Bool → List ℕ → Type 0
+IsRead basic text = (re : Tree) × Reads basic text re
 
 -- the text's first fault
 abbrev pub Faults : Bool → List ℕ → ReFault → Type 0
 Faults basic text fault = HasFault basic before.Start 0 text fault
+
+-- why the text isn't read: its first fault, or that it is an expression that is too large. An expression alone wants memory
+abbrev pub Refuses : Bool → List ℕ → ReFault → Type 0
+Refuses basic text NotARegex = Faults basic text NotARegex
+Refuses basic text BackReference = Faults basic text BackReference
+Refuses basic text RepeatTooLarge = Faults basic text RepeatTooLarge
+Refuses basic text TooLarge = (re : Tree) × Reads basic text re × IsTooLarge re
+Refuses basic text Memory = IsRead basic text

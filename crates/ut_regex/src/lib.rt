@@ -1,19 +1,26 @@
 //! Regular expressions of POSIX, and a matcher whose time is linear in the line (XBD 9).
 //!
-//! An expression is a tree, kept in postfix; `specs/Spans.antt` says which places of a line it spans, and which lines have
-//! it. `compile` makes a matcher of an expression, and `Matcher::has` answers whether a line has it. The matcher carries a
-//! set of places along the line, so no expression makes it go back, and it takes no memory for a line.
+//! `read_bre` and `read_ere` read a text as a basic or an extended expression, or tell its first fault. `compile` makes a
+//! matcher of an expression, and `Matcher::has` answers whether a line has it. The matcher carries a set of places along the
+//! line, so no expression makes it go back, and it takes no memory for a line.
+//!
+//! `specs/Spans.antt` says which places of a line an expression spans, and which lines have it; `specs/Reading.antt` says
+//! which texts are expressions, of which tree, and what the first fault of the others is; `specs/Sizes.antt` says which
+//! expressions are too large.
 #![tactic(auto)]
 
 mod bits;
 mod brackets;
+mod building;
 mod expansion;
 mod fault;
 mod intervals;
+pub mod laws;
 mod matcher;
 mod pieces;
 mod program;
 mod reading;
+mod sizes;
 mod sweep;
 #[cfg(test)]
 mod tests;
@@ -22,5 +29,6 @@ mod tree;
 pub use expansion::compile;
 pub use fault::ReFault;
 pub use matcher::Matcher;
-pub use reading::{bre_fault, ere_fault};
-pub use tree::{Bounds, Leaf, Node, Regex};
+pub use reading::{read_bre, read_ere};
+pub use sizes::{MAX_NESTING, MAX_PLACES};
+pub use tree::Regex;

@@ -6,7 +6,7 @@ use ps_lines::ByteSet;
 
 /// What one byte of a line has to be.
 #[derive(Clone, Copy, Debug, PartialEq, Eq)]
-pub enum Leaf {
+pub(crate) enum Leaf {
     /// This byte.
     Byte(u8),
     /// Any byte.
@@ -19,7 +19,7 @@ pub enum Leaf {
 
 /// How often the repeated expression may stand: from `low` times up to `high` times, or without a limit.
 #[derive(Clone, Copy, Debug, PartialEq, Eq)]
-pub struct Bounds {
+pub(crate) struct Bounds {
     pub low: u8,
     pub high: Option<u8>,
     ghost ordered: { ForSome high (λ most. low ≤ most) },
@@ -27,7 +27,7 @@ pub struct Bounds {
 
 /// A node of an expression. It stands after its parts.
 #[derive(Clone, Copy, Debug, PartialEq, Eq)]
-pub enum Node {
+pub(crate) enum Node {
     /// One byte.
     Leaf(Leaf),
     /// The line's beginning.
@@ -49,5 +49,5 @@ pub enum Node {
 /// An expression: its nodes in postfix, so that no walk over it has to go deep.
 #[derive(Debug, Drop)]
 pub struct Regex {
-    pub nodes: Vec<Node>,
+    pub(crate) nodes: Vec<Node>,
 }

@@ -1,4 +1,4 @@
-use Rattle.std.proofs.Common.{◌≡◌, ℕ, ◌≤◌, min, length}
+use Rattle.std.proofs.Common.{◌≡◌, ◌≤◌, min, length}
 use Rattle.ut_regex.specs.Intervals.{number_from, behind_digits}
 use Rattle.ut_regex.proofs.intervals.read_number.Given as goal
 

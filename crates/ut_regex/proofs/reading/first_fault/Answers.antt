@@ -1,5 +1,5 @@
 use Rattle.std.proofs.Common.{◌∙◌, ◌∷◌, [], sym, arith}
-use Rattle.ut_regex.proofs.ReadingLemmas.{read_on, fault_on, fault_here, ends_there, unfinished_there}
+use Rattle.ut_regex.proofs.ReadingLemmas.{read_on, fault_on, fault_here, ends_there, unfinished_there, pieces_read}
 use Rattle.ut_regex.proofs.reading.first_fault.Goals as goal
 
 pub pieces-preserved : goal.pieces-preserved
@@ -24,8 +24,9 @@ returns-in-Err-clause-fault c =
 pub returns-then-ends_here-clause-none : goal.returns-then-ends_here-clause-none
 returns-then-ends_here-clause-none c =
     let l = c.pieces in
-    l.invariant.read []
-    (ends_there c.args.basic l.before l.depth l.left.now (sym c.is_empty.ensures ∙ c.pieces-test.false) (sym c.ends_here.ensures ∙ c.if-ends_here.true))
+    let whole = l.invariant.read []
+    (ends_there c.args.basic l.before l.depth l.left.now (sym c.is_empty.ensures ∙ c.pieces-test.false) (sym c.ends_here.ensures ∙ c.if-ends_here.true)) in
+    pieces_read c.args.basic c.args.text.now whole.0 whole.1
 
 pub returns-else-ends_here-clause-fault : goal.returns-else-ends_here-clause-fault
 returns-else-ends_here-clause-fault c =

@@ -1,12 +1,14 @@
 use Rattle.std.proofs.Common.{◌+◌, ◌≤◌, List, length}
 use Rattle.ut_regex.specs.declared.fault.ReFault.{ReFault}
 use Rattle.ut_regex.specs.declared.pieces.Piece.{Piece}
-use Rattle.ut_regex.specs.Reading.{IsExpression, HasFault, Reads, Faults}
+use Rattle.ut_regex.specs.Reading.{IsExpression, HasFault, Faults}
+use Rattle.ut_regex.specs.declared.pieces.Before.TheVariants as before
 use Rattle.ut_regex.proofs.reading.first_fault.Given as goal
 
 abbrev pub invariant-pieces : goal.invariant-pieces
 invariant-pieces l = record {
-  read : (pieces : List Piece) → IsExpression l.basic l.before l.depth l.left pieces → Reads l.basic l.text;
+  read : (pieces : List Piece) → IsExpression l.basic l.before l.depth l.left pieces
+      → (whole : List Piece) × IsExpression l.basic before.Start 0 l.text whole;
   fault : (fault : ReFault) → HasFault l.basic l.before l.depth l.left fault → Faults l.basic l.text fault;
   shallow : l.depth + length l.left ≤ length l.text;
 }

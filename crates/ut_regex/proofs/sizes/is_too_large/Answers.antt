@@ -1,0 +1,9 @@
+use Rattle.std.proofs.Common.{◌∙◌, ap, sym}
+use Rattle.ut_regex.specs.Sizes.{sizes_of}
+use Rattle.ut_regex.proofs.NodeLemmas.{with_nodes-take}
+use Rattle.ut_regex.proofs.sizes.is_too_large.Goals as goal
+
+pub loop-node-preserved : goal.loop-node-preserved
+loop-node-preserved c =
+    c.in_ok-add_node.ensures _ c.loop-node.invariant
+    ∙ ap sizes_of (sym (with_nodes-take c.args.nodes.now c.loop-node.node-index c.node-item.result c.node-item.is c.loop-node-test.true))

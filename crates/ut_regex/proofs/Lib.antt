@@ -14,3 +14,6 @@ pub mod SizeLemmas
 pub mod UniqueLemmas
 pub mod SameLemmas
 pub mod OneReadingLemmas
+pub mod TableLemmas
+pub mod RunLemmas
+pub mod TwinLemmas

@@ -4,6 +4,9 @@ pub mod Program
 pub mod Sweeps
 pub mod Held
 pub mod Seeks
+pub mod Tables
+pub mod Twins
+pub mod Finds
 pub mod Brackets
 pub mod Intervals
 pub mod Pieces

@@ -1,19 +1,19 @@
--- What a matcher is made for.
+-- What a machine is made for.
 use Rattle.std.specs.Prelude.{ℕ, ◌≡◌, Bool, ◌&&◌, ◌||◌, List, [], ◌∷◌, reverse}
-use Rattle.ut_regex.specs.declared.matcher.Matcher.{Matcher}
+use Rattle.ut_regex.specs.declared.machine.Machine.{Machine}
 use Rattle.ut_regex.specs.declared.program.Op.{Op}
 use Rattle.ut_regex.specs.Tree.{Tree}
 use Rattle.ut_regex.specs.Program.{core, steps}
 use Rattle.ut_regex.specs.Sweeps.{top, below, Rising, risen, sunk}
 
--- the matcher seeks the expression; with `fold` in both cases of letters, with `whole` as the whole line
-pub record Seeks (matcher : Matcher) (fold whole : Bool) (re : Tree) : Type 0 where
-  pub program : matcher.steps.items ≡ steps (core re)
-  pub folds : matcher.fold ≡ fold
-  pub is_whole : matcher.whole ≡ whole
+-- the machine seeks the expression; with `fold` in both cases of letters, with `whole` as the whole line
+pub record Seeks (machine : Machine) (fold whole : Bool) (re : Tree) : Type 0 where
+  pub program : machine.steps.items ≡ steps (core re)
+  pub folds : machine.fold ≡ fold
+  pub is_whole : machine.whole ≡ whole
 
--- a matcher does what it did, whatever its marks are
-pub record Same (old new : Matcher) : Type 0 where
+-- a machine does what it did, whatever its marks are
+pub record Same (old new : Machine) : Type 0 where
   pub steps : new.steps.items ≡ old.steps.items
   pub fold : new.fold ≡ old.fold
   pub whole : new.whole ≡ old.whole

@@ -1,5 +1,5 @@
 //! Stacks of bits that take no memory once they are made.
-ghost use Rattle.std.specs.Prelude.{◌≡◌, ◌∷◌, [], ◌≤◌, ◌<◌, length, IfOk};
+ghost use Rattle.std.specs.Prelude.{◌≡◌, ◌∷◌, [], ◌≤◌, ◌<◌, length, reverse, IfOk, OnOk};
 ghost use Rattle.ut_regex.specs.Sweeps.{top, below};
 
 use std::alloc::{AllocError, Global};
@@ -50,5 +50,21 @@ impl Bits {
         ensures rest { self.new ≡ record { bits = below self.old.bits; capacity = self.old.capacity } }
     {
         self.items.pop().unwrap_or(false)
+    }
+
+    /// Has these bits, of which the last is on top. It takes memory only where there are more of them than room.
+    pub(crate) fn load(&mut self, bits: &[bool]) -> Result<(), AllocError>
+        ensures bits { OnOk result (self.new.bits ≡ reverse bits.now) }
+        ensures room { self.old.capacity ≤ self.new.capacity }
+    {
+        self.items.clear();
+        self.items.extend_from_slice(bits)
+    }
+
+    /// The bits, of which the last is on top.
+    pub(crate) fn copy(&self, alloc: Global) -> Result<Vec<bool>, AllocError>
+        ensures { IfOk result (λ copy. reverse copy.items ≡ self.now.bits) }
+    {
+        Vec::from_slice(alloc, &self.items)
     }
 }

@@ -1,26 +1,14 @@
-//! The program of an expression, and its matcher.
+//! The program of an expression.
 ghost use Rattle.std.specs.Prelude.{◌≡◌, ℕ, List, [], ◌∷◌, ◌++◌, IfOk, OnOk};
-ghost use Rattle.ut_regex.specs.Seeks.{Seeks};
-ghost use Rattle.ut_regex.specs.Tree.{tree, Tree, last_tree, trees_before, with_node, with_nodes};
+ghost use Rattle.ut_regex.specs.Tree.{Tree, last_tree, trees_before, with_node, with_nodes};
 ghost use Rattle.ut_regex.specs.Program.{Core, core, copies, options, repeated, steps, parts_of, programs};
 
-use crate::matcher::Matcher;
 use crate::program::Op;
-use crate::tree::{Bounds, Node, Regex};
-use ps_lines::Memory;
+use crate::tree::{Bounds, Node};
 use std::alloc::{AllocError, Global};
 
-/// A matcher for an expression: with `fold` letters are compared in both cases, and with `whole` the expression has to be
-/// the whole line.
-pub fn compile(alloc: Global, re: &Regex, fold: bool, whole: bool) -> Result<Matcher, Memory>
-    ensures { IfOk result (λ matcher. Seeks matcher fold whole (tree re.now)) }
-{
-    let steps = program_of(alloc, &re.nodes)?;
-    Ok(Matcher::running(alloc, steps, fold, whole)?)
-}
-
 /// The steps of the expression that the nodes make.
-fn program_of(alloc: Global, nodes: &[Node]) -> Result<Vec<Op>, AllocError>
+pub(crate) fn program_of(alloc: Global, nodes: &[Node]) -> Result<Vec<Op>, AllocError>
     ensures { IfOk result (λ made. made.items ≡ steps (core (last_tree (with_nodes [] nodes.now)))) }
 {
     let mut parts = Vec::new(alloc);

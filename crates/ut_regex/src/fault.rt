@@ -18,6 +18,11 @@ pub enum ReFault {
 }
 
 impl From<AllocError> for ReFault {
+    ghost use Rattle.std.specs.Prelude.{◌≡◌};
+    ghost use Rattle.ut_regex.specs.declared.fault.ReFault.TheVariants as fault;
+
+    ghost from_gives = { λ _ told. told ≡ fault.Memory };
+
     fn from(_refused: AllocError) -> ReFault {
         ReFault::Memory
     }

@@ -16,19 +16,21 @@ mod expansion;
 mod fault;
 mod intervals;
 pub mod laws;
+mod machine;
 mod matcher;
 mod pieces;
 mod program;
 mod reading;
 mod sizes;
 mod sweep;
+mod table;
 #[cfg(test)]
 mod tests;
 mod tree;
+mod twins;
 
-pub use expansion::compile;
 pub use fault::ReFault;
-pub use matcher::Matcher;
+pub use matcher::{Matcher, compile};
 pub use reading::{read_bre, read_ere};
 pub use sizes::{MAX_NESTING, MAX_PLACES};
 pub use tree::Regex;

@@ -1,118 +1,47 @@
 //! The matcher.
-ghost use Rattle.std.specs.Prelude.{◌≡◌, ◌+◌, ◌*◌, ◌≤◌, ◌↔◌, ◌||◌, Bool, IfOk, IsTrue, not, vec_len};
+ghost use Rattle.std.specs.Prelude.{IfOk};
+ghost use Rattle.ut_regex.specs.Finds.{Finds};
+ghost use Rattle.ut_regex.specs.Tree.{tree};
 
-use crate::bits::Bits;
-use crate::program::Op;
-use crate::sweep::{sweep_back, sweep_up};
-use std::alloc::{AllocError, Global};
+use crate::expansion::program_of;
+use crate::machine::Machine;
+use crate::table::{Table, table_of};
+use crate::tree::Regex;
+use ps_lines::Memory;
+use std::alloc::Global;
 
-/// Seeks one expression in lines. It carries along the line which bytes of the expression may have been the last one
-/// read, and goes over the expression twice for each byte.
+/// Seeks one expression in lines. Where the machine has few states a table of them answers, and else the machine itself.
 #[derive(Drop)]
 pub struct Matcher {
-    steps: Vec<Op>,
-    fold: bool,
-    whole: bool,
-    values: Bits,
-    kept: Bits,
-    entries: Bits,
-    marks: Bits,
-    ghost values_room: { 2 * vec_len steps + 2 ≤ values.capacity },
-    ghost kept_room: { 2 * vec_len steps + 2 ≤ kept.capacity },
-    ghost entries_room: { 2 * vec_len steps + 2 ≤ entries.capacity },
-    ghost marks_room: { 2 * vec_len steps + 2 ≤ marks.capacity },
+    machine: Machine,
+    table: Option<Table>,
+}
+
+/// A matcher for an expression: with `fold` letters are compared in both cases, and with `whole` the expression has to be
+/// the whole line.
+pub fn compile(alloc: Global, re: &Regex, fold: bool, whole: bool) -> Result<Matcher, Memory>
+    ensures { IfOk result (λ matcher. Finds matcher fold whole (tree re.now)) }
+{
+    let steps = program_of(alloc, &re.nodes)?;
+    let mut machine = Machine::running(alloc, steps, fold, whole)?;
+    let table = table_of(alloc, &mut machine)?;
+    Ok(Matcher { machine, table })
 }
 
 impl Matcher {
-    ghost use Rattle.ut_regex.specs.Seeks.{Seeks, Same, swept, leads_on, marked};
+    ghost use Rattle.std.specs.Prelude.{◌↔◌, Bool, IsTrue};
+    ghost use Rattle.ut_regex.specs.Finds.{Finds, Stays};
     ghost use Rattle.ut_regex.specs.Spans.{Has};
     ghost use Rattle.ut_regex.specs.Tree.{Tree};
 
-    /// A matcher that runs a program.
-    pub(crate) fn running(
-        alloc: Global,
-        steps: Vec<Op>,
-        fold: bool,
-        whole: bool,
-    ) -> Result<Matcher, AllocError>
-        ensures { IfOk result (λ matcher. (matcher.steps.items ≡ steps.items) × (matcher.fold ≡ fold) × (matcher.whole ≡ whole)) }
-    {
-        let room = match steps
-            .len()
-            .checked_mul(2)
-            .and_then(|twice| twice.checked_add(2))
-        {
-            Some(room) => room,
-            None => return Err(AllocError),
-        };
-        let values = Bits::with_capacity(alloc, room)?;
-        let kept = Bits::with_capacity(alloc, room)?;
-        let entries = Bits::with_capacity(alloc, room)?;
-        let marks = Bits::with_capacity(alloc, room)?;
-        Ok(Matcher {
-            steps,
-            fold,
-            whole,
-            values,
-            kept,
-            entries,
-            marks,
-        })
-    }
-
     /// Whether the line has the expression. It takes no memory, and ends at the first place where the answer is known.
     pub fn has(&mut self, line: &[u8]) -> bool
-        ensures has { (fold whole : Bool) (re : Tree) → Seeks self.old fold whole re → (IsTrue result ↔ Has fold whole line.now re) }
-        ensures same { Same self.old self.new }
+        ensures has { (fold whole : Bool) (re : Tree) → Finds self.old fold whole re → (IsTrue result ↔ Has fold whole line.now re) }
+        ensures stays { Stays self.old self.new }
     {
-        self.marks.clear();
-        for (place, byte) in line.iter().enumerate() {
-            let led = self.leads_on(place == 0, false);
-            if led && !self.whole {
-                return true;
-            }
-            self.read(place == 0, *byte);
+        match &self.table {
+            Some(table) => table.has(line),
+            None => self.machine.has(line),
         }
-        self.leads_on(line.is_empty(), true)
-    }
-
-    /// Whether the expression may end at a place that is or isn't the line's beginning and end. What is kept of the marks
-    /// is enough to read the next byte.
-    fn leads_on(&mut self, begins: bool, ends: bool) -> bool
-        ensures leads { result ≡ leads_on (begins || not self.old.whole) (swept begins ends self.old.steps.items self.old.marks.bits) }
-        ensures kept { self.new.kept.bits ≡ (swept begins ends self.old.steps.items self.old.marks.bits).kept }
-        ensures same { Same self.old self.new }
-    {
-        self.values.clear();
-        self.kept.clear();
-        sweep_up(
-            &self.steps,
-            begins,
-            ends,
-            &mut self.values,
-            &mut self.marks,
-            &mut self.kept,
-        );
-        let skips = self.values.pop();
-        let closes = self.values.pop();
-        closes || (skips && (begins || !self.whole))
-    }
-
-    /// Reads the next byte, at a place that is or isn't the line's beginning.
-    fn read(&mut self, begins: bool, byte: u8)
-        ensures marks { self.new.marks.bits ≡ marked self.old.fold byte (begins || not self.old.whole) self.old.steps.items self.old.kept.bits }
-        ensures same { Same self.old self.new }
-    {
-        self.entries.clear();
-        self.entries.push(begins || !self.whole);
-        self.marks.clear();
-        sweep_back(
-            &self.steps,
-            self.fold,
-            byte,
-            &mut self.entries,
-            &mut self.kept,
-            &mut self.marks,
-        );
     }
 }

@@ -1,5 +1,7 @@
 //! Expressions and lines: by the standard's text, and as GNU grep answers where the rule isn't our own.
 
+use crate::expansion::program_of;
+use crate::machine::Machine;
 use crate::{MAX_PLACES, ReFault, compile, read_bre, read_ere};
 use std::alloc::Global;
 use std::test::Fail;
@@ -9,13 +11,15 @@ use std::test::Fail;
 enum Answer {
     Has,
     Lacks,
+    /// The matcher and its machine don't agree.
+    Differs,
     Refused(ReFault),
 }
 
 use crate::ReFault::{BackReference, NotARegex, RepeatTooLarge, TooLarge};
-use Answer::{Has, Lacks, Refused};
+use Answer::{Differs, Has, Lacks, Refused};
 
-/// What is answered with these options: `i` for both cases, `x` for the whole line.
+/// What the matcher and its machine answer with these options: `i` for both cases, `x` for the whole line.
 fn told_of(
     alloc: Global,
     basic: bool,
@@ -35,7 +39,12 @@ fn told_of(
     let fold = options == "i" || options == "ix";
     let whole = options == "x" || options == "ix";
     let mut matcher = compile(alloc, &re, fold, whole)?;
-    Ok(if matcher.has(line) { Has } else { Lacks })
+    let mut machine = Machine::running(alloc, program_of(alloc, &re.nodes)?, fold, whole)?;
+    match (matcher.has(line), machine.has(line)) {
+        (true, true) => Ok(Has),
+        (false, false) => Ok(Lacks),
+        (_, _) => Ok(Differs),
+    }
 }
 
 #[test]

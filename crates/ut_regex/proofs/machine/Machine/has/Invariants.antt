@@ -2,7 +2,7 @@ use Rattle.std.proofs.Common.{Bool}
 use Rattle.ut_regex.specs.Seeks.{Seeks, Same}
 use Rattle.ut_regex.specs.Tree.{Tree}
 use Rattle.ut_regex.proofs.ScanLemmas.{Scanned}
-use Rattle.ut_regex.proofs.matcher.Matcher.has.Given as goal
+use Rattle.ut_regex.proofs.machine.Machine.has.Given as goal
 
 abbrev pub invariant-loop-place : goal.invariant-loop-place
 invariant-loop-place l = record {

@@ -1,0 +1,16 @@
+-- What a matcher is made for.
+use Rattle.std.specs.Prelude.{◌≡◌, Bool, IfSome}
+use Rattle.ut_regex.specs.declared.matcher.Matcher.{Matcher}
+use Rattle.ut_regex.specs.Tree.{Tree}
+use Rattle.ut_regex.specs.Seeks.{Seeks, Same}
+use Rattle.ut_regex.specs.Tables.{IsMade}
+
+-- the matcher finds the expression; with `fold` in both cases of letters, with `whole` as the whole line
+pub record Finds (matcher : Matcher) (fold whole : Bool) (re : Tree) : Type 0 where
+  pub seeks : Seeks matcher.machine fold whole re
+  pub table : IfSome matcher.table (λ table. IsMade matcher.machine.steps.items matcher.machine.fold matcher.machine.whole table)
+
+-- a matcher finds what it found
+pub record Stays (old new : Matcher) : Type 0 where
+  pub machine : Same old.machine new.machine
+  pub table : new.table ≡ old.table

@@ -1,7 +1,8 @@
 //! The calls that are timed.
-ghost use Rattle.std.specs.Prelude.{◌≡◌, ◌==◌, ◌≤◌, count_by};
+ghost use Rattle.std.specs.Prelude.{◌≡◌, ◌==◌, ◌≤◌, count_by, length};
 
-use ps_lines::{NEWLINE, next_line};
+use ps_lines::{NEWLINE, cut_line, next_line};
+use ut_regex::Matcher;
 
 /// A call that can be timed.
 #[derive(Clone, Copy, Debug, PartialEq, Eq)]
@@ -14,6 +15,8 @@ pub enum Call {
     ReadAll,
     /// `lex` of a whole script.
     Lex,
+    /// `Matcher::has` of each line of a text, with an expression.
+    Has,
 }
 
 impl Call {
@@ -24,6 +27,7 @@ impl Call {
             "lines" => Some(Call::Lines),
             "read_all" => Some(Call::ReadAll),
             "lex" => Some(Call::Lex),
+            "has" => Some(Call::Has),
             _ => None,
         }
     }
@@ -39,6 +43,21 @@ pub fn count_newlines(text: &[u8]) -> usize
     while let Some(next) = next_line(text, from) {
         count += 1;
         from = next;
+    }
+    count
+}
+
+/// The lines of the text that have what the matcher seeks.
+pub fn count_having(matcher: &mut Matcher, text: &[u8]) -> usize
+    ensures { result ≤ length text.now }
+{
+    let mut count = 0;
+    let mut left = text;
+    while let Some((line, rest)) = cut_line(left) {
+        if matcher.has(line) {
+            count += 1;
+        }
+        left = rest;
     }
     count
 }

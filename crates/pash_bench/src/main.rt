@@ -1,4 +1,5 @@
-//! Times one call of a crate on one file: `pash_bench CALL FILE`, where CALL is `next_line`, `lines`, `read_all` or `lex`.
+//! Times one call of a crate on one file: `pash_bench CALL FILE`, where CALL is `next_line`, `lines`, `read_all` or `lex`, or
+//! `pash_bench has FILE OPTIONS EXPRESSION`.
 //!
 //! What the call finds, a count, goes to the output, and the time of the call alone, in nanoseconds, to the error
 //! output: what a call takes is ready before the clock starts, and what it gives is dropped after the clock stopped.
@@ -24,6 +25,17 @@ fn main(rt: HostRuntime) -> io::Result<()> {
         Call::NextLine => clock::time_next_line(&rt, fs::read(&rt, path)?.as_slice())?,
         Call::Lines => clock::time_lines(&rt, fs::read(&rt, path)?.as_slice())?,
         Call::Lex => clock::time_lex(&rt, fs::read(&rt, path)?.as_slice())?,
+        Call::Has => {
+            let (Some(options), Some(expression)) = (words.next(), words.next()) else {
+                return Err(io::Error::from(ErrorKind::InvalidInput));
+            };
+            clock::time_has(
+                &rt,
+                options.as_str(),
+                expression.as_str(),
+                fs::read(&rt, path)?.as_slice(),
+            )?
+        }
         Call::ReadAll => clock::time_read_all(&rt, fs::open(&rt, path)?)?,
     };
     eprintln!(rt; "{}", timed.nanoseconds)?;

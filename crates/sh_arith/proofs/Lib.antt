@@ -5,3 +5,7 @@ pub mod TreeLemmas
 pub mod SyntaxLemmas
 pub mod ReadLemmas
 pub mod BracketLemmas
+pub mod ParsingLemmas
+pub mod UniqueLemmas
+pub mod InversionLemmas
+pub mod LevelLemmas

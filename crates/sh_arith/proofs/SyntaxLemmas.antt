@@ -9,12 +9,8 @@ use Rattle.sh_arith.specs.declared.syntax.Bracket.TheVariants as bracket
 use Rattle.sh_arith.specs.Tokens.{Token, number, name, mark}
 use Rattle.sh_arith.specs.Trees.{Tree, constant, variable, parenthesized, prefixed, binary, conditional, assignment, level, spelled, IsExpression}
 use Rattle.sh_arith.specs.Syntax.{accepts}
+use Rattle.sh_arith.specs.Parsing.{NotAssigned}
 use Rattle.sh_arith.proofs.TreeLemmas.{operator_bounds}
-
--- no assignment goes on here
-abbrev pub NotAssigned : List Token → Type 0
-NotAssigned [] = Unit {0}
-NotAssigned (token ∷ rest) = token ≡ mark symbol.Assign → ⊥
 
 after_name : (brackets : List Bracket) (rest : List Token) → NotAssigned rest → accepts expected.AfterName brackets rest ≡ accepts expected.AfterOperand brackets rest
 after_name [] [] h = refl

@@ -5,3 +5,5 @@ pub mod Constants
 pub mod Tokens
 pub mod Trees
 pub mod Syntax
+pub mod Levels
+pub mod Parsing

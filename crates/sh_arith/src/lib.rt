@@ -9,7 +9,9 @@
 
 mod constants;
 mod faults;
+mod levels;
 mod operators;
+mod parsing;
 mod syntax;
 #[cfg(test)]
 mod tests;

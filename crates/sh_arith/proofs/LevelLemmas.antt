@@ -10,7 +10,7 @@ use Rattle.sh_arith.specs.Parsing.{GoesBy, IsAny, IsTighter, IsOperand, GoesOn, 
 use Rattle.sh_arith.specs.Levels.{levels, Measures}
 use Rattle.sh_arith.proofs.InversionLemmas.{tighter_begun, on_operated, on_asked}
 
-on_levels : {bound : ℕ} {left tree : Tree} {tokens rest : List Token} → GoesOn bound left tokens tree rest → levels left ≤ levels tree
+pub on_levels : {bound : ℕ} {left tree : Tree} {tokens rest : List Token} → GoesOn bound left tokens tree rest → levels left ≤ levels tree
 on_levels (stopped stops) = omega arith
 on_levels (operated below x m) = omega (arith, on_levels m)
 on_levels (asked below x y m) = omega (arith, on_levels m)

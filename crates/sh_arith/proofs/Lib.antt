@@ -9,3 +9,4 @@ pub mod ParsingLemmas
 pub mod UniqueLemmas
 pub mod InversionLemmas
 pub mod LevelLemmas
+pub mod EvaluationLemmas

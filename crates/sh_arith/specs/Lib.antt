@@ -7,3 +7,5 @@ pub mod Trees
 pub mod Syntax
 pub mod Levels
 pub mod Parsing
+pub mod Values
+pub mod Evaluation

@@ -4,6 +4,10 @@ use Rattle.std.specs.FinMap as variables
 use Rattle.sh_arith.specs.declared.variables.Variable.{Variable}
 use Rattle.sh_arith.specs.Names.{name_cmp}
 
+-- the variables that are set, each with its text
+abbrev pub Variables : Type 0
+Variables = variables.FinMap name_cmp (List ℕ)
+
 -- each variable's name and text
 abbrev pub pairs : List Variable → List (List ℕ × List ℕ)
 pairs = map (λ variable. (variable.name, variable.value))

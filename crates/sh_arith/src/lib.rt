@@ -8,6 +8,7 @@
 #![tactic(auto)]
 
 mod constants;
+mod evaluation;
 mod faults;
 mod levels;
 mod operators;

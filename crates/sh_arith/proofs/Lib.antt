@@ -7,6 +7,7 @@ pub mod ReadLemmas
 pub mod BracketLemmas
 pub mod ParsingLemmas
 pub mod UniqueLemmas
+pub mod OutcomeLemmas
 pub mod InversionLemmas
 pub mod LevelLemmas
 pub mod EvaluationLemmas

@@ -1,4 +1,4 @@
--- Tokens are read as one expression at most, and a text has at most one value.
+-- Tokens are read as one expression at most.
 use Rattle.std.proofs.Common.{◌≡◌, ℕ, List, ◌∷◌, refl, sym, ap, ◌∙◌, subst, arith, Some, Option}
 use Rattle.sh_arith.specs.declared.operators.Prefix.{Prefix}
 use Rattle.sh_arith.specs.Tokens.{Token}

@@ -9,3 +9,4 @@ pub mod Levels
 pub mod Parsing
 pub mod Values
 pub mod Evaluation
+pub mod Arithmetic

@@ -218,10 +218,7 @@ fn skip<'t, 'a>(tokens: &'t [Token<'a>]) -> Result<&'t [Token<'a>], ArithFault>
 }
 
 /// The same where its operators bind tighter than `bound`.
-fn skip_tighter<'t, 'a>(
-    bound: u32,
-    tokens: &'t [Token<'a>],
-) -> Result<&'t [Token<'a>], ArithFault>
+fn skip_tighter<'t, 'a>(bound: u32, tokens: &'t [Token<'a>]) -> Result<&'t [Token<'a>], ArithFault>
     ensures rest { (tree : Tree) (rest : List text.Token) → IsTighter bound (map meaning tokens.now) tree rest → levels tree ≤ MAX_LEVELS
         → MatchResult result (λ left. map meaning left.now ≡ rest) (λ _. ⊥) }
     ensures shorter { IfOk result (λ left. length left.now < length tokens.now) }

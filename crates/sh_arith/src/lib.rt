@@ -7,9 +7,11 @@
 //! `specs/Operators.antt` what the operators compute.
 #![tactic(auto)]
 
+mod arithmetic;
 mod constants;
 mod evaluation;
 mod faults;
+pub mod laws;
 mod levels;
 mod operators;
 mod parsing;
@@ -19,5 +21,7 @@ mod tests;
 mod tokens;
 mod variables;
 
+pub use arithmetic::arith;
 pub use faults::ArithFault;
+pub use levels::MAX_LEVELS;
 pub use variables::Env;

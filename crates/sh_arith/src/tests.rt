@@ -1,5 +1,7 @@
 //! Each call once, with ample memory, and values from outside.
 
+mod values;
+
 use crate::Env;
 use crate::constants::variable_value;
 use crate::operators::{Operator, applied};

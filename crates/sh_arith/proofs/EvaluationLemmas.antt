@@ -1,5 +1,5 @@
 -- What is evaluated of an expression so far, and how its fault is the whole's.
-use Rattle.std.proofs.Common.{◌≡◌, ◌⊎◌, ℕ, ◌+◌, ◌<◌, ◌≤◌, max, List, ◌∷◌, Ok, Err, Result, ℤ, Option, Some, None, Bool, true, false, map, sym, subst, ap, ◌∙◌, refl, inl, inr, arith}
+use Rattle.std.proofs.Common.{◌≡◌, ◌⊎◌, ℕ, ◌≤◌, List, ◌∷◌, Ok, Err, Result, ℤ, Some, sym, subst, ap, ◌∙◌, inl, inr, arith}
 use Rattle.std.specs.Result.{IsErrAnd}
 use Rattle.sh_arith.specs.declared.evaluation.Evaluated.{Evaluated}
 use Rattle.sh_arith.specs.declared.faults.ArithFault.{ArithFault}
@@ -9,7 +9,7 @@ use Rattle.sh_arith.specs.declared.operators.Prefix.{Prefix}
 use Rattle.sh_arith.specs.declared.parsing.Step.TheVariants as step
 use Rattle.sh_arith.specs.declared.tokens.Symbol.{Symbol}
 use Rattle.sh_arith.specs.declared.tokens.Symbol.TheVariants as symbol
-use Rattle.sh_arith.specs.Tokens.{Token, name, mark, meaning}
+use Rattle.sh_arith.specs.Tokens.{Token, name, mark}
 use Rattle.sh_arith.specs.Trees.{Tree, variable, parenthesized, prefixed, binary, conditional, assignment, operator_level}
 use Rattle.sh_arith.specs.Syntax.{prefix_of}
 use Rattle.sh_arith.specs.Parsing.{GoesBy, Stops, IsAny, IsTighter, IsOperand, GoesOn, stopped, operated, asked}

@@ -8,6 +8,8 @@ pub mod BracketLemmas
 pub mod ParsingLemmas
 pub mod UniqueLemmas
 pub mod OutcomeLemmas
+pub mod NeverLemmas
+pub mod SomeLemmas
 pub mod InversionLemmas
 pub mod LevelLemmas
 pub mod EvaluationLemmas

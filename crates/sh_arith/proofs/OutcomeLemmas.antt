@@ -1,5 +1,5 @@
 -- A text has one outcome at most.
-use Rattle.std.proofs.Common.{◌≡◌, ◌⊎◌, inl, inr, Bool, true, false, None, Result, Bor, ℤ, ℕ, ◌<◌, ◌≤◌, List, [], ◌∷◌, ◌++◌, refl, sym, ap, ◌∙◌, subst, arith, Some, Option, pos, Ok, Err, map, length, nat_eq}
+use Rattle.std.proofs.Common.{◌≡◌, ◌⊎◌, inl, inr, Bool, true, false, None, Result, Bor, ℕ, ◌<◌, ◌≤◌, List, [], ◌∷◌, ◌++◌, refl, sym, ap, ◌∙◌, subst, arith, Some, Option, pos, Ok, Err, map, length, nat_eq}
 use Rattle.std.specs.Result.{IsErrAnd, IfErr, MatchResult}
 use Rattle.std.specs.Option.{IfSome, is_some}
 use Rattle.std.proofs.lemmas.Bool.{false≢true, eqb-true}
@@ -8,7 +8,6 @@ use Rattle.sh_arith.specs.declared.evaluation.Evaluated.{Evaluated}
 use Rattle.sh_arith.specs.declared.tokens.Token as code
 use Rattle.sh_arith.specs.declared.faults.ArithFault.{ArithFault}
 use Rattle.sh_arith.specs.declared.faults.ArithFault.TheVariants.{Syntax, Deep, Memory}
-use Rattle.sh_arith.specs.declared.operators.Prefix.TheVariants as prefix
 use Rattle.sh_arith.specs.declared.tokens.Symbol.TheVariants as symbol
 use Rattle.sh_arith.specs.Tokens.{Token, meaning, mark, Lexes, no_token, one_token, next_token}
 use Rattle.sh_arith.specs.Trees.{Tree, constant, variable, parenthesized, prefixed, binary, conditional, assignment, spelled, Reads}
@@ -21,7 +20,7 @@ use Rattle.sh_arith.specs.Arithmetic.{IsUnderWay, Writes, HasOutcome, blank, no_
 use Rattle.sh_arith.proofs.UniqueLemmas.{one_tree}
 use Rattle.sh_arith.proofs.ParsingLemmas.{reads_any}
 
-first_token : {t u : Token} {m n : List ℕ} → ◌≡◌ {A = Option (Token × List ℕ)} (Some (t, m)) (Some (u, n)) → (t ≡ u) × (m ≡ n)
+pub first_token : {t u : Token} {m n : List ℕ} → ◌≡◌ {A = Option (Token × List ℕ)} (Some (t, m)) (Some (u, n)) → (t ≡ u) × (m ≡ n)
 first_token {t} {u} {m} {n} e =
     let pair : ◌≡◌ {A = Token × List ℕ} (t, m) (u, n) = cc in
     (ap (λ (p : Token × List ℕ). p.0) pair, ap (λ (p : Token × List ℕ). p.1) pair)

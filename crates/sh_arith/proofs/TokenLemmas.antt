@@ -30,7 +30,7 @@ past_word_within : (text : List ℕ) → length (past_word text) ≤ length text
 past_word_within [] = omega arith
 past_word_within (byte ∷ rest) = past_named (is_name_byte byte) byte rest refl (past_word_within rest)
 
-past_first : (byte : ℕ) (rest : List ℕ) → is_name_byte byte ≡ true → length (past_word (byte ∷ rest)) < length (byte ∷ rest)
+pub past_first : (byte : ℕ) (rest : List ℕ) → is_name_byte byte ≡ true → length (past_word (byte ∷ rest)) < length (byte ∷ rest)
 past_first byte rest named = let within = past_word_within rest in rw named (omega arith)
 
 -- where the text begins with a word, what follows it is shorter
@@ -44,6 +44,14 @@ word_shorter (Some r) text left rest byte same past cut named =
 past_again : (blank : Bool) (byte : ℕ) (rest : List ℕ) → is_blank byte ≡ blank → past_blanks (past_blanks rest) ≡ past_blanks rest → past_blanks (past_blanks (byte ∷ rest)) ≡ past_blanks (byte ∷ rest)
 past_again true byte rest h more = rw h more
 past_again false byte rest h more = rw h (rw h refl)
+
+past_blanked : (blank : Bool) (byte : ℕ) (rest : List ℕ) → is_blank byte ≡ blank → length (past_blanks rest) ≤ length rest → length (past_blanks (byte ∷ rest)) ≤ length (byte ∷ rest)
+past_blanked true byte rest h more = rw h (omega arith)
+past_blanked false byte rest h more = rw h (omega arith)
+
+pub past_blanks_within : (text : List ℕ) → length (past_blanks text) ≤ length text
+past_blanks_within [] = omega arith
+past_blanks_within (byte ∷ rest) = past_blanked (is_blank byte) byte rest refl (past_blanks_within rest)
 
 -- white space is passed at once
 pub past_blanks_twice : (text : List ℕ) → past_blanks (past_blanks text) ≡ past_blanks text

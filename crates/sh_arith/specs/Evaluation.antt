@@ -1,5 +1,5 @@
 -- What the calls that evaluate answer and leave.
-use Rattle.std.specs.Prelude.{◌≡◌, ◌⊎◌, List, map, Option, None, Bool, true, false, ℤ, Result, Ok, Err}
+use Rattle.std.specs.Prelude.{◌≡◌, ◌⊎◌, List, map, None, true, false, ℤ, Result, Ok, Err}
 use Rattle.sh_arith.specs.declared.faults.ArithFault.{ArithFault}
 use Rattle.sh_arith.specs.declared.faults.ArithFault.TheVariants.{Memory}
 use Rattle.sh_arith.specs.declared.operators.Operator.{Operator}

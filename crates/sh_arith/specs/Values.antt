@@ -1,7 +1,7 @@
 -- Values of expressions (XCU 2.6.4; ISO C 6.5). An expression is evaluated over its tree, from the left; the first fault ends it,
 -- and the assignments made before it stand. The side of `&&`, `||` and `?:` that isn't needed isn't evaluated. A constant or a
 -- variable is a fault only where it is evaluated.
-use Rattle.std.specs.Prelude.{◌≡◌, ℕ, suc, List, [], ◌∷◌, Bool, true, false, Option, Some, None, if◌then◌else◌, ℤ, pos, negsuc, Result, Ok, Err, decimal}
+use Rattle.std.specs.Prelude.{◌≡◌, ℕ, suc, List, ◌∷◌, true, false, Option, Some, None, if◌then◌else◌, ℤ, pos, negsuc, Result, Ok, Err, decimal}
 use Rattle.std.specs.Option.{option_map_or}
 use Rattle.std.specs.FinMap as map
 use Rattle.sh_arith.specs.declared.faults.ArithFault.{ArithFault}

@@ -2,9 +2,12 @@
 //!
 //! A name and a text are lists of bytes. Variables are a finite map from names to texts; a name that isn't in it is unset.
 //!
+//! `arith` gives the value of a text, or its fault, and leaves the variables with the assignments made: `specs/Arithmetic.antt`
+//! says which outcome a text has, and `laws::one_outcome` that it has exactly one.
+//!
 //! `specs/Variables.antt` says which map an environment is, `specs/Tokens.antt` which tokens a text is made of,
-//! `specs/Trees.antt` which expression tokens are, `specs/Constants.antt` which numbers words and texts write, and
-//! `specs/Operators.antt` what the operators compute.
+//! `specs/Trees.antt` which expression tokens are, `specs/Levels.antt` how deep it nests, `specs/Values.antt` its value,
+//! `specs/Constants.antt` which numbers words and texts write, and `specs/Operators.antt` what the operators compute.
 #![tactic(auto)]
 
 mod arithmetic;

@@ -17,6 +17,14 @@ pub enum Call {
     Lex,
     /// `Matcher::has` of each line of a text, with an expression.
     Has,
+    /// `arith` of a text, a million times over the same variables, of which `i` is 41 at first.
+    Arith,
+    /// `matches` of each line of a text against `*a*b*c*`.
+    Matches,
+    /// The stream of `grep -F` with a word, over the pieces of a file.
+    Grep,
+    /// The stream of `wc -l`, over the pieces of a file.
+    Wc,
 }
 
 impl Call {
@@ -28,6 +36,10 @@ impl Call {
             "read_all" => Some(Call::ReadAll),
             "lex" => Some(Call::Lex),
             "has" => Some(Call::Has),
+            "arith" => Some(Call::Arith),
+            "matches" => Some(Call::Matches),
+            "grep" => Some(Call::Grep),
+            "wc" => Some(Call::Wc),
             _ => None,
         }
     }

@@ -1,13 +1,14 @@
-//! Times one call of a crate on one file: `pash_bench CALL FILE`, where CALL is `next_line`, `lines`, `read_all` or `lex`, or
-//! `pash_bench has FILE OPTIONS EXPRESSION`.
+//! Times one call of a crate on one file: `pash_bench CALL FILE`, where CALL is `next_line`, `lines`, `read_all`, `lex`, `arith`,
+//! `matches` or `wc`, or `pash_bench has FILE OPTIONS EXPRESSION`, or `pash_bench grep FILE WORD`.
 //!
-//! What the call finds, a count, goes to the output, and the time of the call alone, in nanoseconds, to the error
+//! What the call finds, a count or a value, goes to the output, and the time of the call alone, in nanoseconds, to the error
 //! output: what a call takes is ready before the clock starts, and what it gives is dropped after the clock stopped.
 //! The scripts in bench/ run the built program on large files, beside other tools.
 #![tactic(auto)]
 
 mod calls;
 mod clock;
+mod streams;
 
 use calls::Call;
 use std::io::ErrorKind;
@@ -36,6 +37,15 @@ fn main(rt: HostRuntime) -> io::Result<()> {
                 fs::read(&rt, path)?.as_slice(),
             )?
         }
+        Call::Arith => clock::time_arith(&rt, fs::read(&rt, path)?.as_slice())?,
+        Call::Matches => clock::time_matches(&rt, fs::read(&rt, path)?.as_slice())?,
+        Call::Grep => {
+            let Some(word) = words.next() else {
+                return Err(io::Error::from(ErrorKind::InvalidInput));
+            };
+            streams::time_grep(&rt, fs::open(&rt, path)?, word.as_str())?
+        }
+        Call::Wc => streams::time_wc(&rt, fs::open(&rt, path)?)?,
         Call::ReadAll => clock::time_read_all(&rt, fs::open(&rt, path)?)?,
     };
     eprintln!(rt; "{}", timed.nanoseconds)?;

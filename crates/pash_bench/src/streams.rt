@@ -1,0 +1,104 @@
+//! Streams over the pieces of a file, between two looks at the clock.
+ghost use Rattle.std.specs.Prelude.{◌≡◌, false};
+
+use crate::clock::Timed;
+use ps_lines::Memory;
+use std::alloc::Global;
+use std::io;
+use std::io::{ErrorKind, Read};
+use std::rt::Clock;
+use std::time::Instant;
+use ut_args::{ArgFault, Inv, is_known, read_inv};
+use ut_grep::Grep;
+use ut_groups::Wc;
+use ut_streams::Stream;
+
+/// The bytes that are read at a time.
+const PIECE: usize = 65_536;
+
+/// The stream of `grep -F` with this word, which finds bytes of output.
+pub fn time_grep<R: Read + Drop>(
+    rt: &(impl AllocGlobal + Clock),
+    mut reader: R,
+    word: &str,
+) -> io::Result<Timed> {
+    let Some(Inv::Grep(inv)) = read_words(rt.alloc(), &["grep", "-F", word])? else {
+        return Err(io::Error::from(ErrorKind::InvalidInput));
+    };
+    match Grep::new(rt.alloc(), &inv, b"") {
+        Ok(mut grep) => time_stream(rt, &mut reader, &mut grep),
+        Err(Memory) => Err(io::Error::from(ErrorKind::OutOfMemory)),
+    }
+}
+
+/// The stream of `wc -l`, which finds bytes of output.
+pub fn time_wc<R: Read + Drop>(rt: &(impl AllocGlobal + Clock), mut reader: R) -> io::Result<Timed> {
+    let Some(Inv::Wc(inv)) = read_words(rt.alloc(), &["wc", "-l"])? else {
+        return Err(io::Error::from(ErrorKind::InvalidInput));
+    };
+    match Wc::new(rt.alloc(), &inv) {
+        Ok(mut wc) => time_stream(rt, &mut reader, &mut wc),
+        Err(Memory) => Err(io::Error::from(ErrorKind::OutOfMemory)),
+    }
+}
+
+/// The invocation of these words, if they are one.
+fn read_words(alloc: Global, words: &[&str]) -> io::Result<Option<Inv>> {
+    let mut texts = Vec::new(alloc);
+    for word in words {
+        texts.push(Vec::from_slice(alloc, word.as_bytes())?)?;
+    }
+    if !is_known(texts.as_slice()) {
+        return Ok(None);
+    }
+    match read_inv(alloc, texts.as_slice()) {
+        Ok(inv) => Ok(Some(inv)),
+        Err(ArgFault::Memory) => Err(io::Error::from(ErrorKind::OutOfMemory)),
+    }
+}
+
+/// A stream over the whole of a reader; what it writes is counted and dropped.
+fn time_stream<R: Read, S: Stream>(
+    rt: &(impl AllocGlobal + Clock),
+    reader: &mut R,
+    stream: &mut S,
+) -> io::Result<Timed>
+    requires { S.spent stream.old ≡ false }
+{
+    let mut piece = vec![in rt.alloc(); 0; PIECE]?;
+    let mut out = Vec::new(rt.alloc());
+    let start = Instant::now(rt)?;
+    let Some(count) = feed(reader, stream, &mut piece, &mut out)? else {
+        return Err(io::Error::from(ErrorKind::OutOfMemory));
+    };
+    let nanoseconds = start.elapsed(rt)?.as_nanos();
+    Ok(Timed { count, nanoseconds })
+}
+
+/// Feeds a stream all that a reader gives, and finishes it; the number of bytes that it writes, or None where memory is wanted.
+fn feed<R: Read, S: Stream>(
+    reader: &mut R,
+    stream: &mut S,
+    piece: &mut [u8],
+    out: &mut Vec<u8>,
+) -> io::Result<Option<usize>>
+    requires { S.spent stream.old ≡ false }
+{
+    let mut count: usize = 0;
+    for _ in 0..u64::MAX {
+        let size = reader.read(piece)?;
+        if size == 0 {
+            break;
+        }
+        out.clear();
+        match stream.feed(&piece[..size], out) {
+            Ok(()) => count = count.saturating_add(out.len()),
+            Err(Memory) => return Ok(None),
+        }
+    }
+    out.clear();
+    match stream.finish(out) {
+        Ok(()) => Ok(Some(count.saturating_add(out.len()))),
+        Err(Memory) => Ok(None),
+    }
+}

@@ -1,5 +1,5 @@
 -- What a source and a sink in memory do at the next call.
-use Rattle.std.specs.Prelude.{ℕ, ◌-◌, ◌^◌, List, drop, take, min, vec_len, Bool, ◌&&◌, not, nat_eq, nat_lt, Option, Some}
+use Rattle.std.specs.Prelude.{◌≡◌, ℕ, ◌-◌, ◌^◌, List, [], drop, take, min, vec_len, Bool, ◌&&◌, not, nat_eq, nat_lt, Option, Some}
 use Rattle.ps_fakes.specs.declared.source.MemSource.{MemSource}
 use Rattle.ps_fakes.specs.declared.sink.MemSink.{MemSink}
 
@@ -29,3 +29,8 @@ taken_of sink size = min size sink.most
 -- nothing can be taken of a piece that isn't empty
 abbrev pub is_full : MemSink → ℕ → Bool
 is_full sink size = nat_eq (taken_of sink size) 0 && not (nat_eq size 0)
+
+-- no call of the sink is to fail, and it takes whole pieces
+pub record NeverFails (sink : MemSink) : Type 0 where
+  pub fails : sink.plan.fails.items ≡ []
+  pub most : sink.most ≡ 2 ^ 64 - 1

@@ -1,5 +1,5 @@
 -- The entries that a tree in memory is made of, and what stands where.
-use Rattle.std.specs.Prelude.{ℕ, ◌-◌, List, [], ◌∷◌, ◌++◌, length, take, map, nat_eq, Bool, false, if◌then◌else◌, Option, Some, None}
+use Rattle.std.specs.Prelude.{◌≡◌, ℕ, ◌-◌, List, option_to_list, [], ◌∷◌, ◌++◌, length, take, map, nat_eq, Bool, false, if◌then◌else◌, Option, Some, None}
 use Rattle.std.specs.Borrow.{Bor}
 use Rattle.std.specs.Global.{Vec}
 use Rattle.std.specs.Option.{option_map, option_map_or, unwrap_or}
@@ -7,10 +7,13 @@ use Rattle.std.specs.List.{flat_map, range_with_len}
 use Rattle.std.specs.FinMap as finite
 use Rattle.std.specs.Cmp.Lexicographic.{pointwise}
 use Rattle.ps_world.specs.Paths.{Components, path_of}
-use Rattle.ps_world.specs.Files.{Files, Node, Bytes, Directory}
+use Rattle.ps_world.specs.Files.{Files, Node, Bytes, Directory, WriterOut}
 use Rattle.ps_world.specs.TreeState.{TreeState}
+use Rattle.ps_fakes.specs.declared.stored.Content.{Content}
+use Rattle.ps_fakes.specs.declared.stored.Content.TheVariants as content
 use Rattle.ps_fakes.specs.declared.stored.Stored.{Stored}
 use Rattle.ps_fakes.specs.declared.reads.Reads.{Reads}
+use Rattle.ps_fakes.specs.declared.source.MemSource.{MemSource}
 use Rattle.ps_fakes.specs.declared.tree.MemTree.{MemTree}
 use Rattle.ps_fakes.specs.Reads.{reads_at}
 
@@ -75,9 +78,14 @@ node_at (entry ∷ entries) path = if pointwise (pointwise nat_eq) path entry.0 
 abbrev pub fresh_state : List ℕ → List Entry → TreeState
 fresh_state home entries = record { home = named_path home; held = Some (planted (named_path home) (map placed entries)); lent = 0; back = 0 }
 
--- what is stored, as a list of what stands where
+-- what is stored, as it stands at its path
+abbrev pub node_in : Content → Node
+node_in (content.File bytes) = Bytes bytes.items
+node_in content.Folder = Directory
+node_in content.Out = WriterOut
+
 abbrev pub placed_of : Stored → Placed
-placed_of stored = (stored.path, node_of (option_map (λ bytes. bytes.items) stored.bytes))
+placed_of stored = (stored.path, node_in stored.content)
 
 abbrev pub files_of : List Stored → Files
 files_of stored = finite.from_entries (map placed_of stored)
@@ -89,3 +97,16 @@ state_of tree = record { home = tree.home; held = Some (files_of tree.stored.ite
 -- how the readers of a path give their bytes
 abbrev pub reads_of : MemTree → Components → Reads
 reads_of tree path = reads_at tree.read_plans.items path
+
+-- what was planned for the tree's calls and its readers stays
+pub record KeepsPlans (old new : MemTree) : Type 0 where
+  pub fails : new.plan.fails ≡ old.plan.fails
+  pub reads : new.read_plans ≡ old.read_plans
+
+-- the reader is one of these bytes that gives them as it is planned, before its first read
+pub record GivesAs (reads : Reads) (bytes : List ℕ) (reader : MemSource) : Type 0 where
+  pub bytes_are : reader.bytes.items ≡ bytes
+  pub at : reader.at ≡ 0
+  pub most : reader.most ≡ reads.most
+  pub calls : reader.plan.calls ≡ 0
+  pub fails : reader.plan.fails.items ≡ option_to_list reads.fail_at

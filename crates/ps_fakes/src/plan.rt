@@ -27,6 +27,16 @@ impl Plan {
         }
     }
 
+    /// Counts a call, and answers whether it is one of those that fail.
+    pub fn count_call(&mut self) -> bool
+        ensures planned { result ≡ is_planned self.old.fails.items self.old.calls }
+        ensures kept { self.new ≡ record self.old { calls = one_more self.old.calls } }
+    {
+        let is_planned = self.fails.contains(&self.calls);
+        self.calls = self.calls.saturating_add(1);
+        is_planned
+    }
+
     /// Counts a call, and answers whether it fails; then it is counted as a fault too.
     pub fn fails_now(&mut self) -> bool
         ensures planned { result ≡ is_planned self.old.fails.items self.old.calls }
@@ -35,8 +45,7 @@ impl Plan {
         ensures faults { self.new.faults ≡ (if result then one_more self.old.faults else self.old.faults) }
         ensures later { self.old.faults ≤ self.new.faults }
     {
-        let is_planned = self.fails.contains(&self.calls);
-        self.calls = self.calls.saturating_add(1);
+        let is_planned = self.count_call();
         if is_planned {
             self.count_fault();
         }

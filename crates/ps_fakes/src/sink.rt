@@ -8,10 +8,10 @@ use std::alloc::Global;
 /// A sink that keeps what it takes.
 #[derive(Debug, Drop)]
 pub struct MemSink {
-    bytes: Vec<u8>,
-    flushed: usize,
-    most: usize,
-    plan: Plan,
+    pub(crate) bytes: Vec<u8>,
+    pub(crate) flushed: usize,
+    pub(crate) most: usize,
+    pub(crate) plan: Plan,
     ghost within: { flushed ≤ vec_len bytes },
 }
 
@@ -44,6 +44,7 @@ impl Sink for MemSink {
         ensures planned { IsErrOf result WorldErr.Failed ↔ IsTrue (fails_next self.old.plan || is_full self.old (length bytes.now)) }
         ensures count { IfOk result (λ count. count ≡ taken_of self.old (length bytes.now)) }
         ensures call { CountsCall self.old.plan self.new.plan }
+        ensures most { self.new.most ≡ self.old.most }
     {
         if self.plan.fails_now() {
             return Err(WorldErr::Failed);
@@ -64,6 +65,7 @@ impl Sink for MemSink {
         ensures cause { Counts self.old.plan.faults self.new.plan.faults result }
         ensures planned { is_err result ≡ fails_next self.old.plan }
         ensures call { CountsCall self.old.plan self.new.plan }
+        ensures most { self.new.most ≡ self.old.most }
     {
         if self.plan.fails_now() {
             return Err(WorldErr::Failed);
@@ -74,12 +76,16 @@ impl Sink for MemSink {
 }
 
 impl MemSink {
+    ghost use Rattle.ps_fakes.specs.Streams.{NeverFails};
+
     /// A sink with nothing in it, which takes whole pieces; the calls with the numbers of `fails`, counted from 0 among
     /// writes and flushes together, fail.
     pub fn new(alloc: Global, fails: Vec<u64>) -> MemSink
         ensures taken { ⟦<MemSink as Sink>⟧.taken result ≡ Some [] }
         ensures sent { ⟦<MemSink as Sink>⟧.sent result ≡ Some [] }
         ensures faults { ⟦<MemSink as Sink>⟧.faults result ≡ 0 }
+        ensures most { result.most ≡ usize.MAX }
+        ensures fails { result.plan.fails ≡ fails }
     {
         MemSink::in_pieces(alloc, usize::MAX, fails)
     }
@@ -100,6 +106,32 @@ impl MemSink {
             most,
             plan: Plan::new(fails),
         }
+    }
+
+    /// A sink that has taken these bytes, and sent them on, before its first call.
+    pub(crate) fn behind(alloc: Global, bytes: Vec<u8>) -> MemSink
+        ensures taken { ⟦<MemSink as Sink>⟧.taken result ≡ Some bytes.items }
+        ensures sent { ⟦<MemSink as Sink>⟧.sent result ≡ Some bytes.items }
+        ensures faults { ⟦<MemSink as Sink>⟧.faults result ≡ 0 }
+        ensures whole { NeverFails result }
+        ensures calls { result.plan.calls ≡ 0 }
+    {
+        let flushed = bytes.len();
+        MemSink {
+            bytes,
+            flushed,
+            most: usize::MAX,
+            plan: Plan::new(Vec::new(alloc)),
+        }
+    }
+
+    /// What it has sent on, alone.
+    pub(crate) fn into_sent(self) -> Vec<u8>
+        ensures { Some result.items ≡ ⟦<MemSink as Sink>⟧.sent self }
+    {
+        let mut bytes = self.bytes;
+        bytes.truncate(self.flushed);
+        bytes
     }
 
     /// All that it has taken.

@@ -19,7 +19,7 @@ pub struct MemSource {
 }
 
 impl Source for MemSource {
-    ghost use Rattle.std.specs.Prelude.{◌≢◌, ◌<◌, ◌||◌, [], Ok, Err, MatchResult, IfOk, is_err};
+    ghost use Rattle.std.specs.Prelude.{◌≢◌, ◌<◌, ◌||◌, ◌&&◌, [], Ok, Err, MatchResult, IfOk, is_err, not, nat_eq};
     ghost use Rattle.std.specs.Option.{option_map};
     ghost use Rattle.ps_world.specs.Counts.{Counts};
     ghost use Rattle.ps_world.specs.Told.{bytes_then};
@@ -32,26 +32,34 @@ impl Source for MemSource {
 
     ghost faults = { λ source. source.plan.faults };
 
-    /// Fails exactly where it is planned, and where nothing can be given though bytes are left.
+    /// Fails exactly where it is planned, and where nothing can be given though bytes are left; but an empty buffer is answered
+    /// with 0, and that call is counted.
     fn read(&mut self, buf: &mut [u8]) -> Result<usize, WorldErr>
         ensures bound { IfOk result (λ count. count ≤ length buf.new) }
         ensures bytes { MatchResult result
             (λ count. left_of self.old ≡ bytes_then (take count buf.new) (left_of self.new))
             (λ _. left_of self.new ≡ left_of self.old) }
         ensures end { result ≡ Ok 0 → 0 < length buf.new → left_of self.old ≡ option_map (λ _. []) (left_of self.old) }
+        ensures empty { length buf.old ≡ 0 → result ≡ Ok 0 }
         ensures given { MatchResult result (λ count. self.new.at ≡ self.old.at + count) (λ _. self.new.at ≡ self.old.at) }
         ensures within { self.new.at ≤ 2 ^ 40 }
         ensures cause { Counts self.old.plan.faults self.new.plan.faults result }
         ensures no_memory { result ≢ Err WorldErr.Memory }
-        ensures planned { is_err result ≡ (fails_next self.old.plan || is_stuck self.old (length buf.old)) }
+        ensures planned { is_err result ≡ (not (nat_eq (length buf.old) 0) && (fails_next self.old.plan || is_stuck self.old (length buf.old))) }
         ensures count { IfOk result (λ count. count ≡ given_into self.old (length buf.old)) }
         ensures call { CountsCall self.old.plan self.new.plan }
+        ensures held { self.new.bytes ≡ self.old.bytes }
+        ensures most { self.new.most ≡ self.old.most }
     {
+        if buf.is_empty() {
+            self.plan.count_call();
+            return Ok(0);
+        }
         if self.plan.fails_now() {
             return Err(WorldErr::Failed);
         }
         let count = self.ready(buf.len());
-        if count == 0 && self.at < self.bytes.len() && !buf.is_empty() {
+        if count == 0 && self.at < self.bytes.len() {
             self.plan.count_fault();
             return Err(WorldErr::Failed);
         }
@@ -66,6 +74,9 @@ impl MemSource {
         ensures left { ⟦<MemSource as Source>⟧.left result ≡ Some bytes.items }
         ensures given { ⟦<MemSource as Source>⟧.given result ≡ 0 }
         ensures faults { ⟦<MemSource as Source>⟧.faults result ≡ 0 }
+        ensures bytes { result.bytes ≡ bytes }
+        ensures most { result.most ≡ usize.MAX }
+        ensures fails { result.plan.fails ≡ fails }
     {
         MemSource::in_pieces(bytes, usize::MAX, fails)
     }
@@ -76,6 +87,7 @@ impl MemSource {
         ensures left { ⟦<MemSource as Source>⟧.left result ≡ Some bytes.items }
         ensures given { ⟦<MemSource as Source>⟧.given result ≡ 0 }
         ensures faults { ⟦<MemSource as Source>⟧.faults result ≡ 0 }
+        ensures bytes { result.bytes ≡ bytes }
         ensures most { result.most ≡ most }
         ensures fails { result.plan.fails ≡ fails }
         ensures calls { result.plan.calls ≡ 0 }

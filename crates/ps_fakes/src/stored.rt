@@ -1,17 +1,29 @@
 //! What a tree in memory holds, as a list that is scanned from the front.
-ghost use Rattle.std.specs.Prelude.{◌≡◌, ◌++◌, length, map, Some, IfOk, OnOk};
+ghost use Rattle.std.specs.Prelude.{◌≡◌, ◌++◌, ℕ, length, map, Some, IfOk, OnErr, OnOk};
+ghost use Rattle.std.specs.FinMap.{insert};
+ghost use Rattle.std.specs.Global.{Vec};
 ghost use Rattle.std.specs.Option.{option_map};
 ghost use Rattle.ps_world.specs.Files.{kind_at as kind_at_lem, kind_of as kind_of_lem, bytes_at as bytes_at_lem, bytes_of as bytes_of_lem};
-ghost use Rattle.ps_fakes.specs.Trees.{above, entries_of, files_of, folder as folder_lem, folders, named_path as named_path_lem, node_at, placed, placed_of};
+ghost use Rattle.ps_fakes.specs.Trees.{above, entries_of, files_of, folder as folder_lem, folders, named_path as named_path_lem, node_at, node_in, node_of, placed, placed_of};
 
 use ps_world::{Kind, Path};
 use std::alloc::{AllocError, Global};
 
-/// A path, and the bytes of the file there; None for a directory.
+/// What is stored at a path.
+#[derive(Debug, Drop)]
+pub enum Content {
+    /// A file of these bytes.
+    File(Vec<u8>),
+    Folder,
+    /// A file whose writer is out.
+    Out,
+}
+
+/// A path, and what is stored there.
 #[derive(Debug, Drop)]
 pub struct Stored {
     pub path: Path,
-    pub bytes: Option<Vec<u8>>,
+    pub content: Content,
 }
 
 /// What stands at a path.
@@ -29,13 +41,13 @@ pub fn kind_at(stored: &[Stored], path: &Path) -> Kind
 fn kind_of(stored: &Stored) -> Kind
     ensures { result ≡ kind_of_lem (Some (placed_of stored.now).1) }
 {
-    match &stored.bytes {
-        None => Kind::Dir,
-        Some(_) => Kind::File,
+    match &stored.content {
+        Content::File(_) | Content::Out => Kind::File,
+        Content::Folder => Kind::Dir,
     }
 }
 
-/// The bytes of the file at a path, none where no file is.
+/// The bytes of the file at a path, none where no file is in.
 #[tactic(auto, using(crate::proofs::FindLemmas::get_first))]
 pub fn bytes_at<'a>(stored: &'a [Stored], path: &Path) -> &'a [u8]
     ensures { result.now ≡ bytes_at_lem (files_of stored.now) path.now }
@@ -46,13 +58,13 @@ pub fn bytes_at<'a>(stored: &'a [Stored], path: &Path) -> &'a [u8]
     }
 }
 
-/// The bytes of this file, none of a directory.
+/// The bytes of this file, none where no file is in.
 fn bytes_of(stored: &Stored) -> &[u8]
     ensures { result.now ≡ bytes_of_lem (Some (placed_of stored.now).1) }
 {
-    match &stored.bytes {
-        None => &[],
-        Some(bytes) => bytes.as_slice(),
+    match &stored.content {
+        Content::File(bytes) => bytes.as_slice(),
+        Content::Folder | Content::Out => &[],
     }
 }
 
@@ -80,9 +92,30 @@ pub fn place_all(
     let mut stored = Vec::new(alloc);
     for (text, bytes) in entries {
         let path = named_path(alloc, text.as_slice())?;
-        stored.push(Stored { path, bytes })?;
+        let content = content_of(bytes);
+        stored.push(Stored { path, content })?;
     }
     Ok(stored)
+}
+
+/// A file of these bytes, or a directory.
+fn content_of(bytes: Option<Vec<u8>>) -> Content
+    ensures { node_in result ≡ node_of (option_map (λ (bytes : Vec ℕ). bytes.items) bytes) }
+{
+    match bytes {
+        Some(bytes) => Content::File(bytes),
+        None => Content::Folder,
+    }
+}
+
+/// Puts this at a path, in place of what is there.
+pub fn put(stored: &mut Vec<Stored>, path: &Path, content: Content) -> Result<(), AllocError>
+    ensures ok { OnOk result (files_of stored.new.items ≡ insert (files_of stored.old.items) path.now (node_in content)) }
+    ensures err { OnErr result (stored.new.items ≡ stored.old.items) }
+{
+    let path = path.copy()?;
+    stored.insert(0, Stored { path, content })?;
+    Ok(())
 }
 
 /// The path that a text spells; the root for a text that spells none.
@@ -131,5 +164,8 @@ fn height(path: &Path) -> usize
 fn folder(path: Path) -> Stored
     ensures { placed_of result ≡ folder_lem path }
 {
-    Stored { path, bytes: None }
+    Stored {
+        path,
+        content: Content::Folder,
+    }
 }

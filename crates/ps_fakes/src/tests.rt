@@ -2,6 +2,8 @@
 ghost use Rattle.std.specs.Prelude.{IfSome};
 ghost use Rattle.ps_world.specs.Files.{NoWriterOut};
 
+mod written;
+
 use super::*;
 use ps_lines::Memory;
 use ps_world::{Gate, Place, Reach, Sink, Source, Tree, WorldErr, look};

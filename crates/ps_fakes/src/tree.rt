@@ -1,19 +1,21 @@
 //! A tree of files in memory.
-ghost use Rattle.std.specs.Prelude.{◌≡◌, ◌≤◌, if◌then◌else◌, Some, IfOk, OnOk, OnErr, IsTrue, IfSome, is_some, option_to_list};
+ghost use Rattle.std.specs.Prelude.{◌≡◌, ◌≤◌, [], if◌then◌else◌, Some, IfOk, OnOk, OnErr, IsTrue, IfSome, is_some, option_to_list};
 
+use crate::listing::names_in;
 use crate::plan::Plan;
 use crate::reads::{ReadPlan, Reads, reads_at};
 use crate::rows::copy_rows;
+use crate::sink::MemSink;
 use crate::source::MemSource;
 use crate::standing::is_tree;
-use crate::stored::{Stored, bytes_at, folders_of, kind_at, named_path, place_all};
-use ps_lines::Memory;
-use ps_world::{Kind, Path, Source, Tree, WorldErr};
+use crate::stored::{Content, Stored, bytes_at, folders_of, kind_at, named_path, place_all, put};
+use ps_lines::{Memory, is_closed};
+use ps_world::{Kind, Mode, Path, Sink, Source, Tree, WorldErr};
 use std::alloc::{AllocError, Global};
 
 /// A tree of the files that it was made with.
 ///
-/// Its calls that answer a Result, `kind` and `open`, have numbers from 0, and those on its list fail.
+/// Its calls that answer a Result have numbers from 0, and those on its list fail.
 #[derive(Debug, Drop)]
 pub struct MemTree {
     pub(crate) home: Path,
@@ -25,14 +27,21 @@ pub struct MemTree {
 }
 
 impl Tree for MemTree {
-    ghost use Rattle.std.specs.Prelude.{MatchResult, IsErrOf, ◌↔◌, ◌<◌, is_err};
-    ghost use Rattle.ps_world.specs.Counts.{Counts};
-    ghost use Rattle.ps_world.specs.Files.{IsFileAt, bytes_at as bytes_at_lem, kind_at as kind_at_lem};
-    ghost use Rattle.ps_world.specs.TreeState.{lend};
+    ghost use Rattle.std.specs.Prelude.{MatchResult, IsErrOf, ◌↔◌, ◌<◌, ◌||◌, is_err, None};
+    ghost use Rattle.std.specs.List.{list_all};
+    ghost use Rattle.ps_lines.specs.Lines.{is_closed as is_closed_lem};
+    ghost use Rattle.ps_lines.specs.Texts.{texts_of};
+    ghost use Rattle.ps_world.specs.Counts.{Counts, CountsReturn, Rose};
+    ghost use Rattle.ps_world.specs.Files.{CanBeMade, IsDirAt, IsFileAt, IsListing, begun, bytes_at as bytes_at_lem, kind_at as kind_at_lem};
+    ghost use Rattle.ps_world.specs.Paths.{is_name};
+    ghost use Rattle.ps_world.specs.TreeState.{IsFilled, lend, take_back, take_out};
     ghost use Rattle.ps_fakes.specs.Plans.{CountsCall, fails_next};
-    ghost use Rattle.ps_fakes.specs.Trees.{state_of};
+    ghost use Rattle.ps_fakes.specs.Streams.{NeverFails};
+    ghost use Rattle.ps_fakes.specs.Trees.{GivesAs, KeepsPlans, reads_of, state_of};
 
     type Reader = MemSource;
+
+    type Writer = MemSink;
 
     ghost state = { state_of };
 
@@ -49,6 +58,7 @@ impl Tree for MemTree {
         ensures cause { Counts self.old.plan.faults self.new.plan.faults result }
         ensures planned { is_err result ≡ fails_next self.old.plan }
         ensures call { CountsCall self.old.plan self.new.plan }
+        ensures plans { KeepsPlans self.old self.new }
     {
         if self.plan.fails_now() {
             return Err(WorldErr::Failed);
@@ -57,43 +67,138 @@ impl Tree for MemTree {
     }
 
     /// Fails exactly where it is planned.
+    fn list(&mut self, dir: &Path) -> Result<Vec<Vec<u8>>, WorldErr>
+        requires { IfSome (state_of self.old).held (λ files. IsDirAt files dir.now) }
+        ensures names { IfOk result (λ names. IfSome (state_of self.old).held (λ files. IsListing files dir.now (texts_of names.items))) }
+        ensures each { IfOk result (λ names. IsTrue (list_all is_name (texts_of names.items))) }
+        ensures state { state_of self.new ≡ state_of self.old }
+        ensures cause { Counts self.old.plan.faults self.new.plan.faults result }
+        ensures planned { IsErrOf result WorldErr.Failed ↔ IsTrue (fails_next self.old.plan) }
+        ensures call { CountsCall self.old.plan self.new.plan }
+        ensures plans { KeepsPlans self.old self.new }
+    {
+        if self.plan.fails_now() {
+            return Err(WorldErr::Failed);
+        }
+        let alloc = *self.stored.allocator();
+        let names = names_in(alloc, self.stored.as_slice(), dir)?;
+        Ok(names)
+    }
+
+    /// Fails exactly where it is planned.
+    fn ends_line(&mut self, path: &Path) -> Result<bool, WorldErr>
+        requires { IfSome (state_of self.old).held (λ files. IsFileAt files path.now) }
+        ensures closed { IfOk result (λ closed. IfSome (state_of self.old).held (λ files. closed ≡ is_closed_lem (bytes_at_lem files path.now))) }
+        ensures state { state_of self.new ≡ state_of self.old }
+        ensures cause { Counts self.old.plan.faults self.new.plan.faults result }
+        ensures planned { is_err result ≡ fails_next self.old.plan }
+        ensures call { CountsCall self.old.plan self.new.plan }
+        ensures plans { KeepsPlans self.old self.new }
+    {
+        if self.plan.fails_now() {
+            return Err(WorldErr::Failed);
+        }
+        Ok(is_closed(bytes_at(self.stored.as_slice(), path)))
+    }
+
+    /// Fails exactly where it is planned.
     fn open(&mut self, path: &Path) -> Result<MemSource, WorldErr>
         requires { IfSome (state_of self.old).held (λ files. IsFileAt files path.now) }
         ensures reader { IfOk result (λ reader. IfSome (state_of self.old).held (λ files.
             ⟦<MemSource as Source>⟧.left reader ≡ Some (bytes_at_lem files path.now))) }
+        ensures reads { IfOk result (λ reader. IfSome (state_of self.old).held (λ files.
+            GivesAs (reads_of self.old path.now) (bytes_at_lem files path.now) reader)) }
         ensures fresh { IfOk result (λ reader. (⟦<MemSource as Source>⟧.given reader ≡ 0) × (⟦<MemSource as Source>⟧.faults reader ≡ 0)) }
         ensures state { MatchResult result (λ _. state_of self.new ≡ lend (state_of self.old)) (λ _. state_of self.new ≡ state_of self.old) }
         ensures cause { Counts self.old.plan.faults self.new.plan.faults result }
         ensures planned { IsErrOf result WorldErr.Failed ↔ IsTrue (fails_next self.old.plan) }
         ensures call { CountsCall self.old.plan self.new.plan }
+        ensures plans { KeepsPlans self.old self.new }
     {
         if self.plan.fails_now() {
             return Err(WorldErr::Failed);
         }
         let reader = self.reader_of(path)?;
-        self.lent = self.lent.saturating_add(1);
+        self.count_lent();
         Ok(reader)
     }
 
-    fn end_read(&mut self, _path: &Path, reader: MemSource) {
-        self.back = self.back.saturating_add(1);
+    /// Fails exactly where it is planned.
+    fn create(&mut self, path: &Path, mode: Mode) -> Result<MemSink, WorldErr>
+        requires { IfSome (state_of self.old).held (λ files. CanBeMade files path.now) }
+        ensures writer { IfOk result (λ writer. IfSome (state_of self.old).held (λ files.
+            ⟦<MemSink as Sink>⟧.taken writer ≡ Some (begun files path.now mode))) }
+        ensures fresh { IfOk result (λ writer. ⟦<MemSink as Sink>⟧.faults writer ≡ 0) }
+        ensures whole { IfOk result NeverFails }
+        ensures state { MatchResult result
+            (λ _. state_of self.new ≡ lend (take_out path.now (state_of self.old)))
+            (λ _. state_of self.new ≡ state_of self.old) }
+        ensures cause { Counts self.old.plan.faults self.new.plan.faults result }
+        ensures planned { IsErrOf result WorldErr.Failed ↔ IsTrue (fails_next self.old.plan) }
+        ensures call { CountsCall self.old.plan self.new.plan }
+        ensures plans { KeepsPlans self.old self.new }
+    {
+        if self.plan.fails_now() {
+            return Err(WorldErr::Failed);
+        }
+        let writer = self.writer_of(path, mode)?;
+        put(&mut self.stored, path, Content::Out)?;
+        self.count_lent();
+        Ok(writer)
+    }
+
+    fn end_read(&mut self, _path: &Path, reader: MemSource)
+        ensures state { state_of self.new ≡ take_back (state_of self.old) }
+        ensures later { self.old.plan.faults ≤ self.new.plan.faults }
+        ensures calm { ⟦<MemSource as Source>⟧.faults reader ≡ 0 → self.new.plan.faults ≡ self.old.plan.faults }
+        ensures cause { 0 < ⟦<MemSource as Source>⟧.faults reader → Rose self.old.plan.faults self.new.plan.faults }
+        ensures plans { KeepsPlans self.old self.new }
+    {
+        self.count_back();
         if reader.faults() > 0 {
             self.plan.count_fault();
         }
     }
+
+    /// Fails where it is planned, and where the writer's flush fails; the file holds what the writer had sent then.
+    fn end_write(&mut self, path: &Path, writer: MemSink) -> Result<(), WorldErr>
+        ensures ok { OnOk result (IsFilled path.now (⟦<MemSink as Sink>⟧.taken writer) (state_of self.old) (state_of self.new)) }
+        ensures failed { IsErrOf result WorldErr.Failed → IsFilled path.now None (state_of self.old) (state_of self.new) }
+        ensures memory { IsErrOf result WorldErr.Memory → state_of self.new ≡ take_back (state_of self.old) }
+        ensures cause { CountsReturn writer.plan.faults self.old.plan.faults self.new.plan.faults result }
+        ensures sent { IsErrOf result WorldErr.Failed → IsFilled path.now (⟦<MemSink as Sink>⟧.sent writer) (state_of self.old) (state_of self.new) }
+        ensures fails { IsErrOf result WorldErr.Failed → IsTrue (fails_next self.old.plan || fails_next writer.plan) }
+        ensures planned { IsTrue (fails_next self.old.plan || fails_next writer.plan) → IsTrue (is_err result) }
+        ensures call { CountsCall self.old.plan self.new.plan }
+        ensures plans { KeepsPlans self.old self.new }
+    {
+        self.count_back();
+        if writer.faults() > 0 {
+            self.plan.count_fault();
+        }
+        let mut writer = writer;
+        let is_sent = !self.plan.count_call() && writer.flush().is_ok();
+        put(&mut self.stored, path, Content::File(writer.into_sent()))?;
+        if !is_sent {
+            self.plan.count_fault();
+            return Err(WorldErr::Failed);
+        }
+        Ok(())
+    }
 }
 
 impl MemTree {
-    ghost use Rattle.ps_world.specs.Files.{NoWriterOut, bytes_at as bytes_at_lem};
+    ghost use Rattle.ps_world.specs.Counts.{one_more};
+    ghost use Rattle.ps_world.specs.Files.{NoWriterOut, begun, bytes_at as bytes_at_lem};
     ghost use Rattle.ps_world.specs.Paths.{Components};
-    ghost use Rattle.ps_fakes.specs.Trees.{entries_of, files_of, fresh_state, names_path, reads_of, rows_of};
+    ghost use Rattle.ps_fakes.specs.Trees.{GivesAs, entries_of, files_of, fresh_state, names_path, reads_of, rows_of};
     ghost use Rattle.ps_fakes.specs.Standing.{is_tree as is_tree_lem};
+    ghost use Rattle.ps_fakes.specs.Streams.{NeverFails};
 
     /// A tree of files, with their bytes, and directories, whose parents it makes, and the working directory `home`; the calls
     /// with the numbers of `fails` fail.
     ///
     /// `is_tree` is the test of what the caller owes.
-    #[tactic(auto, using(crate::proofs::SettledLemmas::no_writer_out))]
     pub fn new(
         alloc: Global,
         home: &[u8],
@@ -104,6 +209,8 @@ impl MemTree {
         ensures state { IfOk result (λ tree. ⟦<MemTree as Tree>⟧.state tree ≡ fresh_state home.now (entries_of entries.items)) }
         ensures settled { IfOk result (λ tree. IfSome (⟦<MemTree as Tree>⟧.state tree).held NoWriterOut) }
         ensures faults { IfOk result (λ tree. ⟦<MemTree as Tree>⟧.faults tree ≡ 0) }
+        ensures fails { IfOk result (λ tree. tree.plan.fails ≡ fails) }
+        ensures reads { IfOk result (λ tree. tree.read_plans.items ≡ []) }
     {
         let home = named_path(alloc, home)?;
         let mut stored = place_all(alloc, entries)?;
@@ -160,7 +267,21 @@ impl MemTree {
         Ok(())
     }
 
-    /// How many readers it has lent.
+    /// Counts a reader or writer that is lent.
+    fn count_lent(&mut self)
+        ensures { self.new ≡ record self.old { lent = one_more self.old.lent } }
+    {
+        self.lent = self.lent.saturating_add(1);
+    }
+
+    /// Counts a reader or writer that is given back.
+    fn count_back(&mut self)
+        ensures { self.new ≡ record self.old { back = one_more self.old.back } }
+    {
+        self.back = self.back.saturating_add(1);
+    }
+
+    /// How many readers and writers it has lent.
     pub fn lent(&self) -> u64
         ensures { result ≡ (⟦<MemTree as Tree>⟧.state self.now).lent }
     {
@@ -174,21 +295,31 @@ impl MemTree {
         self.back
     }
 
-    /// How many of its calls have failed, and how many readers came back that had.
+    /// How many of its calls have failed, and how many readers and writers came back of which a call had.
     pub fn faults(&self) -> u64
         ensures { result ≡ ⟦<MemTree as Tree>⟧.faults self.now }
     {
         self.plan.faults
     }
 
+    /// A writer of the file at a path.
+    fn writer_of(&self, path: &Path, mode: Mode) -> Result<MemSink, AllocError>
+        ensures taken { IfOk result (λ writer. ⟦<MemSink as Sink>⟧.taken writer ≡ Some (begun (files_of self.now.stored.items) path.now mode)) }
+        ensures faults { IfOk result (λ writer. ⟦<MemSink as Sink>⟧.faults writer ≡ 0) }
+        ensures whole { IfOk result NeverFails }
+    {
+        let alloc = *self.stored.allocator();
+        let bytes = match mode {
+            Mode::Fresh => Vec::new(alloc),
+            Mode::Append => Vec::from_slice(alloc, bytes_at(self.stored.as_slice(), path))?,
+        };
+        Ok(MemSink::behind(alloc, bytes))
+    }
+
     /// A reader of the file at a path, as it was planned.
     fn reader_of(&self, path: &Path) -> Result<MemSource, Memory>
-        ensures left { IfOk result (λ reader. ⟦<MemSource as Source>⟧.left reader ≡ Some (bytes_at_lem (files_of self.now.stored.items) path.now)) }
-        ensures given { IfOk result (λ reader. ⟦<MemSource as Source>⟧.given reader ≡ 0) }
+        ensures reads { IfOk result (GivesAs (reads_of self.now path.now) (bytes_at_lem (files_of self.now.stored.items) path.now)) }
         ensures faults { IfOk result (λ reader. ⟦<MemSource as Source>⟧.faults reader ≡ 0) }
-        ensures most { IfOk result (λ reader. reader.most ≡ (reads_of self.now path.now).most) }
-        ensures calls { IfOk result (λ reader. reader.plan.calls ≡ 0) }
-        ensures fails { IfOk result (λ reader. reader.plan.fails.items ≡ option_to_list (reads_of self.now path.now).fail_at) }
     {
         let alloc = *self.stored.allocator();
         let reads = reads_at(self.read_plans.as_slice(), path);

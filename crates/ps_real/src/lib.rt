@@ -4,7 +4,10 @@
 //! affair. This is the trusted edge; nothing else in the program touches the machine.
 #![tactic(auto)]
 
+mod names;
 mod reading;
+#[cfg(test)]
+mod tests;
 mod tree;
 mod writing;
 

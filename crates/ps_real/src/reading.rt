@@ -62,15 +62,12 @@ impl<R> Reading<R> {
 
 impl<R: Read> Reading<R> {
     /// A reader that has given all that it may is at its end, or fails.
-    fn read_past(&mut self, buf: &mut [u8]) -> Result<usize, WorldErr>
+    fn read_past(&mut self) -> Result<usize, WorldErr>
         ensures end { IfOk result (λ count. count ≡ 0) }
         ensures given { self.new.given ≡ self.old.given }
         ensures cause { Counts self.old.faults self.new.faults result }
         ensures no_memory { result ≢ Err WorldErr.Memory }
     {
-        if buf.is_empty() {
-            return Ok(0);
-        }
         let mut byte = [0u8; 1];
         match self.reader.read(&mut byte) {
             Ok(0) => Ok(0),
@@ -87,8 +84,11 @@ impl<R: Read> Source for Reading<R> {
     ghost faults = { λ reading. reading.faults };
 
     fn read(&mut self, buf: &mut [u8]) -> Result<usize, WorldErr> {
+        if buf.is_empty() {
+            return Ok(0);
+        }
         if self.given == MOST_GIVEN {
-            return self.read_past(buf);
+            return self.read_past();
         }
         let room = buf.len().min((MOST_GIVEN - self.given) as usize);
         match self.reader.read(&mut buf[..room]) {

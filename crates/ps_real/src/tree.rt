@@ -1,11 +1,17 @@
 //! The machine's tree of files.
-ghost use Rattle.std.specs.Prelude.{◌≡◌, ◌≤◌};
+ghost use Rattle.std.specs.Prelude.{◌≡◌, ◌≤◌, IfOk, IsTrue};
+ghost use Rattle.std.specs.List.{list_all};
+ghost use Rattle.ps_lines.specs.Texts.{texts_of};
 ghost use Rattle.ps_world.specs.Counts.{Counts, one_more};
+ghost use Rattle.ps_world.specs.Paths.{is_name as is_name_lem};
 
+use crate::names::is_name;
 use crate::reading::Reading;
-use ps_world::{Kind, Path, Tree, WorldErr};
-use std::fs::{self, File};
-use std::io::ErrorKind;
+use crate::writing::Writing;
+use ps_lines::is_closed;
+use ps_world::{Kind, Mode, Path, Sink, Tree, WorldErr, read_all};
+use std::fs::{self, DirEntry, File, OpenOptions, ReadDir};
+use std::io::{self, ErrorKind, Seek, SeekFrom};
 
 /// The machine's files, seen from a working directory.
 ///
@@ -35,6 +41,20 @@ impl RealTree {
         }
     }
 
+    /// Counts a reader or writer that is lent.
+    fn count_lent(&mut self)
+        ensures { self.new ≡ record self.old { lent = one_more self.old.lent } }
+    {
+        self.lent = self.lent.saturating_add(1);
+    }
+
+    /// Counts a reader or writer that is given back.
+    fn count_back(&mut self)
+        ensures { self.new ≡ record self.old { back = one_more self.old.back } }
+    {
+        self.back = self.back.saturating_add(1);
+    }
+
     /// The path's text, as the machine takes it. A name that isn't UTF-8 counts a failure.
     fn name(&mut self, path: &Path) -> Result<String, WorldErr>
         ensures kept { self.new ≡ record self.old { faults = self.new.faults } }
@@ -44,6 +64,52 @@ impl RealTree {
         match String::from_utf8(text) {
             Ok(name) => Ok(name),
             Err(_) => Err(self.fail()),
+        }
+    }
+
+    /// The names in a directory that was opened.
+    fn names_of(&mut self, entries: ReadDir) -> Result<Vec<Vec<u8>>, WorldErr>
+        ensures names { IfOk result (λ names. IsTrue (list_all is_name_lem (texts_of names.items))) }
+        ensures kept { self.new ≡ record self.old { faults = self.new.faults } }
+        ensures cause { Counts self.old.faults self.new.faults result }
+    {
+        let mut names = Vec::new(self.rt.alloc());
+        for entry in entries {
+            let name = self.name_of(entry)?;
+            names.push(name)?;
+        }
+        Ok(names)
+    }
+
+    /// The name of an entry of a directory. One that isn't UTF-8, which the machine's reader doesn't tell, counts a failure.
+    fn name_of(&mut self, entry: io::Result<DirEntry>) -> Result<Vec<u8>, WorldErr>
+        ensures name { IfOk result (λ name. IsTrue (is_name_lem name.items)) }
+        ensures kept { self.new ≡ record self.old { faults = self.new.faults } }
+        ensures cause { Counts self.old.faults self.new.faults result }
+    {
+        match entry {
+            Ok(entry) => {
+                let name = Vec::from_slice(self.rt.alloc(), entry.file_name().as_bytes())?;
+                if is_name(name.as_slice()) {
+                    Ok(name)
+                } else {
+                    Err(self.fail())
+                }
+            }
+            Err(error) => Err(self.refuse(&error)),
+        }
+    }
+
+    /// What an error of the machine is: want of memory, or a failure, which is counted.
+    fn refuse(&mut self, error: &io::Error) -> WorldErr
+        ensures kept { self.new ≡ record self.old { faults = self.new.faults } }
+        ensures later { self.old.faults ≤ self.new.faults }
+        ensures failed { result ≡ WorldErr.Failed → self.new.faults ≡ one_more self.old.faults }
+        ensures memory { result ≡ WorldErr.Memory → self.new.faults ≡ self.old.faults }
+    {
+        match error.kind() {
+            ErrorKind::OutOfMemory => WorldErr::Memory,
+            _ => self.fail(),
         }
     }
 
@@ -63,6 +129,8 @@ impl Tree for RealTree {
 
     type Reader = Reading<File>;
 
+    type Writer = Writing<File>;
+
     ghost state = { λ tree. record { home = tree.home; held = None; lent = tree.lent; back = tree.back } };
 
     ghost faults = { λ tree. tree.faults };
@@ -81,21 +149,83 @@ impl Tree for RealTree {
         }
     }
 
+    fn list(&mut self, dir: &Path) -> Result<Vec<Vec<u8>>, WorldErr> {
+        let name = self.name(dir)?;
+        match fs::read_dir(&self.rt, name.as_str()) {
+            Ok(entries) => self.names_of(entries),
+            Err(error) => Err(self.refuse(&error)),
+        }
+    }
+
+    /// A file that isn't a regular one, as a pipe, isn't opened for this, and doesn't end in a newline that is known.
+    fn ends_line(&mut self, path: &Path) -> Result<bool, WorldErr> {
+        let name = self.name(path)?;
+        let rest = match last_part(&self.rt, name.as_str()) {
+            Ok(Some(rest)) => rest,
+            Ok(None) => return Ok(false),
+            Err(error) => return Err(self.refuse(&error)),
+        };
+        match read_all(self.rt.alloc(), &mut Reading::over(rest)) {
+            Ok(rest) => Ok(is_closed(rest.as_slice())),
+            Err(WorldErr::Failed) => Err(self.fail()),
+            Err(WorldErr::Memory) => Err(WorldErr::Memory),
+        }
+    }
+
     fn open(&mut self, path: &Path) -> Result<Reading<File>, WorldErr> {
         let name = self.name(path)?;
         match File::open(&self.rt, name.as_str()) {
             Ok(file) => {
-                self.lent = self.lent.saturating_add(1);
+                self.count_lent();
                 Ok(Reading::over(file))
             }
             Err(_) => Err(self.fail()),
         }
     }
 
+    /// A file that is made has the mode 0666 without the bits of the process's mask, and Append is the system's.
+    fn create(&mut self, path: &Path, mode: Mode) -> Result<Writing<File>, WorldErr> {
+        let name = self.name(path)?;
+        let mut options = OpenOptions::new();
+        options.create(true);
+        match mode {
+            Mode::Fresh => options.write(true).truncate(true),
+            Mode::Append => options.append(true),
+        };
+        match options.open(&self.rt, name.as_str()) {
+            Ok(file) => {
+                self.count_lent();
+                Ok(Writing::over(file))
+            }
+            Err(_) => Err(self.fail()),
+        }
+    }
+
     fn end_read(&mut self, _path: &Path, reader: Reading<File>) {
-        self.back = self.back.saturating_add(1);
+        self.count_back();
         if reader.has_failed() {
             self.fail();
         }
     }
+
+    fn end_write(&mut self, _path: &Path, writer: Writing<File>) -> Result<(), WorldErr> {
+        self.count_back();
+        let mut writer = writer;
+        let flushed = writer.flush();
+        if writer.has_failed() {
+            self.fail();
+        }
+        flushed
+    }
+}
+
+/// A regular file from its last byte on, or from its beginning, where the machine tells no length; None where it isn't regular.
+fn last_part(rt: &HostRuntime, name: &str) -> io::Result<Option<File>> {
+    if !fs::metadata(rt, name)?.is_file() {
+        return Ok(None);
+    }
+    let mut file = File::open(rt, name)?;
+    let length = file.seek(SeekFrom::End(0))?;
+    file.seek(SeekFrom::Start(length.saturating_sub(1)))?;
+    Ok(Some(file))
 }

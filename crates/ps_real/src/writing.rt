@@ -1,5 +1,5 @@
 //! Sinks over the machine's writers.
-ghost use Rattle.std.specs.Prelude.{◌≡◌, ◌≤◌, None};
+ghost use Rattle.std.specs.Prelude.{◌≡◌, ◌<◌, ◌≤◌, ◌↔◌, None, IsTrue};
 ghost use Rattle.ps_world.specs.Counts.{one_more};
 
 use ps_world::{Sink, WorldErr};
@@ -42,6 +42,13 @@ impl<W> Writing<W> {
         ensures { result.faults ≡ 0 }
     {
         Writing { writer, faults: 0 }
+    }
+
+    /// Whether a call has failed.
+    pub fn has_failed(&self) -> bool
+        ensures { IsTrue result ↔ (0 < self.now.faults) }
+    {
+        self.faults > 0
     }
 
     /// Counts a failure.

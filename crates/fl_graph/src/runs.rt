@@ -12,10 +12,9 @@ use ps_lines::Memory;
 pub fn take_piece<M: Machine>(machine: &mut M, piece: Piece) -> Result<(), Memory>
     requires turn { is_take (M.act machine.old) ≡ true }
     requires unmarked { is_mark piece ≡ false }
-    ensures run { (start : State) (taken put : ℕ → List Pieces) →
-        Run start (record { takes = M.takes machine.old; puts = M.puts machine.old; broken = M.broken machine.old; due = M.due machine.old; selects = M.selects machine.old }) taken put →
-        Run start (record { takes = M.takes machine.new; puts = M.puts machine.new; broken = M.broken machine.new; due = M.due machine.new; selects = M.selects machine.new })
-        (add (port_taken (M.act machine.old)) piece taken) put }
+    ensures run { let was : State = record { takes = M.takes machine.old; puts = M.puts machine.old; broken = M.broken machine.old; due = M.due machine.old; selects = M.selects machine.old } in
+        let now : State = record { takes = M.takes machine.new; puts = M.puts machine.new; broken = M.broken machine.new; due = M.due machine.new; selects = M.selects machine.new } in
+        (start : State) (taken put : ℕ → List Pieces) → Run start was taken put → Run start now (add (port_taken (M.act machine.old)) piece taken) put }
     ensures memory { OnErr result ((M.broken machine.old ≡ false) × (M.broken machine.new ≡ true)) }
 {
     machine.take(piece)
@@ -26,12 +25,10 @@ pub fn take_piece<M: Machine>(machine: &mut M, piece: Piece) -> Result<(), Memor
 pub fn put_piece<M: Machine>(machine: &mut M) -> Result<Piece, Memory>
     requires turn { is_put (M.act machine.old) ≡ true }
     requires may { MayDo (M.takes machine.old) (M.puts machine.old) (M.act machine.old) }
-    ensures run { (start : State) (taken put : ℕ → List Pieces) →
-        Run start (record { takes = M.takes machine.old; puts = M.puts machine.old; broken = M.broken machine.old; due = M.due machine.old; selects = M.selects machine.old }) taken put →
-        MatchResult result
-        (λ piece. Run start (record { takes = M.takes machine.new; puts = M.puts machine.new; broken = M.broken machine.new; due = M.due machine.new; selects = M.selects machine.new })
-        taken (add (port_put (M.act machine.old)) piece put))
-        (λ _. Run start (record { takes = M.takes machine.new; puts = M.puts machine.new; broken = M.broken machine.new; due = M.due machine.new; selects = M.selects machine.new }) taken put) }
+    ensures run { let was : State = record { takes = M.takes machine.old; puts = M.puts machine.old; broken = M.broken machine.old; due = M.due machine.old; selects = M.selects machine.old } in
+        let now : State = record { takes = M.takes machine.new; puts = M.puts machine.new; broken = M.broken machine.new; due = M.due machine.new; selects = M.selects machine.new } in
+        (start : State) (taken put : ℕ → List Pieces) → Run start was taken put →
+        MatchResult result (λ piece. Run start now taken (add (port_put (M.act machine.old)) piece put)) (λ _. Run start now taken put) }
     ensures memory { OnErr result ((M.broken machine.old ≡ false) × (M.broken machine.new ≡ true)) }
 {
     machine.put()

@@ -4,6 +4,7 @@ ghost use Rattle.ps_world.specs.Files.{NoWriterOut};
 
 mod faults;
 mod rows;
+mod whole;
 
 use crate::answers::Why;
 use crate::top::pash;

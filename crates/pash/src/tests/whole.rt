@@ -1,0 +1,87 @@
+//! Runs over objects that never fail, from whose contracts it follows that no fault is answered.
+ghost use Rattle.std.specs.Prelude.{◌≡◌, ◌⊎◌, IfOk, IfSome};
+ghost use Rattle.ps_world.specs.Files.{NoWriterOut};
+ghost use Rattle.pash.specs.Answers.{IsAnswer};
+
+use super::{Entry, Reply, complained, finished, owned_words};
+use crate::answers::{Refusal, Why};
+use crate::top::pash;
+use ps_fakes::{NoFailSink, NoFailSource, NoFailTree, OpenGate};
+use ps_world::Tree;
+use std::alloc::{AllocError, Global};
+use std::process::Abort;
+use std::test::Fail;
+
+/// What a run answered, and where it wrote.
+#[derive(Drop)]
+struct Ran {
+    out: NoFailSink,
+    err: NoFailSink,
+    status: u8,
+    why: Why,
+}
+
+/// Does what the words ask for over a tree. No fault is answered, since no count can rise.
+fn run_over(alloc: Global, words: &[&str], tree: NoFailTree) -> Result<Ran, AllocError>
+    requires whole { IfSome (⟦<NoFailTree as Tree>⟧.state tree).held NoWriterOut }
+    ensures { IfOk result (λ ran. IsAnswer ran.why ⊎ (ran.why ≡ Why.Memory)) }
+{
+    let words = owned_words(alloc, words)?;
+    let mut tree = tree;
+    let mut err = NoFailSink::new(alloc);
+    let end = pash(
+        alloc,
+        words.as_slice(),
+        &mut tree,
+        NoFailSource::new(Vec::new(alloc)),
+        NoFailSink::new(alloc),
+        &mut err,
+        &OpenGate,
+    );
+    Ok(Ran {
+        out: end.out,
+        err,
+        status: end.status,
+        why: end.why,
+    })
+}
+
+/// The script `s` tells this.
+fn tells<R: Abort + AllocGlobal>(rt: &R, entries: &[Entry], reply: &Reply) -> Result<(), Fail> {
+    let alloc = rt.alloc();
+    let tree = NoFailTree::of_table(alloc, b"/w", entries)?;
+    let tree = tree.expect(rt, "the entries make a tree");
+    let ran = run_over(alloc, &["run", "2", "s"], tree)?;
+    assert!(rt; ran.out.sent() == reply.output, "{:?}", ran.why);
+    assert!(rt; ran.err.sent() == reply.errors, "{:?}", ran.why);
+    assert!(rt; ran.why == reply.why && ran.status == reply.status);
+    Ok(())
+}
+
+#[test]
+fn a_script_runs_over_objects_that_never_fail(rt: HostRuntime) -> Result<(), Fail> {
+    tells(
+        &rt,
+        &[
+            (b"/w/s", Some(b"cat a missing b")),
+            (b"/w/a", Some(b"x1")),
+            (b"/w/b", Some(b"x2\ny\n")),
+        ],
+        &complained(b"x1x2\ny\n", b"cat: missing: No such file or directory\n"),
+    )?;
+    tells(
+        &rt,
+        &[(b"/w/s", Some(b"cat a")), (b"/w/a", Some(b"x1\n"))],
+        &finished(b"x1\n"),
+    )?;
+    tells(
+        &rt,
+        &[(b"/w/s", Some(b"echo a"))],
+        &Reply {
+            output: b"",
+            errors: b"pash: refused: NotBuilt\n",
+            status: 2,
+            why: Why::Refused(Refusal::NotBuilt),
+        },
+    )
+}

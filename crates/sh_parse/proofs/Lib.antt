@@ -1,0 +1,5 @@
+pub mod Runs
+pub mod Backs
+pub mod Unique
+pub mod Completes
+pub mod Tops

@@ -1,0 +1,5 @@
+pub mod Pieces
+pub mod Places
+pub mod Owed
+pub mod Grammar
+pub mod Stops

@@ -1,0 +1,19 @@
+//! Refusals of the grammar.
+
+/// Why items are no script.
+#[derive(Clone, Copy, Debug, PartialEq, Eq)]
+pub enum Refusal {
+    /// No script goes on so.
+    BadSyntax,
+    /// A level too many opens at this offset.
+    TooDeep(u32),
+}
+
+/// Why there is no script.
+#[derive(Clone, Copy, Debug, PartialEq, Eq)]
+pub enum GrammarRefusal {
+    /// The items are refused.
+    Refused(Refusal),
+    /// Memory was wanted and refused.
+    Memory,
+}

@@ -3,3 +3,5 @@ pub mod Backs
 pub mod Unique
 pub mod Completes
 pub mod Tops
+pub mod Movings
+pub mod Checks

@@ -3,3 +3,4 @@ pub mod Places
 pub mod Owed
 pub mod Grammar
 pub mod Stops
+pub mod Moves

@@ -4,6 +4,8 @@ use Rattle.std.specs.Prelude.{ℕ, ◌+◌, nat_le, Bool, true, false, List, [],
 use Rattle.std.specs.declared.option.Option.{Option}
 use Rattle.std.specs.declared.option.Option.TheVariants.{None, Some}
 use Rattle.sh_parse.specs.Places.{used, redirects, is_name}
+pub use Rattle.sh_parse.specs.declared.parts.Part.{Part}
+pub use Rattle.sh_parse.specs.declared.parts.Part.TheVariants.{Pieces as pieces, Operator as operator, Target as target, Substitutions as substitutions, Pipeline as a_pipeline, Command as a_command, Pipes as pipes, NextCommand as next_command, Joins as joins, NextPipeline as next_pipeline, Separator as separator, Again as again, Body as body, CloseBrace as close_brace, CloseParenthesis as close_parenthesis, CloseSubstitution as close_substitution, ThenBody as then_body, Branches as branches, EndIf as end_if, DoBody as do_body, EndLoop as end_loop, LoopName as loop_name, LoopHead as loop_head, LoopLines as loop_lines, LoopSeparator as loop_separator, LoopDo as loop_do}
 use Rattle.sh_parse.specs.declared.items.Item.{Item}
 use Rattle.sh_parse.specs.declared.items.Item.TheVariants as item
 use Rattle.sh_parse.specs.declared.items.WordKind.TheVariants as word
@@ -13,40 +15,6 @@ use Rattle.sh_parse.specs.declared.pieces.Place.{Place}
 use Rattle.sh_parse.specs.declared.pieces.Place.TheVariants as place
 use Rattle.sh_parse.specs.declared.pieces.Use.{Use}
 use Rattle.sh_parse.specs.declared.pieces.Use.TheVariants as use_as
-
-pub data Part : Type 0 where
-  -- further pieces of a command
-  pieces : Place → Part
-  -- behind an IoNumber, behind a redirection operator, behind a word
-  operator : Part
-  target : Part
-  substitutions : Part
-  -- a pipeline, a command; behind a command, a `|`, a pipeline, a `&&` or `||`, an and-or list, a separator
-  a_pipeline : Part
-  a_command : Part
-  pipes : Part
-  next_command : Part
-  joins : Part
-  next_pipeline : Part
-  separator : Part
-  again : Part
-  -- a list that must be there
-  body : Part
-  -- the ends of compound commands and substitutions
-  close_brace : Part
-  close_parenthesis : Part
-  close_substitution : Part
-  then_body : Part
-  branches : Part
-  end_if : Part
-  do_body : Part
-  end_loop : Part
-  -- a `for`: its name, what stands behind that, behind a newline there, behind its words, behind a separator
-  loop_name : Part
-  loop_head : Part
-  loop_lines : Part
-  loop_separator : Part
-  loop_do : Part
 
 -- the parts that stand for an open level
 abbrev pub is_level : Part → Bool

@@ -7,6 +7,8 @@ use Rattle.sh_parse.specs.Grammar.{Reads}
 use Rattle.sh_parse.specs.declared.items.Item.{Item}
 use Rattle.sh_parse.specs.declared.items.Item.TheVariants as item
 use Rattle.sh_parse.specs.declared.items.TheConstants.{MAX_LEVELS}
+use Rattle.sh_parse.specs.declared.refusals.GrammarRefusal.{GrammarRefusal}
+use Rattle.sh_parse.specs.declared.refusals.GrammarRefusal.TheVariants as grammar_refusal
 use Rattle.sh_parse.specs.declared.refusals.Refusal.{Refusal}
 use Rattle.sh_parse.specs.declared.refusals.Refusal.TheVariants as refusal
 
@@ -72,3 +74,12 @@ pub record HasStop (views : WordViews) (items : List Item) (refusal : Refusal) :
 -- every list of items is exactly one script or has exactly one refusal, and not both
 abbrev pub HasOneOutcome : WordViews → List Item → Type 0
 HasOneOutcome views items = ((script : ScriptTree) × HasScript views items script) ⊎ ((refusal : Refusal) × HasStop views items refusal)
+
+-- the items are some script
+abbrev pub IsSomeScript : WordViews → List Item → Type 0
+IsSomeScript views items = (script : ScriptTree) × HasScript views items script
+
+-- why there is no script: for want of memory, which is free, or for the items' refusal
+abbrev pub Refuses : WordViews → List Item → GrammarRefusal → Type 0
+Refuses views items (grammar_refusal.Refused refusal) = HasStop views items refusal
+Refuses views items grammar_refusal.Memory = Unit {0}

@@ -7,12 +7,17 @@
 //! script (`Stops.antt`).
 #![tactic(auto)]
 
+mod checking;
 mod items;
 pub mod laws;
+mod parts;
 mod pieces;
 mod reader;
 mod refusals;
+#[cfg(test)]
+mod tests;
 
+pub use checking::check;
 pub use items::{Item, MAX_LEVELS, Reserved, Span, WordKind};
 pub use reader::WordReader;
 pub use refusals::{GrammarRefusal, Refusal};

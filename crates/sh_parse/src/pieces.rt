@@ -1,4 +1,8 @@
 //! Where the pieces of a command stand, and what a word is there.
+ghost use Rattle.std.specs.Prelude.{◌≡◌};
+ghost use Rattle.sh_parse.specs.Places.{used, redirects, is_name};
+
+use crate::items::{Reserved, WordKind};
 
 /// Where a piece of a command may stand.
 #[derive(Clone, Copy, Debug, PartialEq, Eq)]
@@ -24,4 +28,47 @@ pub enum Use {
     Given(Place),
     /// No piece.
     Unused,
+}
+
+/// What a word is at a place: a command's first word isn't reserved, and assignments stand before the name alone.
+pub fn used(place: Place, kind: WordKind) -> Use
+    ensures { result ≡ used place kind }
+{
+    match place {
+        Place::First => match kind {
+            WordKind::Reserved(_) => Use::Unused,
+            WordKind::Assign => Use::Assigned,
+            _ => Use::Given(Place::BehindName),
+        },
+        Place::BeforeName => match kind {
+            WordKind::Assign => Use::Assigned,
+            _ => Use::Given(Place::BehindName),
+        },
+        Place::BehindName => Use::Given(Place::BehindName),
+        Place::Tail => Use::Unused,
+        Place::Loop => Use::Given(Place::Loop),
+    }
+}
+
+/// The place behind a redirection, where one may stand.
+pub fn redirects(place: Place) -> Option<Place>
+    ensures { result ≡ redirects place }
+{
+    match place {
+        Place::First | Place::BeforeName => Some(Place::BeforeName),
+        Place::BehindName => Some(Place::BehindName),
+        Place::Tail => Some(Place::Tail),
+        Place::Loop => None,
+    }
+}
+
+/// Whether a word may name a variable (XBD 3.216).
+pub fn is_name(kind: WordKind) -> bool
+    ensures { result ≡ is_name kind }
+{
+    match kind {
+        WordKind::Reserved(Reserved::Bang | Reserved::OpenBrace | Reserved::CloseBrace) => false,
+        WordKind::Reserved(_) | WordKind::In | WordKind::Name => true,
+        WordKind::Assign | WordKind::Other => false,
+    }
 }

@@ -1,0 +1,29 @@
+//! The joint of a node.
+ghost use Rattle.std.specs.Prelude.{◌≡◌, true, IfOk};
+ghost use Rattle.fl_graph.specs.Kinds.{may_have};
+ghost use Rattle.fl_classes.specs.Nodes.{Begins};
+ghost use Rattle.fl_joints.specs.Joints.{is_joint};
+
+use crate::drains::Drain;
+use crate::in_order::InOrder;
+use crate::joints::Joint;
+use fl_graph::{Machine, NodeKind};
+use ps_lines::Memory;
+use std::alloc::Global;
+
+/// The machine of a node that joins or splits, at its beginning.
+///
+/// `ins` and `outs` are the numbers of the node's ins and outs. Memory is wanted for what the node holds from the start.
+#[tactic(auto, using(crate::proofs::JoinLemmas::begins))]
+pub fn joint(_alloc: Global, kind: &NodeKind, ins: u32, outs: u32) -> Result<Joint, Memory>
+    requires known { is_joint kind.now ≡ true }
+    requires ports { may_have kind.now ins outs ≡ true }
+    ensures { IfOk result (λ joint. Begins kind.now ins outs (⟦<Joint as Machine>⟧.takes joint) (⟦<Joint as Machine>⟧.puts joint)
+        (⟦<Joint as Machine>⟧.broken joint) (⟦<Joint as Machine>⟧.due joint) (⟦<Joint as Machine>⟧.selects joint)) }
+{
+    match kind {
+        NodeKind::Cat { close: false } => Ok(Joint::InOrder(InOrder::new(ins))),
+        NodeKind::Drain => Ok(Joint::Drain(Drain::new())),
+        _ => unreachable!(),
+    }
+}

@@ -61,5 +61,3 @@ joined-given texts ins port =
     ap (λ text. if port == 0 then text else []) (ap (joined_from texts 0) all ∙ joined-all texts 0 ins) ∙ sym (get_or-one (concat (texts_at ins texts)) port)
 
 pub ruleset joins = (joined-bytes, joined-end)
-
-pub ruleset begins = joined-given

@@ -1,1 +1,4 @@
 pub mod JoinLemmas
+pub mod FrontLemmas
+pub mod SumLemmas
+pub mod MakerLemmas

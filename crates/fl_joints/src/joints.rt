@@ -1,7 +1,9 @@
 //! The joints as one type.
 
 use crate::drains::Drain;
+use crate::fixed::Fixed;
 use crate::in_order::InOrder;
+use crate::sums::CountSum;
 use fl_graph::{Act, Machine, Piece};
 use ps_lines::Memory;
 
@@ -12,45 +14,63 @@ pub enum Joint {
     InOrder(InOrder),
     /// An input that nothing is done with.
     Drain(Drain),
+    /// A text given.
+    Fixed(Fixed),
+    /// The sum of counts.
+    CountSum(CountSum),
 }
 
 impl Machine for Joint {
-    ghost use Rattle.fl_joints.specs.declared.joints.Joint.TheVariants.{InOrder as InOrders, Drain as Drains};
+    ghost use Rattle.fl_joints.specs.declared.joints.Joint.TheVariants.{InOrder as InOrders, Drain as Drains, Fixed as Fixeds, CountSum as CountSums};
 
     ghost act = { λ joint. elim joint [
       | InOrders machine ↦ ⟦<InOrder as Machine>⟧.act machine
       | Drains machine ↦ ⟦<Drain as Machine>⟧.act machine
+      | Fixeds machine ↦ ⟦<Fixed as Machine>⟧.act machine
+      | CountSums machine ↦ ⟦<CountSum as Machine>⟧.act machine
     ] };
 
     ghost takes = { λ joint port. elim joint [
       | InOrders machine ↦ ⟦<InOrder as Machine>⟧.takes machine port
       | Drains machine ↦ ⟦<Drain as Machine>⟧.takes machine port
+      | Fixeds machine ↦ ⟦<Fixed as Machine>⟧.takes machine port
+      | CountSums machine ↦ ⟦<CountSum as Machine>⟧.takes machine port
     ] };
 
     ghost puts = { λ joint port. elim joint [
       | InOrders machine ↦ ⟦<InOrder as Machine>⟧.puts machine port
       | Drains machine ↦ ⟦<Drain as Machine>⟧.puts machine port
+      | Fixeds machine ↦ ⟦<Fixed as Machine>⟧.puts machine port
+      | CountSums machine ↦ ⟦<CountSum as Machine>⟧.puts machine port
     ] };
 
     ghost broken = { λ joint. elim joint [
       | InOrders machine ↦ ⟦<InOrder as Machine>⟧.broken machine
       | Drains machine ↦ ⟦<Drain as Machine>⟧.broken machine
+      | Fixeds machine ↦ ⟦<Fixed as Machine>⟧.broken machine
+      | CountSums machine ↦ ⟦<CountSum as Machine>⟧.broken machine
     ] };
 
     ghost due = { λ joint texts port. elim joint [
       | InOrders machine ↦ ⟦<InOrder as Machine>⟧.due machine texts port
       | Drains machine ↦ ⟦<Drain as Machine>⟧.due machine texts port
+      | Fixeds machine ↦ ⟦<Fixed as Machine>⟧.due machine texts port
+      | CountSums machine ↦ ⟦<CountSum as Machine>⟧.due machine texts port
     ] };
 
     ghost selects = { λ joint texts. elim joint [
       | InOrders machine ↦ ⟦<InOrder as Machine>⟧.selects machine texts
       | Drains machine ↦ ⟦<Drain as Machine>⟧.selects machine texts
+      | Fixeds machine ↦ ⟦<Fixed as Machine>⟧.selects machine texts
+      | CountSums machine ↦ ⟦<CountSum as Machine>⟧.selects machine texts
     ] };
 
     fn next(&self) -> Act {
         match self {
             Joint::InOrder(machine) => machine.next(),
             Joint::Drain(machine) => machine.next(),
+            Joint::Fixed(machine) => machine.next(),
+            Joint::CountSum(machine) => machine.next(),
         }
     }
 
@@ -58,6 +78,8 @@ impl Machine for Joint {
         match self {
             Joint::InOrder(machine) => machine.take(piece),
             Joint::Drain(machine) => machine.take(piece),
+            Joint::Fixed(machine) => machine.take(piece),
+            Joint::CountSum(machine) => machine.take(piece),
         }
     }
 
@@ -65,6 +87,8 @@ impl Machine for Joint {
         match self {
             Joint::InOrder(machine) => machine.put(),
             Joint::Drain(machine) => machine.put(),
+            Joint::Fixed(machine) => machine.put(),
+            Joint::CountSum(machine) => machine.put(),
         }
     }
 
@@ -72,6 +96,8 @@ impl Machine for Joint {
         match self {
             Joint::InOrder(machine) => machine.selected(),
             Joint::Drain(machine) => machine.selected(),
+            Joint::Fixed(machine) => machine.selected(),
+            Joint::CountSum(machine) => machine.selected(),
         }
     }
 }

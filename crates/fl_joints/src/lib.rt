@@ -7,9 +7,12 @@
 #![tactic(auto)]
 
 mod drains;
+mod fixed;
+mod fronts;
 mod in_order;
 mod joints;
 mod makers;
+mod sums;
 
 pub use joints::Joint;
 pub use makers::joint;

@@ -5,17 +5,20 @@ ghost use Rattle.fl_classes.specs.Nodes.{Begins};
 ghost use Rattle.fl_joints.specs.Joints.{is_joint};
 
 use crate::drains::Drain;
+use crate::fixed::Fixed;
 use crate::in_order::InOrder;
 use crate::joints::Joint;
+use crate::sums::CountSum;
 use fl_graph::{Machine, NodeKind};
 use ps_lines::Memory;
 use std::alloc::Global;
+use ut_args::Inv;
 
 /// The machine of a node that joins or splits, at its beginning.
 ///
 /// `ins` and `outs` are the numbers of the node's ins and outs. Memory is wanted for what the node holds from the start.
-#[tactic(auto, using(crate::proofs::JoinLemmas::begins))]
-pub fn joint(_alloc: Global, kind: &NodeKind, ins: u32, outs: u32) -> Result<Joint, Memory>
+#[tactic(auto, using(crate::proofs::MakerLemmas::begins))]
+pub fn joint(alloc: Global, kind: &NodeKind, ins: u32, outs: u32) -> Result<Joint, Memory>
     requires known { is_joint kind.now ≡ true }
     requires ports { may_have kind.now ins outs ≡ true }
     ensures { IfOk result (λ joint. Begins kind.now ins outs (⟦<Joint as Machine>⟧.takes joint) (⟦<Joint as Machine>⟧.puts joint)
@@ -24,6 +27,8 @@ pub fn joint(_alloc: Global, kind: &NodeKind, ins: u32, outs: u32) -> Result<Joi
     match kind {
         NodeKind::Cat { close: false } => Ok(Joint::InOrder(InOrder::new(ins))),
         NodeKind::Drain => Ok(Joint::Drain(Drain::new())),
+        NodeKind::Text(text) => Ok(Joint::Fixed(Fixed::new(alloc, text)?)),
+        NodeKind::Agg(Inv::Wc(_)) => Ok(Joint::CountSum(CountSum::new(alloc, ins))),
         _ => unreachable!(),
     }
 }

@@ -1,0 +1,170 @@
+//! A node that aggregates counts.
+ghost use Rattle.std.specs.Prelude.{◌≡◌, ◌≤◌, ◌++◌, ℕ, List, [], true, false, IfOk, OnOk};
+ghost use Rattle.fl_classes.specs.Aggregates.{count_on};
+ghost use Rattle.ut_groups.specs.Counting.{count_line};
+
+use fl_graph::{Act, Bytes, Machine, Piece};
+use ps_lines::{Memory, NEWLINE, decimal, read_decimal};
+use std::alloc::Global;
+use ut_groups::add_sat;
+
+/// The most bytes that the line of a count has: a longer text has none.
+const MOST_BYTES: usize = 21;
+
+/// The machine of an aggregate of `wc`: the sum of the counts that its ins bring, each on a line, from the first in to the last.
+///
+/// Of the text of an in it holds no more than tells whether it is a count.
+#[derive(Drop)]
+pub struct CountSum {
+    alloc: Global,
+    ins: u32,
+    /// The in whose turn it is.
+    at: u32,
+    /// The beginning of its text.
+    line: Vec<u8>,
+    /// The sum of the counts of the ins before.
+    sum: u64,
+    given: bool,
+    putting: bool,
+    broken: bool,
+    ghost within: { at ≤ ins },
+}
+
+impl CountSum {
+    /// The machine of a node with so many ins, before its first piece.
+    pub fn new(alloc: Global, ins: u32) -> CountSum
+        ensures ins { result.ins ≡ ins }
+        ensures at { result.at ≡ 0 }
+        ensures line { result.line.items ≡ [] }
+        ensures sum { result.sum ≡ 0 }
+        ensures given { result.given ≡ false }
+        ensures putting { result.putting ≡ true }
+        ensures broken { result.broken ≡ false }
+    {
+        CountSum {
+            alloc,
+            ins,
+            at: 0,
+            line: Vec::new(alloc),
+            sum: 0,
+            given: false,
+            putting: true,
+            broken: false,
+        }
+    }
+}
+
+impl Machine for CountSum {
+    ghost use Rattle.std.specs.Prelude.{◌+◌, ◌-◌, ◌==◌, ◌&&◌, nat_le, nat_lt, if◌then◌else◌};
+    ghost use Rattle.fl_graph.specs.declared.pieces.Act.TheVariants.{Take, Put, Stop};
+    ghost use Rattle.fl_joints.specs.Joints.{counts_from};
+
+    ghost act = { λ machine.
+        if machine.putting && machine.broken then Put 0
+        else if nat_lt machine.at machine.ins then Take machine.at
+        else if machine.putting then Put 0 else Stop };
+
+    ghost takes = { λ machine port. nat_le machine.at port && nat_lt port machine.ins };
+
+    ghost puts = { λ machine port. if port == 0 then machine.putting else false };
+
+    ghost broken = { λ machine. machine.broken };
+
+    ghost due = { λ machine texts port.
+        if port == 0 then (if machine.given then [] else
+        count_line (machine.sum + counts_from machine.line.items texts machine.at (machine.ins - machine.at))) else [] };
+
+    ghost selects = { λ machine texts. false };
+
+    fn next(&self) -> Act {
+        if self.putting && self.broken {
+            return Act::Put(0);
+        }
+        if self.at < self.ins {
+            return Act::Take(self.at);
+        }
+        if self.putting { Act::Put(0) } else { Act::Stop }
+    }
+
+    #[tactic(auto, using(crate::proofs::SumLemmas::sums))]
+    fn take(&mut self, piece: Piece) -> Result<(), Memory> {
+        match piece {
+            Piece::Bytes(bytes) => {
+                if self.broken {
+                    return Ok(());
+                }
+                let held = hold(bytes.as_slice(), &mut self.line);
+                self.broken = held.is_err();
+                held
+            }
+            Piece::Mark => Ok(()),
+            Piece::End => {
+                self.sum = add_sat(self.sum, count_on(self.line.as_slice()));
+                self.line.clear();
+                self.at += 1;
+                Ok(())
+            }
+            Piece::Broken => {
+                self.at += 1;
+                self.broken = true;
+                Ok(())
+            }
+        }
+    }
+
+    #[tactic(auto, using(crate::proofs::SumLemmas::puts))]
+    fn put(&mut self) -> Result<Piece, Memory> {
+        if self.broken {
+            self.putting = false;
+            return Ok(Piece::Broken);
+        }
+        if self.given {
+            self.putting = false;
+            return Ok(Piece::End);
+        }
+        match count_piece(self.alloc, self.sum) {
+            Ok(bytes) => {
+                self.given = true;
+                Ok(Piece::Bytes(bytes))
+            }
+            Err(memory) => {
+                self.broken = true;
+                Err(memory)
+            }
+        }
+    }
+
+    fn selected(&self) -> bool {
+        false
+    }
+}
+
+/// Adds the piece to the beginning of a text, as far as that tells which count the text is.
+#[tactic(auto, using(crate::proofs::SumLemmas::holds))]
+fn hold(piece: &[u8], line: &mut Vec<u8>) -> Result<(), Memory>
+    ensures { OnOk result ((rest : List ℕ) → count_on (line.new.items ++ rest) ≡ count_on (line.old.items ++ (piece.now ++ rest))) }
+{
+    if line.len() > MOST_BYTES {
+        return Ok(());
+    }
+    line.extend_from_slice(&piece[..piece.len().min(MOST_BYTES + 1)])?;
+    Ok(())
+}
+
+/// The count on a line; 0 where it has none.
+fn count_on(line: &[u8]) -> u64
+    ensures { result ≡ count_on line.now }
+{
+    read_decimal(&line[..line.len().saturating_sub(1)]).unwrap_or(0)
+}
+
+/// The count on a line of its own, as a piece.
+#[tactic(auto, using(crate::proofs::SumLemmas::lines))]
+fn count_piece(alloc: Global, count: u64) -> Result<Bytes, Memory>
+    ensures { IfOk result (λ bytes. bytes ≡ count_line count) }
+{
+    let mut line = Vec::new(alloc);
+    decimal(count, &mut line)?;
+    line.push(NEWLINE)?;
+    Ok(Bytes::new(line))
+}

@@ -1,4 +1,6 @@
 pub mod JoinLemmas
 pub mod FrontLemmas
 pub mod SumLemmas
+pub mod PartLemmas
+pub mod SplitLemmas
 pub mod MakerLemmas

@@ -3,6 +3,7 @@
 use crate::drains::Drain;
 use crate::fixed::Fixed;
 use crate::in_order::InOrder;
+use crate::splits::Split;
 use crate::sums::CountSum;
 use fl_graph::{Act, Machine, Piece};
 use ps_lines::Memory;
@@ -18,16 +19,19 @@ pub enum Joint {
     Fixed(Fixed),
     /// The sum of counts.
     CountSum(CountSum),
+    /// An input in parts.
+    Split(Split),
 }
 
 impl Machine for Joint {
-    ghost use Rattle.fl_joints.specs.declared.joints.Joint.TheVariants.{InOrder as InOrders, Drain as Drains, Fixed as Fixeds, CountSum as CountSums};
+    ghost use Rattle.fl_joints.specs.declared.joints.Joint.TheVariants.{InOrder as InOrders, Drain as Drains, Fixed as Fixeds, CountSum as CountSums, Split as Splits};
 
     ghost act = { λ joint. elim joint [
       | InOrders machine ↦ ⟦<InOrder as Machine>⟧.act machine
       | Drains machine ↦ ⟦<Drain as Machine>⟧.act machine
       | Fixeds machine ↦ ⟦<Fixed as Machine>⟧.act machine
       | CountSums machine ↦ ⟦<CountSum as Machine>⟧.act machine
+      | Splits machine ↦ ⟦<Split as Machine>⟧.act machine
     ] };
 
     ghost takes = { λ joint port. elim joint [
@@ -35,6 +39,7 @@ impl Machine for Joint {
       | Drains machine ↦ ⟦<Drain as Machine>⟧.takes machine port
       | Fixeds machine ↦ ⟦<Fixed as Machine>⟧.takes machine port
       | CountSums machine ↦ ⟦<CountSum as Machine>⟧.takes machine port
+      | Splits machine ↦ ⟦<Split as Machine>⟧.takes machine port
     ] };
 
     ghost puts = { λ joint port. elim joint [
@@ -42,6 +47,7 @@ impl Machine for Joint {
       | Drains machine ↦ ⟦<Drain as Machine>⟧.puts machine port
       | Fixeds machine ↦ ⟦<Fixed as Machine>⟧.puts machine port
       | CountSums machine ↦ ⟦<CountSum as Machine>⟧.puts machine port
+      | Splits machine ↦ ⟦<Split as Machine>⟧.puts machine port
     ] };
 
     ghost broken = { λ joint. elim joint [
@@ -49,6 +55,7 @@ impl Machine for Joint {
       | Drains machine ↦ ⟦<Drain as Machine>⟧.broken machine
       | Fixeds machine ↦ ⟦<Fixed as Machine>⟧.broken machine
       | CountSums machine ↦ ⟦<CountSum as Machine>⟧.broken machine
+      | Splits machine ↦ ⟦<Split as Machine>⟧.broken machine
     ] };
 
     ghost due = { λ joint texts port. elim joint [
@@ -56,6 +63,7 @@ impl Machine for Joint {
       | Drains machine ↦ ⟦<Drain as Machine>⟧.due machine texts port
       | Fixeds machine ↦ ⟦<Fixed as Machine>⟧.due machine texts port
       | CountSums machine ↦ ⟦<CountSum as Machine>⟧.due machine texts port
+      | Splits machine ↦ ⟦<Split as Machine>⟧.due machine texts port
     ] };
 
     ghost selects = { λ joint texts. elim joint [
@@ -63,6 +71,7 @@ impl Machine for Joint {
       | Drains machine ↦ ⟦<Drain as Machine>⟧.selects machine texts
       | Fixeds machine ↦ ⟦<Fixed as Machine>⟧.selects machine texts
       | CountSums machine ↦ ⟦<CountSum as Machine>⟧.selects machine texts
+      | Splits machine ↦ ⟦<Split as Machine>⟧.selects machine texts
     ] };
 
     fn next(&self) -> Act {
@@ -71,6 +80,7 @@ impl Machine for Joint {
             Joint::Drain(machine) => machine.next(),
             Joint::Fixed(machine) => machine.next(),
             Joint::CountSum(machine) => machine.next(),
+            Joint::Split(machine) => machine.next(),
         }
     }
 
@@ -80,6 +90,7 @@ impl Machine for Joint {
             Joint::Drain(machine) => machine.take(piece),
             Joint::Fixed(machine) => machine.take(piece),
             Joint::CountSum(machine) => machine.take(piece),
+            Joint::Split(machine) => machine.take(piece),
         }
     }
 
@@ -89,6 +100,7 @@ impl Machine for Joint {
             Joint::Drain(machine) => machine.put(),
             Joint::Fixed(machine) => machine.put(),
             Joint::CountSum(machine) => machine.put(),
+            Joint::Split(machine) => machine.put(),
         }
     }
 
@@ -98,6 +110,7 @@ impl Machine for Joint {
             Joint::Drain(machine) => machine.selected(),
             Joint::Fixed(machine) => machine.selected(),
             Joint::CountSum(machine) => machine.selected(),
+            Joint::Split(machine) => machine.selected(),
         }
     }
 }

@@ -12,6 +12,7 @@ mod fronts;
 mod in_order;
 mod joints;
 mod makers;
+mod splits;
 mod sums;
 
 pub use joints::Joint;

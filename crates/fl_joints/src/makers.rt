@@ -8,6 +8,7 @@ use crate::drains::Drain;
 use crate::fixed::Fixed;
 use crate::in_order::InOrder;
 use crate::joints::Joint;
+use crate::splits::Split;
 use crate::sums::CountSum;
 use fl_graph::{Machine, NodeKind};
 use ps_lines::Memory;
@@ -29,6 +30,7 @@ pub fn joint(alloc: Global, kind: &NodeKind, ins: u32, outs: u32) -> Result<Join
         NodeKind::Drain => Ok(Joint::Drain(Drain::new())),
         NodeKind::Text(text) => Ok(Joint::Fixed(Fixed::new(alloc, text)?)),
         NodeKind::Agg(Inv::Wc(_)) => Ok(Joint::CountSum(CountSum::new(alloc, ins))),
+        NodeKind::Split => Ok(Joint::Split(Split::new(alloc, outs))),
         _ => unreachable!(),
     }
 }

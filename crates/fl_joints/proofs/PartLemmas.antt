@@ -1,5 +1,5 @@
 -- Where the parts of a split end.
-use Rattle.std.proofs.Common.{◌≡◌, ℕ, zero, suc, ◌+◌, ◌-◌, ◌*◌, ◌/◌, ◌^◌, ◌<◌, ◌≤◌, ◌==◌, List, [], ◌∷◌, ◌++◌, Bool, true, false, length, take, drop, if◌then◌else◌, get_or, refl, ap, sym, ◌∙◌, subst, mul-suc, add-one, length-drop, ⊎_elim, arith}
+use Rattle.std.proofs.Common.{◌≡◌, ℕ, zero, suc, ◌+◌, ◌-◌, ◌*◌, ◌/◌, ◌^◌, ◌<◌, ◌≤◌, ◌==◌, List, [], ◌∷◌, ◌++◌, false, length, take, drop, if◌then◌else◌, get_or, refl, ap, ◌∙◌, mul-suc, add-one, length-drop, ⊎_elim, arith}
 use Rattle.std.proofs.lemmas.Nat.{le-div, mul-le, mul-lt}
 use Rattle.std.proofs.Math.Nat.{div-mul-le_self, div-eq_of_lt, mul_comm}
 use Rattle.std.proofs.lemmas.Bool.{cases_lt, or_parts}
@@ -7,7 +7,7 @@ use Rattle.std.proofs.lemmas.List.{length-take-le}
 use Rattle.ps_lines.specs.Lines.{has_newline, HasNoNewline, BeginsNextLine}
 use Rattle.ps_lines.proofs.NewlineLemmas.{CutsLine-next, has_newline-rest}
 use Rattle.fl_classes.specs.Parts.{line_size, next_end, share, part_end, slice, parts_from, parts_of}
-use Rattle.fl_classes.proofs.PartLemmas.{next_end-within, next_end-rises}
+use Rattle.fl_classes.proofs.PartLemmas.{next_end-rises}
 
 -- a first line has its bytes and its newline, and all bytes where there is none
 line_size-line : (line rest : List ℕ) → has_newline line ≡ false → line_size (line ++ 10 ∷ rest) ≡ length line + 1

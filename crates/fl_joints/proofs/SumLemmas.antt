@@ -5,7 +5,6 @@ use Rattle.std.specs.List.{range_with_len}
 use Rattle.std.specs.Option.{unwrap_or}
 use Rattle.std.proofs.lemmas.List.{length-take-le}
 use Rattle.std.proofs.lemmas.Fmt.{length-decimal-le, decimal_nonempty}
-use Rattle.ps_lines.specs.Numbers.{number_of}
 use Rattle.ps_lines.proofs.NumberLemmas.{number_of-long}
 use Rattle.ut_args.specs.declared.invocations.WcInv.{WcInv}
 use Rattle.ut_args.specs.declared.invocations.Inv.TheVariants as inv

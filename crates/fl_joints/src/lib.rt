@@ -14,6 +14,8 @@ mod joints;
 mod makers;
 mod splits;
 mod sums;
+#[cfg(test)]
+mod tests;
 
 pub use joints::Joint;
 pub use makers::joint;

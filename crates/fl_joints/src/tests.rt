@@ -1,0 +1,235 @@
+//! Joints over cuttings of small inputs: what they put, part by part, by the outs in order.
+//!
+//! What an out has got is shown with a full stop where it was ended, and a bang where it was broken. A number sign says that the joint
+//! has stopped.
+
+use crate::{Joint, joint};
+use fl_graph::{Act, Bytes, MAX_PIECE, Machine, NodeKind, Piece};
+use ps_lines::{Memory, Text};
+use std::alloc::Global;
+use std::test::Fail;
+use ut_args::{Inv, WcInv, is_known, read_inv};
+use ut_streams::cut_behind;
+
+/// Adds the bytes of a piece to a text, or how it ends.
+fn show(piece: &Piece, text: &mut Vec<u8>) -> Result<(), Memory> {
+    match piece {
+        Piece::Bytes(bytes) => text.extend_from_slice(bytes.as_slice())?,
+        Piece::Mark => text.push(b'|')?,
+        Piece::End => text.push(b'.')?,
+        Piece::Broken => text.push(b'!')?,
+    }
+    Ok(())
+}
+
+/// One act of a joint: it takes the last piece of an input, or its piece is shown behind an output. False once it stops or waits.
+fn step(
+    joint: &mut Joint,
+    inputs: &mut Vec<Vec<Piece>>,
+    outputs: &mut Vec<Vec<u8>>,
+) -> Result<bool, Memory> {
+    match joint.next() {
+        Act::Take(port) => {
+            let Some(input) = inputs.get_mut(port as usize) else {
+                return Ok(false);
+            };
+            match input.pop() {
+                None | Some(Piece::Mark) => return Ok(false),
+                Some(piece) => joint.take(piece)?,
+            }
+            Ok(true)
+        }
+        Act::Put(port) => {
+            let piece = joint.put()?;
+            let Some(output) = outputs.get_mut(port as usize) else {
+                return Ok(false);
+            };
+            show(&piece, output)?;
+            Ok(true)
+        }
+        Act::Stop => Ok(false),
+    }
+}
+
+/// What a joint with so many outs puts for these inputs, each with its last piece first.
+fn put_for(
+    alloc: Global,
+    start: Joint,
+    inputs: Vec<Vec<Piece>>,
+    outs: u32,
+) -> Result<Vec<u8>, Memory> {
+    let mut joint = start;
+    let mut left = inputs;
+    let mut outputs = Vec::new(alloc);
+    for _ in 0..outs {
+        outputs.push(Vec::new(alloc))?;
+    }
+    for _ in 0..400 {
+        if !step(&mut joint, &mut left, &mut outputs)? {
+            break;
+        }
+    }
+    let mut text = Vec::new(alloc);
+    for output in &outputs {
+        text.extend_from_slice(output.as_slice())?;
+    }
+    if joint.next() == Act::Stop && !joint.selected() {
+        text.push(b'#')?;
+    }
+    Ok(text)
+}
+
+/// The pieces of a text that is cut behind some bytes, and how it ends: the last first.
+fn pieces_of(alloc: Global, text: &[u8], cuts: u64, end: Piece) -> Result<Vec<Piece>, Memory> {
+    let mut cut = cut_behind(alloc, text, cuts)?;
+    let mut pieces = Vec::new(alloc);
+    pieces.push(end)?;
+    for _ in 0..cut.len() {
+        if let Some(bytes) = cut.pop() {
+            if !bytes.is_empty() && bytes.len() <= MAX_PIECE {
+                pieces.push(Piece::Bytes(Bytes::new(bytes)))?;
+            }
+        }
+    }
+    Ok(pieces)
+}
+
+/// The only input of a node.
+fn one_input(alloc: Global, text: &[u8], cuts: u64) -> Result<Vec<Vec<Piece>>, Memory> {
+    let mut inputs = Vec::new(alloc);
+    inputs.push(pieces_of(alloc, text, cuts, Piece::End)?)?;
+    Ok(inputs)
+}
+
+/// Three inputs, and how the second ends.
+fn three_inputs(
+    alloc: Global,
+    texts: (&[u8], &[u8], &[u8]),
+    cuts: u64,
+    second: Piece,
+) -> Result<Vec<Vec<Piece>>, Memory> {
+    let mut inputs = Vec::new(alloc);
+    inputs.push(pieces_of(alloc, texts.0, cuts, Piece::End)?)?;
+    inputs.push(pieces_of(alloc, texts.1, cuts, second)?)?;
+    inputs.push(pieces_of(alloc, texts.2, cuts, Piece::End)?)?;
+    Ok(inputs)
+}
+
+#[test]
+fn parts_end_at_ends_of_lines(rt: HostRuntime) -> Result<(), Fail> {
+    let alloc = rt.alloc();
+    for (parts, wanted) in [
+        (1, "b a\nab\nc\nxa.#"),
+        (2, "b a\nab\n.c\nxa.#"),
+        (3, "b a\n.ab\nc\n.xa.#"),
+        (16, "b a\n.....ab\n.....c\n...xa...#"),
+    ] {
+        for cuts in 0..1024 {
+            let split = joint(alloc, &NodeKind::Split, 1, parts)?;
+            let inputs = one_input(alloc, b"b a\nab\nc\nxa", cuts)?;
+            let text = put_for(alloc, split, inputs, parts)?;
+            assert_eq!(rt; text.as_slice(), wanted.as_bytes(), "{parts} at {cuts}");
+        }
+    }
+    Ok(())
+}
+
+#[test]
+fn inputs_are_joined_in_order(rt: HostRuntime) -> Result<(), Fail> {
+    let alloc = rt.alloc();
+    let texts = (b"a\nb".as_slice(), b"".as_slice(), b"c\n".as_slice());
+    for cuts in 0..4 {
+        let whole = joint(alloc, &NodeKind::Cat { close: false }, 3, 1)?;
+        let inputs = three_inputs(alloc, texts, cuts, Piece::End)?;
+        assert_eq!(rt;
+            put_for(alloc, whole, inputs, 1)?.as_slice(),
+            b"a\nbc\n.#".as_slice(),
+            "whole at {cuts}"
+        );
+        let broken = joint(alloc, &NodeKind::Cat { close: false }, 3, 1)?;
+        let inputs = three_inputs(alloc, texts, cuts, Piece::Broken)?;
+        assert_eq!(rt;
+            put_for(alloc, broken, inputs, 1)?.as_slice(),
+            b"a\nb!#".as_slice(),
+            "broken at {cuts}"
+        );
+    }
+    Ok(())
+}
+
+/// `wc -l`, if that is a command.
+fn count_lines(alloc: Global) -> Result<Option<WcInv>, Memory> {
+    let mut words = Vec::new(alloc);
+    for word in ["wc", "-l"] {
+        words.push(Vec::from_slice(alloc, word.as_bytes())?)?;
+    }
+    if !is_known(words.as_slice()) {
+        return Ok(None);
+    }
+    let Ok(Inv::Wc(inv)) = read_inv(alloc, words.as_slice()) else {
+        return Ok(None);
+    };
+    Ok(Some(inv))
+}
+
+/// What an aggregate of three counts puts.
+fn sum_of(
+    alloc: Global,
+    texts: (&[u8], &[u8], &[u8]),
+    cuts: u64,
+) -> Result<Option<Vec<u8>>, Memory> {
+    let Some(inv) = count_lines(alloc)? else {
+        return Ok(None);
+    };
+    let sum = joint(alloc, &NodeKind::Agg(Inv::Wc(inv)), 3, 1)?;
+    let inputs = three_inputs(alloc, texts, cuts, Piece::End)?;
+    Ok(Some(put_for(alloc, sum, inputs, 1)?))
+}
+
+#[test]
+fn counts_are_summed(rt: HostRuntime) -> Result<(), Fail> {
+    let alloc = rt.alloc();
+    for (texts, wanted) in [
+        (("2\n", "3\n", "40\n"), "45\n.#"),
+        (
+            ("18446744073709551615\n", "1\n", "0\n"),
+            "18446744073709551615\n.#",
+        ),
+        (
+            ("18446744073709551614\n", "1\n", "0\n"),
+            "18446744073709551615\n.#",
+        ),
+        (("x\n", "7\n", "000000000000000000001\n"), "7\n.#"),
+        (("00000000000000000001\n", "7\n", ""), "8\n.#"),
+    ] {
+        for cuts in 0..8 {
+            let texts = (texts.0.as_bytes(), texts.1.as_bytes(), texts.2.as_bytes());
+            let sum = sum_of(alloc, texts, cuts)?;
+            let Some(sum) = sum else {
+                assert!(rt; false, "no invocation");
+                return Ok(());
+            };
+            assert_eq!(rt; sum.as_slice(), wanted.as_bytes(), "at {cuts}");
+        }
+    }
+    Ok(())
+}
+
+#[test]
+fn texts_are_given_and_drained(rt: HostRuntime) -> Result<(), Fail> {
+    let alloc = rt.alloc();
+    let text = Text::copy_of(alloc, b"a\nb")?;
+    let fixed = joint(alloc, &NodeKind::Text(text), 0, 1)?;
+    assert_eq!(rt;
+        put_for(alloc, fixed, Vec::new(alloc), 1)?.as_slice(),
+        b"a\nb.#".as_slice(),
+        "given"
+    );
+    let drain = joint(alloc, &NodeKind::Drain, 1, 0)?;
+    assert_eq!(rt;
+        put_for(alloc, drain, one_input(alloc, b"a\nb", 1)?, 0)?.as_slice(),
+        b"#".as_slice(),
+        "drained"
+    );
+    Ok(())
+}

@@ -17,3 +17,4 @@ pub mod OneReadingLemmas
 pub mod TableLemmas
 pub mod RunLemmas
 pub mod TwinLemmas
+pub mod LineLemmas

@@ -7,7 +7,7 @@ use Rattle.ut_regex.specs.Program.{Core, nothing, both, many, copies, options, r
 use Rattle.ut_regex.proofs.Marks.{Runs, shape}
 
 -- copies of what spans less are copies of what spans more
-Copies-map : (One Other : ℕ → ℕ → Type 0) → ((from to : ℕ) → One from to → Other from to)
+pub Copies-map : (One Other : ℕ → ℕ → Type 0) → ((from to : ℕ) → One from to → Other from to)
     → (count from to : ℕ) → Copies One count from to → Copies Other count from to
 Copies-map One Other more zero from to h = h
 Copies-map One Other more (suc count) from to (middle, a, b) =

@@ -1,5 +1,9 @@
 //! Laws of the definitions that belong to no single call.
+ghost use Rattle.std.specs.Prelude.{Bool};
 ghost use Rattle.ut_regex.specs.OneReading.{HasOneReading};
+ghost use Rattle.ut_regex.specs.Same.{SameTree};
+ghost use Rattle.ut_regex.specs.Spans.{Has};
+ghost use Rattle.ut_regex.specs.Tree.{Tree};
 
 use crate::reading::first_fault;
 
@@ -9,4 +13,11 @@ pub fn one_reading(basic: bool, text: &[u8])
     ensures { HasOneReading basic text.now }
 {
     let _ = first_fault(basic, text);
+}
+
+/// Expressions that are the same are had by the same lines, so that the trees that a text reads as tell one answer for a line.
+pub fn same_lines(line: &[u8])
+    ensures { (fold whole : Bool) (re other : Tree) → SameTree re other → Has fold whole line.now re → Has fold whole line.now other }
+{
+    let _ = line;
 }

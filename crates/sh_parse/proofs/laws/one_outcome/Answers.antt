@@ -2,4 +2,4 @@ use Rattle.sh_parse.proofs.Tops.{one_outcome}
 use Rattle.sh_parse.proofs.laws.one_outcome.Goals as goal
 
 pub returns : goal.returns
-returns g c = one_outcome (g.W.WordReader.views c.args.words.now) c.args.items.now
+returns c = λ views. one_outcome views c.args.items.now

@@ -51,7 +51,7 @@ grep-lines grep =
     }
 
 -- what is written of lines is closed
-closed-append : (front back : List ℕ) → is_closed front ≡ true → is_closed back ≡ true → is_closed (front ++ back) ≡ true
+pub closed-append : (front back : List ℕ) → is_closed front ≡ true → is_closed back ≡ true → is_closed (front ++ back) ≡ true
 closed-append [] back first second = second
 closed-append (byte ∷ []) [] first second = first
 closed-append (byte ∷ []) (next ∷ back) first second = second

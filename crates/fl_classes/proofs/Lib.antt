@@ -1,3 +1,4 @@
 pub mod ClassLemmas
 pub mod PartLemmas
 pub mod FlowLemmas
+pub mod CutLemmas

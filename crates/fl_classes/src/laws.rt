@@ -1,7 +1,7 @@
 //! What each class says of its commands, in laws: each is the contract of a function that does nothing.
-#![tactic(auto, using(crate::proofs::ClassLemmas::class_laws, crate::proofs::PartLemmas::part_laws, crate::proofs::FlowLemmas::flow_laws))]
+#![tactic(auto, using(crate::proofs::ClassLemmas::class_laws, crate::proofs::PartLemmas::part_laws, crate::proofs::FlowLemmas::flow_laws, crate::proofs::CutLemmas::cut_laws))]
 
-ghost use Rattle.std.specs.Prelude.{◌≡◌, ◌<◌, ℕ, List, length, true};
+ghost use Rattle.std.specs.Prelude.{◌≡◌, ◌<◌, ◌∷◌, [], ℕ, List, length, map, true};
 ghost use Rattle.std.specs.List.{concat};
 ghost use Rattle.ps_lines.specs.Lines.{is_cutlist};
 ghost use Rattle.ut_args.specs.declared.invocations.Inv.TheVariants as inv;
@@ -12,6 +12,8 @@ ghost use Rattle.fl_graph.specs.Cells.{cells};
 ghost use Rattle.fl_graph.specs.Net.{gives};
 ghost use Rattle.fl_graph.specs.Valid.{Valid};
 ghost use Rattle.fl_classes.specs.Flow.{flow, placed, Solves};
+ghost use Rattle.ut_args.specs.declared.invocations.Inv.{Inv};
+ghost use Rattle.fl_classes.specs.Aggregates.{aggregate_of, map_of};
 ghost use Rattle.fl_classes.specs.Parts.{parts_of};
 ghost use Rattle.fl_classes.specs.Laws.{IsParallel, IsStatelessInBytes, IsStatelessInLines, KeepsClosed};
 
@@ -32,6 +34,16 @@ pub fn grep_is_stateless_in_lines()
 /// The counts of `wc` are the sums of those of the parts.
 pub fn wc_is_parallel()
     ensures { (wc : WcInv) → IsParallel (inv.Wc wc) }
+{}
+
+/// What a class says of two texts it says of any list that is cut at ends of lines: the maps of its texts are that of the whole, joined
+/// or aggregated from the left, and the maps of a command that keeps closed are a cut list again.
+pub fn classes_go_over_cut_lists()
+    ensures lines { (command : Inv) → IsStatelessInLines command → map_of command [] ≡ [] → (texts : List (List ℕ)) → is_cutlist texts ≡ true →
+        map_of command (concat texts) ≡ concat (map (map_of command) texts) }
+    ensures parts { (command : Inv) → IsParallel command → (first : List ℕ) (texts : List (List ℕ)) → is_cutlist (first ∷ texts) ≡ true →
+        aggregate_of command (map (map_of command) (first ∷ texts)) ≡ map_of command (concat (first ∷ texts)) }
+    ensures closed { (command : Inv) → KeepsClosed command → (texts : List (List ℕ)) → is_cutlist texts ≡ true → is_cutlist (map (map_of command) texts) ≡ true }
 {}
 
 /// The parts of a text, joined, are the text, and it is cut at ends of lines.

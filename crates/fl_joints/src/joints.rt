@@ -24,54 +24,54 @@ pub enum Joint {
 }
 
 impl Machine for Joint {
-    ghost use Rattle.fl_joints.specs.declared.joints.Joint.TheVariants.{InOrder as InOrders, Drain as Drains, Fixed as Fixeds, CountSum as CountSums, Split as Splits};
+    ghost use Rattle.fl_joints.specs.declared.joints.Joint.TheVariants as variant;
 
     ghost act = { λ joint. elim joint [
-      | InOrders machine ↦ ⟦<InOrder as Machine>⟧.act machine
-      | Drains machine ↦ ⟦<Drain as Machine>⟧.act machine
-      | Fixeds machine ↦ ⟦<Fixed as Machine>⟧.act machine
-      | CountSums machine ↦ ⟦<CountSum as Machine>⟧.act machine
-      | Splits machine ↦ ⟦<Split as Machine>⟧.act machine
+      | variant.InOrder machine ↦ ⟦<InOrder as Machine>⟧.act machine
+      | variant.Drain machine ↦ ⟦<Drain as Machine>⟧.act machine
+      | variant.Fixed machine ↦ ⟦<Fixed as Machine>⟧.act machine
+      | variant.CountSum machine ↦ ⟦<CountSum as Machine>⟧.act machine
+      | variant.Split machine ↦ ⟦<Split as Machine>⟧.act machine
     ] };
 
     ghost takes = { λ joint port. elim joint [
-      | InOrders machine ↦ ⟦<InOrder as Machine>⟧.takes machine port
-      | Drains machine ↦ ⟦<Drain as Machine>⟧.takes machine port
-      | Fixeds machine ↦ ⟦<Fixed as Machine>⟧.takes machine port
-      | CountSums machine ↦ ⟦<CountSum as Machine>⟧.takes machine port
-      | Splits machine ↦ ⟦<Split as Machine>⟧.takes machine port
+      | variant.InOrder machine ↦ ⟦<InOrder as Machine>⟧.takes machine port
+      | variant.Drain machine ↦ ⟦<Drain as Machine>⟧.takes machine port
+      | variant.Fixed machine ↦ ⟦<Fixed as Machine>⟧.takes machine port
+      | variant.CountSum machine ↦ ⟦<CountSum as Machine>⟧.takes machine port
+      | variant.Split machine ↦ ⟦<Split as Machine>⟧.takes machine port
     ] };
 
     ghost puts = { λ joint port. elim joint [
-      | InOrders machine ↦ ⟦<InOrder as Machine>⟧.puts machine port
-      | Drains machine ↦ ⟦<Drain as Machine>⟧.puts machine port
-      | Fixeds machine ↦ ⟦<Fixed as Machine>⟧.puts machine port
-      | CountSums machine ↦ ⟦<CountSum as Machine>⟧.puts machine port
-      | Splits machine ↦ ⟦<Split as Machine>⟧.puts machine port
+      | variant.InOrder machine ↦ ⟦<InOrder as Machine>⟧.puts machine port
+      | variant.Drain machine ↦ ⟦<Drain as Machine>⟧.puts machine port
+      | variant.Fixed machine ↦ ⟦<Fixed as Machine>⟧.puts machine port
+      | variant.CountSum machine ↦ ⟦<CountSum as Machine>⟧.puts machine port
+      | variant.Split machine ↦ ⟦<Split as Machine>⟧.puts machine port
     ] };
 
     ghost broken = { λ joint. elim joint [
-      | InOrders machine ↦ ⟦<InOrder as Machine>⟧.broken machine
-      | Drains machine ↦ ⟦<Drain as Machine>⟧.broken machine
-      | Fixeds machine ↦ ⟦<Fixed as Machine>⟧.broken machine
-      | CountSums machine ↦ ⟦<CountSum as Machine>⟧.broken machine
-      | Splits machine ↦ ⟦<Split as Machine>⟧.broken machine
+      | variant.InOrder machine ↦ ⟦<InOrder as Machine>⟧.broken machine
+      | variant.Drain machine ↦ ⟦<Drain as Machine>⟧.broken machine
+      | variant.Fixed machine ↦ ⟦<Fixed as Machine>⟧.broken machine
+      | variant.CountSum machine ↦ ⟦<CountSum as Machine>⟧.broken machine
+      | variant.Split machine ↦ ⟦<Split as Machine>⟧.broken machine
     ] };
 
     ghost due = { λ joint texts port. elim joint [
-      | InOrders machine ↦ ⟦<InOrder as Machine>⟧.due machine texts port
-      | Drains machine ↦ ⟦<Drain as Machine>⟧.due machine texts port
-      | Fixeds machine ↦ ⟦<Fixed as Machine>⟧.due machine texts port
-      | CountSums machine ↦ ⟦<CountSum as Machine>⟧.due machine texts port
-      | Splits machine ↦ ⟦<Split as Machine>⟧.due machine texts port
+      | variant.InOrder machine ↦ ⟦<InOrder as Machine>⟧.due machine texts port
+      | variant.Drain machine ↦ ⟦<Drain as Machine>⟧.due machine texts port
+      | variant.Fixed machine ↦ ⟦<Fixed as Machine>⟧.due machine texts port
+      | variant.CountSum machine ↦ ⟦<CountSum as Machine>⟧.due machine texts port
+      | variant.Split machine ↦ ⟦<Split as Machine>⟧.due machine texts port
     ] };
 
     ghost selects = { λ joint texts. elim joint [
-      | InOrders machine ↦ ⟦<InOrder as Machine>⟧.selects machine texts
-      | Drains machine ↦ ⟦<Drain as Machine>⟧.selects machine texts
-      | Fixeds machine ↦ ⟦<Fixed as Machine>⟧.selects machine texts
-      | CountSums machine ↦ ⟦<CountSum as Machine>⟧.selects machine texts
-      | Splits machine ↦ ⟦<Split as Machine>⟧.selects machine texts
+      | variant.InOrder machine ↦ ⟦<InOrder as Machine>⟧.selects machine texts
+      | variant.Drain machine ↦ ⟦<Drain as Machine>⟧.selects machine texts
+      | variant.Fixed machine ↦ ⟦<Fixed as Machine>⟧.selects machine texts
+      | variant.CountSum machine ↦ ⟦<CountSum as Machine>⟧.selects machine texts
+      | variant.Split machine ↦ ⟦<Split as Machine>⟧.selects machine texts
     ] };
 
     fn next(&self) -> Act {

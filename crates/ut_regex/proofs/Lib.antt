@@ -18,3 +18,4 @@ pub mod TableLemmas
 pub mod RunLemmas
 pub mod TwinLemmas
 pub mod LineLemmas
+pub mod LiteralLemmas

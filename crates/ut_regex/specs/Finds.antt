@@ -2,6 +2,7 @@
 use Rattle.std.specs.Prelude.{◌≡◌, Bool, IfSome}
 use Rattle.ut_regex.specs.declared.matcher.Matcher.{Matcher}
 use Rattle.ut_regex.specs.Tree.{Tree}
+use Rattle.ut_regex.specs.Literals.{IsLiteral}
 use Rattle.ut_regex.specs.Seeks.{Seeks, Same}
 use Rattle.ut_regex.specs.Tables.{IsMade}
 
@@ -9,8 +10,10 @@ use Rattle.ut_regex.specs.Tables.{IsMade}
 pub record Finds (matcher : Matcher) (fold whole : Bool) (re : Tree) : Type 0 where
   pub seeks : Seeks matcher.machine fold whole re
   pub table : IfSome matcher.table (λ table. IsMade matcher.machine.steps.items matcher.machine.fold matcher.machine.whole table)
+  pub literal : IfSome matcher.literal (λ bytes. IsLiteral fold re bytes)
 
 -- a matcher finds what it found
 pub record Stays (old new : Matcher) : Type 0 where
   pub machine : Same old.machine new.machine
   pub table : new.table ≡ old.table
+  pub literal : new.literal ≡ old.literal

@@ -6,6 +6,7 @@ pub mod Held
 pub mod Seeks
 pub mod Tables
 pub mod Twins
+pub mod Literals
 pub mod Finds
 pub mod Brackets
 pub mod Intervals

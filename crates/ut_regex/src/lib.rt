@@ -16,6 +16,7 @@ mod expansion;
 mod fault;
 mod intervals;
 pub mod laws;
+mod literals;
 mod machine;
 mod matcher;
 mod pieces;

@@ -1,6 +1,6 @@
 //! What a matcher runs: an expression whose repetitions are written out, in postfix.
 
-ghost use Rattle.std.specs.Prelude.{◌≡◌};
+ghost use Rattle.std.specs.Prelude.{◌≡◌, ℕ, IfSome, true};
 ghost use Rattle.ut_regex.specs.Spans.{fits, other_case};
 
 use crate::tree::Leaf;
@@ -35,6 +35,16 @@ pub(crate) fn fits(leaf: Leaf, fold: bool, byte: u8) -> bool
         Leaf::Any => true,
         Leaf::Among(set) => set.has(byte) || (fold && set.has(other_case(byte))),
         Leaf::NotAmong(set) => !(set.has(byte) || (fold && set.has(other_case(byte)))),
+    }
+}
+
+/// The one byte that the leaf asks for, where it's known to be one.
+pub(crate) fn only_byte(leaf: Leaf, fold: bool) -> Option<u8>
+    ensures { IfSome result (λ wanted. (byte : ℕ) → fits fold leaf byte ≡ true → byte ≡ wanted) }
+{
+    match leaf {
+        Leaf::Byte(wanted) if !fold || other_case(wanted) == wanted => Some(wanted),
+        Leaf::Byte(_) | Leaf::Any | Leaf::Among(_) | Leaf::NotAmong(_) => None,
     }
 }
 

@@ -1,0 +1,33 @@
+-- Bytes that a line has in a row wherever it has an expression. The code looks for them first.
+use Rattle.std.specs.Prelude.{ℕ, ◌≡◌, ◌+◌, ◌<◌, Bool, true, List, [], ◌∷◌, length, slice_index}
+use Rattle.ut_regex.specs.declared.literals.Required.{Required}
+use Rattle.ut_regex.specs.Tree.{Tree, last_tree, trees_before}
+use Rattle.ut_regex.specs.Spans.{Spans}
+
+-- the bytes stand in the line from a place on
+abbrev pub StandsAt : List ℕ → List ℕ → ℕ → Type 0
+StandsAt line [] place = Unit {0}
+StandsAt line (byte ∷ bytes) place = (place < length line) × (slice_index line place ≡ byte) × StandsAt line bytes (place + 1)
+
+-- the line has the bytes in a row
+abbrev pub Contains : List ℕ → List ℕ → Type 0
+Contains line bytes = (place : ℕ) × StandsAt line bytes place
+
+-- the bytes stand in the line up to a place
+abbrev pub StandsBefore : List ℕ → List ℕ → ℕ → Type 0
+StandsBefore line bytes end = (place : ℕ) × (end ≡ place + length bytes) × StandsAt line bytes place
+
+-- a line has these bytes in a row wherever the expression spans any of its places
+abbrev pub IsLiteral : Bool → Tree → List ℕ → Type 0
+IsLiteral fold re bytes = (line : List ℕ) (from to : ℕ) → Spans fold line re from to → Contains line bytes
+
+-- what is required of all that an expression spans
+pub record Requires (fold : Bool) (re : Tree) (required : Required) : Type 0 where
+  pub inner : IsLiteral fold re required.inner.items
+  pub suffix : (line : List ℕ) (from to : ℕ) → Spans fold line re from to → StandsBefore line required.suffix.items to
+  pub exact : required.exact ≡ true → (line : List ℕ) (from to : ℕ) → Spans fold line re from to → to ≡ from + length required.suffix.items
+
+-- each of a list is required of its tree
+abbrev pub AreRequired : Bool → List Required → List Tree → Type 0
+AreRequired fold [] trees = Unit {0}
+AreRequired fold (first ∷ rest) trees = Requires fold (last_tree trees) first × AreRequired fold rest (trees_before trees)

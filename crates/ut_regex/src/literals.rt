@@ -1,0 +1,171 @@
+//! Bytes that every line with an expression has in a row.
+ghost use Rattle.std.specs.Prelude.{◌≡◌, ℕ, Bool, List, [], IfOk, OnOk, reverse};
+ghost use Rattle.ut_regex.specs.Tree.{Tree, leaf, line_begin, line_end, empty, group, sequence, repetition, last_tree, trees_before, with_node, with_nodes};
+ghost use Rattle.ut_regex.specs.Literals.{AreRequired, Contains, IsLiteral, Requires};
+
+use crate::program::only_byte;
+use crate::tree::{Bounds, Leaf, Node};
+use std::alloc::{AllocError, Global};
+
+/// What is required of all that an expression spans.
+#[derive(Drop)]
+pub(crate) struct Required {
+    /// Bytes in a row somewhere within it.
+    pub inner: Vec<u8>,
+    /// Bytes that it ends in.
+    pub suffix: Vec<u8>,
+    /// Whether the suffix is all of it.
+    pub exact: bool,
+}
+
+impl Required {
+    /// Nothing is required, and nothing is known.
+    fn nothing(alloc: Global) -> Required
+        ensures { (fold : Bool) (re : Tree) → Requires fold re result }
+    {
+        Required {
+            inner: Vec::new(alloc),
+            suffix: Vec::new(alloc),
+            exact: false,
+        }
+    }
+
+    /// Nothing is spanned, as by an anchor.
+    fn no_bytes(alloc: Global) -> Required
+        ensures begin { (fold : Bool) → Requires fold line_begin result }
+        ensures end { (fold : Bool) → Requires fold line_end result }
+        ensures empty { (fold : Bool) → Requires fold empty result }
+    {
+        Required {
+            inner: Vec::new(alloc),
+            suffix: Vec::new(alloc),
+            exact: true,
+        }
+    }
+
+    /// One byte.
+    fn of_leaf(alloc: Global, one: Leaf, fold: bool) -> Result<Required, AllocError>
+        ensures { IfOk result (λ required. Requires fold (leaf one) required) }
+    {
+        match only_byte(one, fold) {
+            Some(byte) => Ok(Required {
+                inner: Vec::new(alloc),
+                suffix: vec![in alloc; byte]?,
+                exact: true,
+            }),
+            None => Ok(Required::nothing(alloc)),
+        }
+    }
+
+    /// A part and another one behind it.
+    fn followed_by(self, second: Required) -> Result<Required, AllocError>
+        ensures { IfOk result (λ required. (fold : Bool) (re last : Tree) → Requires fold re self → Requires fold last second
+            → Requires fold (sequence re last) required) }
+    {
+        if second.exact {
+            let mut suffix = self.suffix;
+            suffix.extend_from_slice(&second.suffix)?;
+            return Ok(Required {
+                inner: longer(self.inner, second.inner),
+                suffix,
+                exact: self.exact,
+            });
+        }
+        let before = longer(self.inner, self.suffix);
+        Ok(Required {
+            inner: longer(before, second.inner),
+            suffix: second.suffix,
+            exact: false,
+        })
+    }
+
+    /// A part some number of times. Where it may be left out nothing is required.
+    fn repeated(self, alloc: Global, bounds: Bounds) -> Required
+        ensures { (fold : Bool) (re : Tree) → Requires fold re self → Requires fold (repetition bounds re) result }
+    {
+        if bounds.low == 0 {
+            return Required::nothing(alloc);
+        }
+        Required {
+            inner: self.inner,
+            suffix: self.suffix,
+            exact: false,
+        }
+    }
+}
+
+/// The longer one of two literals.
+fn longer(first: Vec<u8>, second: Vec<u8>) -> Vec<u8>
+    ensures { (line : List ℕ) → Contains line first.items → Contains line second.items → Contains line result.items }
+{
+    if first.len() < second.len() {
+        second
+    } else {
+        first
+    }
+}
+
+/// Bytes that a line has in a row wherever it has the expression of these nodes. There are none where none are known.
+pub(crate) fn literal_of(alloc: Global, nodes: &[Node], fold: bool) -> Result<Vec<u8>, AllocError>
+    ensures { IfOk result (λ literal. IsLiteral fold (last_tree (with_nodes [] nodes.now)) literal.items) }
+{
+    let mut parts = Vec::new(alloc);
+    for node in nodes {
+        add_node(alloc, &mut parts, *node, fold)?;
+    }
+    let last = last_part(alloc, &mut parts);
+    Ok(longer(last.inner, last.suffix))
+}
+
+/// Makes one part of the last parts, as a node says.
+fn add_node(
+    alloc: Global,
+    parts: &mut Vec<Required>,
+    node: Node,
+    fold: bool,
+) -> Result<(), AllocError>
+    ensures { OnOk result ((trees : List Tree) → AreRequired fold (reverse parts.old.items) trees
+        → AreRequired fold (reverse parts.new.items) (with_node trees node)) }
+{
+    let made = part_of(alloc, parts, node, fold)?;
+    parts.push(made)?;
+    Ok(())
+}
+
+/// What is required of a node's tree, whose parts are taken.
+fn part_of(
+    alloc: Global,
+    parts: &mut Vec<Required>,
+    node: Node,
+    fold: bool,
+) -> Result<Required, AllocError>
+    ensures { IfOk result (λ made. (trees : List Tree) → AreRequired fold (reverse parts.old.items) trees
+        → Requires fold (last_tree (with_node trees node)) made × AreRequired fold (reverse parts.new.items) (trees_before (with_node trees node))) }
+{
+    match node {
+        Node::Leaf(one) => Required::of_leaf(alloc, one, fold),
+        Node::Begin | Node::End | Node::Empty => Ok(Required::no_bytes(alloc)),
+        Node::Group => Ok(last_part(alloc, parts)),
+        Node::Sequence => {
+            let second = last_part(alloc, parts);
+            last_part(alloc, parts).followed_by(second)
+        }
+        Node::Alternative => {
+            let _second = last_part(alloc, parts);
+            let _first = last_part(alloc, parts);
+            Ok(Required::nothing(alloc))
+        }
+        Node::Repetition(bounds) => Ok(last_part(alloc, parts).repeated(alloc, bounds)),
+    }
+}
+
+/// Takes what is required of the last part.
+fn last_part(alloc: Global, parts: &mut Vec<Required>) -> Required
+    ensures { (fold : Bool) (trees : List Tree) → AreRequired fold (reverse parts.old.items) trees
+        → Requires fold (last_tree trees) result × AreRequired fold (reverse parts.new.items) (trees_before trees) }
+{
+    match parts.pop() {
+        Some(part) => part,
+        None => Required::nothing(alloc),
+    }
+}

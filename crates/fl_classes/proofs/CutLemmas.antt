@@ -35,9 +35,10 @@ module _ (text : List ℕ) (texts : List (List ℕ)) (cut : is_cutlist (text ∷
       either : (closed : Bool) → (if closed then true else true) ≡ true
       either true = refl
       either false = refl
-  by_closed false unclosed none =
-      (empties-cut texts none,
-       cond-false (is_closed text) (is_cutlist (concat texts ∷ [])) (is_empty (concat texts) && true) unclosed ∙ ap (λ rest. is_empty rest && true) (empties-joined texts none))
+  by_closed false unclosed none = (
+    empties-cut texts none,
+    cond-false (is_closed text) (is_cutlist (concat texts ∷ [])) (is_empty (concat texts) && true) unclosed ∙ ap (λ rest. is_empty rest && true) (empties-joined texts none),
+  )
 
   pub cut-rest : is_cutlist texts ≡ true
   cut-rest = (by_closed (is_closed text) refl cut).0
@@ -53,11 +54,13 @@ cut-joined first second texts cut = by_first (is_closed first) refl cut
     by_whole : (closed : Bool) → is_cutlist texts ≡ true → list_all is_empty texts ≡ true → (if closed then is_cutlist texts else list_all is_empty texts) ≡ true
     by_whole true rest none = rest
     by_whole false rest none = none
+
     by_second : (closed : Bool) → is_closed second ≡ closed → is_closed first ≡ true → (if closed then is_cutlist texts else list_all is_empty texts) ≡ true
         → is_cutlist ((first ++ second) ∷ texts) ≡ true
     by_second true second_closed first_closed rest =
         cond-true (is_closed (first ++ second)) (is_cutlist texts) (list_all is_empty texts) (closed-append first second first_closed second_closed) ∙ rest
     by_second false _ _ none = by_whole (is_closed (first ++ second)) (empties-cut texts none) none
+
     by_first : (closed : Bool) → is_closed first ≡ closed → (if closed then is_cutlist (second ∷ texts) else list_all is_empty (second ∷ texts)) ≡ true
         → is_cutlist ((first ++ second) ∷ texts) ≡ true
     by_first true closed rest = by_second (is_closed second) refl closed rest
@@ -87,6 +90,7 @@ module _ (command : Inv) where
           either : (closed : Bool) → (if closed then true else true) ≡ true
           either true = refl
           either false = refl
+
           by_first : (closed : Bool) → (if closed then is_cutlist (second ∷ texts) else is_empty second && list_all is_empty texts) ≡ true
               → (if closed then is_cutlist (second ∷ []) else is_empty second && true) ≡ true
           by_first true _ = either (is_closed second)
@@ -111,6 +115,7 @@ module _ (command : Inv) where
           → (if closed then is_cutlist (map (map_of command) texts) else list_all is_empty (map (map_of command) texts)) ≡ true
       by_map true none = empties-cut (map (map_of command) texts) none
       by_map false none = none
+
       by_closed : (closed : Bool) → is_closed text ≡ closed → (if closed then is_cutlist texts else list_all is_empty texts) ≡ true
           → (is_cutlist texts ≡ true → is_cutlist (map (map_of command) texts) ≡ true) → is_cutlist (map_of command text ∷ map (map_of command) texts) ≡ true
       by_closed true closed cut later =

@@ -32,14 +32,15 @@ module _ (sources : List (List ℕ)) (texts : ℕ → List ℕ) where
       → Agree (gives (before ++ cell ∷ [])) (step (equation sources) cell now) texts
   solved-step before cell now given solves agree edge there =
       let ins : map now cell.ins ≡ map texts cell.ins =
-          values-agree cell.ins now texts (λ edge taken. agree edge (holds-has (λ edge. has edge (gives before)) edge cell.ins given taken)) in
+      values-agree cell.ins now texts (λ edge taken. agree edge (holds-has (λ edge. has edge (gives before)) edge cell.ins given taken)) in
       let stored : step (equation sources) cell now edge ≡ (if has edge cell.outs then texts edge else now edge) =
-          ap (λ texts. store cell.outs (equation sources cell.kind (length cell.outs) texts) now edge) ins
-          ∙ ap (λ new. store cell.outs new now edge) (sym solves) ∙ store-given cell.outs texts now edge in
+      ap (λ texts. store cell.outs (equation sources cell.kind (length cell.outs) texts) now edge) ins
+      ∙ ap (λ new. store cell.outs new now edge) (sym solves) ∙ store-given cell.outs texts now edge in
       stored ∙ by_out (has edge cell.outs) refl
     where
       whole : gives (before ++ cell ∷ []) ≡ gives before ++ (cell.outs ++ [])
       whole = flat_map-append (λ (cell : Cell Placed). cell.outs) before (cell ∷ [])
+
       by_out : (out : Bool) → has edge cell.outs ≡ out → (if out then texts edge else now edge) ≡ texts edge
       by_out true _ = refl
       by_out false none = agree edge (true_from_ne_false (has edge (gives before)) (λ absent.
@@ -67,8 +68,8 @@ order-placed number before others (cell ∷ cells) same =
     let here : Cell Placed = record { kind = (number, cell.kind); ins = cell.ins; outs = cell.outs; stage = cell.stage } in
     let next : ℕ = if is_source cell.kind then number + 1 else number in
     let behind : gives (before ++ here ∷ []) ≡ gives (others ++ cell ∷ []) =
-        flat_map-append (λ (cell : Cell Placed). cell.outs) before (here ∷ []) ∙ ap (λ edges. edges ++ (cell.outs ++ [])) same
-        ∙ sym (flat_map-append (λ (cell : Cell NodeKind). cell.outs) others (cell ∷ [])) in
+    flat_map-append (λ (cell : Cell Placed). cell.outs) before (here ∷ []) ∙ ap (λ edges. edges ++ (cell.outs ++ [])) same
+    ∙ sym (flat_map-append (λ (cell : Cell NodeKind). cell.outs) others (cell ∷ [])) in
     ap (λ edges. list_all (λ edge. has edge edges) cell.ins && each_after takes_given (before ++ here ∷ []) (placed_from next cells)) same
     ∙ ap (λ rest. takes_given others cell && rest) (order-placed next (before ++ here ∷ []) (others ++ cell ∷ []) cells behind)
 
@@ -77,10 +78,10 @@ pub flow-solves : (cells : List (Cell NodeKind)) (status : StatusRule) → Valid
     → Solves sources (placed cells) texts → (edge : ℕ) → edge < length (gives cells) → flow cells sources edge ≡ texts edge
 flow-solves cells status valid sources texts solves edge within =
     let order : each_after takes_given [] (placed cells) ≡ true =
-        order-placed 0 [] [] cells refl ∙ sym (leads_on-each cells) ∙ valid.edges.later in
+    order-placed 0 [] [] cells refl ∙ sym (leads_on-each cells) ∙ valid.edges.later in
     let there : has edge (gives cells) ≡ true =
-        true_from_ne_false (has edge (gives cells)) (λ none.
-        let absent = count-none edge (gives cells) none in let once = (each_number cells status valid edge within).0 in absurd (omega arith)) in
+    true_from_ne_false (has edge (gives cells)) (λ none.
+    let absent = count-none edge (gives cells) none in let once = (each_number cells status valid edge within).0 in absurd (omega arith)) in
     solved sources texts [] (placed cells) no_texts order solves (λ edge none. absurd (true≢false (sym none))) edge
     (ap (has edge) (gives-placed 0 cells) ∙ there)
 

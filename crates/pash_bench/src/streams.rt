@@ -32,7 +32,10 @@ pub fn time_grep<R: Read + Drop>(
 }
 
 /// The stream of `wc -l`, which finds bytes of output.
-pub fn time_wc<R: Read + Drop>(rt: &(impl AllocGlobal + Clock), mut reader: R) -> io::Result<Timed> {
+pub fn time_wc<R: Read + Drop>(
+    rt: &(impl AllocGlobal + Clock),
+    mut reader: R,
+) -> io::Result<Timed> {
     let Some(Inv::Wc(inv)) = read_words(rt.alloc(), &["wc", "-l"])? else {
         return Err(io::Error::from(ErrorKind::InvalidInput));
     };

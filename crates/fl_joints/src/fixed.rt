@@ -1,4 +1,4 @@
-//! A node that gives a text.
+//! A node whose out doesn't depend on its in.
 ghost use Rattle.std.specs.Prelude.{◌≡◌, ◌≤◌, ℕ, List, [], true, false, length, IfOk};
 
 use crate::fronts::first_piece;
@@ -6,23 +6,26 @@ use fl_graph::{Act, Machine, Piece};
 use ps_lines::{Memory, Text};
 use std::alloc::Global;
 
-/// The machine of a node that gives this text: no ins, and one out.
+/// The machine of a node whose out has this text, whatever comes at its in: a text that is given, which has no in, and a drain, which
+/// has no out.
 #[derive(Drop)]
 pub struct Fixed {
     alloc: Global,
     text: Text,
     /// How many of its bytes were put.
     given: usize,
+    taking: bool,
     putting: bool,
     broken: bool,
     ghost within: { given ≤ length text },
 }
 
 impl Fixed {
-    /// The machine of a copy of the text, before its first piece.
-    pub fn new(alloc: Global, text: &Text) -> Result<Fixed, Memory>
+    /// The machine that gives a copy of the text, before its first piece.
+    pub fn giving(alloc: Global, text: &Text) -> Result<Fixed, Memory>
         ensures text { IfOk result (λ machine. machine.text ≡ text.now) }
         ensures given { IfOk result (λ machine. machine.given ≡ 0) }
+        ensures taking { IfOk result (λ machine. machine.taking ≡ false) }
         ensures putting { IfOk result (λ machine. machine.putting ≡ true) }
         ensures broken { IfOk result (λ machine. machine.broken ≡ false) }
     {
@@ -31,7 +34,25 @@ impl Fixed {
             alloc,
             text,
             given: 0,
+            taking: false,
             putting: true,
+            broken: false,
+        })
+    }
+
+    /// The machine that takes its input and does nothing with it, before its first piece.
+    pub fn draining(alloc: Global) -> Result<Fixed, Memory>
+        ensures taking { IfOk result (λ machine. machine.taking ≡ true) }
+        ensures putting { IfOk result (λ machine. machine.putting ≡ false) }
+        ensures broken { IfOk result (λ machine. machine.broken ≡ false) }
+    {
+        let text = Text::copy_of(alloc, &[])?;
+        Ok(Fixed {
+            alloc,
+            text,
+            given: 0,
+            taking: true,
+            putting: false,
             broken: false,
         })
     }
@@ -39,27 +60,37 @@ impl Fixed {
 
 impl Machine for Fixed {
     ghost use Rattle.std.specs.Prelude.{◌==◌, drop, if◌then◌else◌};
-    ghost use Rattle.fl_graph.specs.declared.pieces.Act.TheVariants.{Put, Stop};
+    ghost use Rattle.fl_graph.specs.declared.pieces.Act.TheVariants.{Put, Stop, Take};
 
-    ghost act = { λ machine. if machine.putting then Put 0 else Stop };
+    ghost act = { λ machine. if machine.putting then Put 0 else if machine.taking then Take 0 else Stop };
 
-    ghost takes = { λ machine port. false };
+    ghost takes = { λ machine port. if port == 0 then machine.taking else false };
 
     ghost puts = { λ machine port. if port == 0 then machine.putting else false };
 
     ghost broken = { λ machine. machine.broken };
 
-    ghost due = { λ machine texts port. if port == 0 then drop machine.given machine.text else [] };
+    ghost due = { λ machine texts port. if port == 0 then (if machine.putting then drop machine.given machine.text else []) else [] };
 
     ghost selects = { λ machine texts. false };
 
     fn next(&self) -> Act {
-        if self.putting { Act::Put(0) } else { Act::Stop }
+        if self.putting {
+            return Act::Put(0);
+        }
+        if self.taking { Act::Take(0) } else { Act::Stop }
     }
 
-    /// Never called: it has no ins.
-    fn take(&mut self, _piece: Piece) -> Result<(), Memory> {
-        unreachable!()
+    fn take(&mut self, piece: Piece) -> Result<(), Memory> {
+        match piece {
+            Piece::Bytes(_) | Piece::Mark => {}
+            Piece::End => self.taking = false,
+            Piece::Broken => {
+                self.taking = false;
+                self.broken = true;
+            }
+        }
+        Ok(())
     }
 
     #[tactic(auto, using(crate::proofs::FrontLemmas::fronts))]

@@ -1,6 +1,5 @@
 //! The joints as one type.
 
-use crate::drains::Drain;
 use crate::fixed::Fixed;
 use crate::in_order::InOrder;
 use crate::splits::Split;
@@ -13,9 +12,7 @@ use ps_lines::Memory;
 pub enum Joint {
     /// Inputs joined in order.
     InOrder(InOrder),
-    /// An input that nothing is done with.
-    Drain(Drain),
-    /// A text given.
+    /// A text that is given, or an input that nothing is done with.
     Fixed(Fixed),
     /// The sum of counts.
     CountSum(CountSum),
@@ -28,7 +25,6 @@ impl Machine for Joint {
 
     ghost act = { λ joint. elim joint [
       | variant.InOrder machine ↦ ⟦<InOrder as Machine>⟧.act machine
-      | variant.Drain machine ↦ ⟦<Drain as Machine>⟧.act machine
       | variant.Fixed machine ↦ ⟦<Fixed as Machine>⟧.act machine
       | variant.CountSum machine ↦ ⟦<CountSum as Machine>⟧.act machine
       | variant.Split machine ↦ ⟦<Split as Machine>⟧.act machine
@@ -36,7 +32,6 @@ impl Machine for Joint {
 
     ghost takes = { λ joint port. elim joint [
       | variant.InOrder machine ↦ ⟦<InOrder as Machine>⟧.takes machine port
-      | variant.Drain machine ↦ ⟦<Drain as Machine>⟧.takes machine port
       | variant.Fixed machine ↦ ⟦<Fixed as Machine>⟧.takes machine port
       | variant.CountSum machine ↦ ⟦<CountSum as Machine>⟧.takes machine port
       | variant.Split machine ↦ ⟦<Split as Machine>⟧.takes machine port
@@ -44,7 +39,6 @@ impl Machine for Joint {
 
     ghost puts = { λ joint port. elim joint [
       | variant.InOrder machine ↦ ⟦<InOrder as Machine>⟧.puts machine port
-      | variant.Drain machine ↦ ⟦<Drain as Machine>⟧.puts machine port
       | variant.Fixed machine ↦ ⟦<Fixed as Machine>⟧.puts machine port
       | variant.CountSum machine ↦ ⟦<CountSum as Machine>⟧.puts machine port
       | variant.Split machine ↦ ⟦<Split as Machine>⟧.puts machine port
@@ -52,7 +46,6 @@ impl Machine for Joint {
 
     ghost broken = { λ joint. elim joint [
       | variant.InOrder machine ↦ ⟦<InOrder as Machine>⟧.broken machine
-      | variant.Drain machine ↦ ⟦<Drain as Machine>⟧.broken machine
       | variant.Fixed machine ↦ ⟦<Fixed as Machine>⟧.broken machine
       | variant.CountSum machine ↦ ⟦<CountSum as Machine>⟧.broken machine
       | variant.Split machine ↦ ⟦<Split as Machine>⟧.broken machine
@@ -60,7 +53,6 @@ impl Machine for Joint {
 
     ghost due = { λ joint texts port. elim joint [
       | variant.InOrder machine ↦ ⟦<InOrder as Machine>⟧.due machine texts port
-      | variant.Drain machine ↦ ⟦<Drain as Machine>⟧.due machine texts port
       | variant.Fixed machine ↦ ⟦<Fixed as Machine>⟧.due machine texts port
       | variant.CountSum machine ↦ ⟦<CountSum as Machine>⟧.due machine texts port
       | variant.Split machine ↦ ⟦<Split as Machine>⟧.due machine texts port
@@ -68,7 +60,6 @@ impl Machine for Joint {
 
     ghost selects = { λ joint texts. elim joint [
       | variant.InOrder machine ↦ ⟦<InOrder as Machine>⟧.selects machine texts
-      | variant.Drain machine ↦ ⟦<Drain as Machine>⟧.selects machine texts
       | variant.Fixed machine ↦ ⟦<Fixed as Machine>⟧.selects machine texts
       | variant.CountSum machine ↦ ⟦<CountSum as Machine>⟧.selects machine texts
       | variant.Split machine ↦ ⟦<Split as Machine>⟧.selects machine texts
@@ -77,7 +68,6 @@ impl Machine for Joint {
     fn next(&self) -> Act {
         match self {
             Joint::InOrder(machine) => machine.next(),
-            Joint::Drain(machine) => machine.next(),
             Joint::Fixed(machine) => machine.next(),
             Joint::CountSum(machine) => machine.next(),
             Joint::Split(machine) => machine.next(),
@@ -87,7 +77,6 @@ impl Machine for Joint {
     fn take(&mut self, piece: Piece) -> Result<(), Memory> {
         match self {
             Joint::InOrder(machine) => machine.take(piece),
-            Joint::Drain(machine) => machine.take(piece),
             Joint::Fixed(machine) => machine.take(piece),
             Joint::CountSum(machine) => machine.take(piece),
             Joint::Split(machine) => machine.take(piece),
@@ -97,7 +86,6 @@ impl Machine for Joint {
     fn put(&mut self) -> Result<Piece, Memory> {
         match self {
             Joint::InOrder(machine) => machine.put(),
-            Joint::Drain(machine) => machine.put(),
             Joint::Fixed(machine) => machine.put(),
             Joint::CountSum(machine) => machine.put(),
             Joint::Split(machine) => machine.put(),
@@ -107,7 +95,6 @@ impl Machine for Joint {
     fn selected(&self) -> bool {
         match self {
             Joint::InOrder(machine) => machine.selected(),
-            Joint::Drain(machine) => machine.selected(),
             Joint::Fixed(machine) => machine.selected(),
             Joint::CountSum(machine) => machine.selected(),
             Joint::Split(machine) => machine.selected(),

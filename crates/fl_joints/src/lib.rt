@@ -6,7 +6,6 @@
 //! `specs/Joints.antt` says which nodes have a joint.
 #![tactic(auto)]
 
-mod drains;
 mod fixed;
 mod fronts;
 mod in_order;

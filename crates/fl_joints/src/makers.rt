@@ -4,7 +4,6 @@ ghost use Rattle.fl_graph.specs.Kinds.{may_have};
 ghost use Rattle.fl_classes.specs.Nodes.{Begins};
 ghost use Rattle.fl_joints.specs.Joints.{is_joint};
 
-use crate::drains::Drain;
 use crate::fixed::Fixed;
 use crate::in_order::InOrder;
 use crate::joints::Joint;
@@ -27,8 +26,8 @@ pub fn joint(alloc: Global, kind: &NodeKind, ins: u32, outs: u32) -> Result<Join
 {
     match kind {
         NodeKind::Cat { close: false } => Ok(Joint::InOrder(InOrder::new(ins))),
-        NodeKind::Drain => Ok(Joint::Drain(Drain::new())),
-        NodeKind::Text(text) => Ok(Joint::Fixed(Fixed::new(alloc, text)?)),
+        NodeKind::Drain => Ok(Joint::Fixed(Fixed::draining(alloc)?)),
+        NodeKind::Text(text) => Ok(Joint::Fixed(Fixed::giving(alloc, text)?)),
         NodeKind::Agg(Inv::Wc(_)) => Ok(Joint::CountSum(CountSum::new(alloc, ins))),
         NodeKind::Split => Ok(Joint::Split(Split::new(alloc, outs))),
         _ => unreachable!(),

@@ -1,2 +1,3 @@
 mod FitLemmas
+pub mod ExpansionLemmas
 pub mod ReadingLemmas

@@ -4,3 +4,5 @@ pub mod Brackets
 pub mod Reading
 pub mod Fits
 pub mod Walks
+pub mod PathExpansion
+pub mod Finding

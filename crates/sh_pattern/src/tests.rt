@@ -1,6 +1,8 @@
 //! Marked texts, the texts that they are matched against, and whether they fit: by the standard's text, and as `dash`
 //! answers where the rule isn't our own.
 
+mod paths;
+
 use crate::{Mark, matches, read_pattern};
 use std::alloc::{AllocError, Global};
 use std::test::Fail;

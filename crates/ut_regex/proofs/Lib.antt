@@ -18,4 +18,7 @@ pub mod TableLemmas
 pub mod RunLemmas
 pub mod TwinLemmas
 pub mod LineLemmas
+pub mod CutLemmas
 pub mod LiteralLemmas
+pub mod FoldedLemmas
+pub mod HavingLemmas

@@ -1,23 +1,25 @@
 -- What is required of an expression stands in each line that has it.
-use Rattle.std.proofs.Common.{ℕ, zero, suc, ◌≡◌, ◌+◌, ◌<◌, ◌≤◌, ◌==◌, ◌||◌, ◌&&◌, Bool, true, false, List, [], ◌∷◌, ◌++◌, length, slice_index, take, Option, Some, None, Result, Ok, Err, IfOk, IfSome, MatchOption, not, refl, ap, sym, subst, ◌∙◌, arith, length-append}
-use Rattle.std.specs.Option.{is_some}
+use Rattle.std.proofs.Common.{ℕ, zero, suc, ◌≡◌, ◌+◌, ◌<◌, ◌≤◌, ◌==◌, ◌||◌, ◌&&◌, Bool, true, false, List, [], ◌∷◌, ◌++◌, length, slice_index, take, Option, Some, None, Result, Ok, Err, IfOk, IfSome, MatchOption, refl, ap, sym, subst, ◌∙◌, arith, length-append}
 use Rattle.std.proofs.Math.Seq.{take_all}
-use Rattle.std.proofs.lemmas.Bool.{false≢true, eqb-true}
+use Rattle.std.proofs.lemmas.Bool.{false≢true, eq-eqb, eqb-true}
 use Rattle.std.proofs.lemmas.Bool.Decides.{nat_tests}
-use Rattle.memchr.specs.Find.{OccursAt, FindsNeedle}
+use Rattle.memchr.specs.Find.{FindsNeedle, Nowhere, OccursAt, is_byte2}
 use Rattle.ut_regex.specs.declared.literals.Required.{Required}
+use Rattle.ut_regex.specs.declared.search.Search.{Search}
+use Rattle.ut_regex.specs.declared.search.Search.TheVariants.{Exact}
 use Rattle.ut_regex.specs.declared.tree.Leaf.TheVariants.{Byte}
 use Rattle.ut_regex.specs.declared.tree.Node.{Node}
 use Rattle.ut_regex.specs.Tree.{Tree, last_tree, trees_before, with_node, with_nodes, sequence}
 use Rattle.ut_regex.specs.Spans.{is_from, other_case, fits, Spans, Has}
+use Rattle.ut_regex.specs.Searches.{bytes_of, folds, Looks}
 use Rattle.ut_regex.specs.Literals.{StandsAt, Contains, StandsBefore, IsLiteral, Requires, AreRequired}
 
 -- nothing at all is required of any expression
 pub nothing_required : (required : Required) → required.inner.items ≡ [] → required.suffix.items ≡ [] → required.exact ≡ false
     → (fold : Bool) (re : Tree) → Requires fold re required
 nothing_required required inner suffix exact fold re = record {
-  inner = λ line from to h. subst (λ bytes. Contains line bytes) (sym inner) (0, tt);
-  suffix = λ line from to h. subst (λ bytes. StandsBefore line bytes to) (sym suffix) (to, omega arith, tt);
+  inner = λ line from to h. subst (λ bytes. Contains fold line bytes) (sym inner) (0, tt);
+  suffix = λ line from to h. subst (λ bytes. StandsBefore fold line bytes to) (sym suffix) (to, omega arith, tt);
   exact = λ is. absurd (false≢true (sym exact ∙ is));
 }
 
@@ -25,20 +27,21 @@ nothing_required required inner suffix exact fold re = record {
 pub no_bytes_required : (required : Required) → required.inner.items ≡ [] → required.suffix.items ≡ []
     → (fold : Bool) (re : Tree) → ((line : List ℕ) (from to : ℕ) → Spans fold line re from to → to ≡ from) → Requires fold re required
 no_bytes_required required inner suffix fold re nowhere = record {
-  inner = λ line from to h. subst (λ bytes. Contains line bytes) (sym inner) (0, tt);
-  suffix = λ line from to h. subst (λ bytes. StandsBefore line bytes to) (sym suffix) (to, omega arith, tt);
+  inner = λ line from to h. subst (λ bytes. Contains fold line bytes) (sym inner) (0, tt);
+  suffix = λ line from to h. subst (λ bytes. StandsBefore fold line bytes to) (sym suffix) (to, omega arith, tt);
   exact = λ is line from to h. let no : length required.suffix.items ≡ 0 = ap length suffix in omega (arith, nowhere line from to h, no);
 }
 
 -- bytes stand behind others
-stands-append : (line front back : List ℕ) (place : ℕ) → StandsAt line front place → StandsAt line back (place + length front) → StandsAt line (front ++ back) place
-stands-append line [] back place h k = subst (λ p. StandsAt line back p) (omega arith) k
-stands-append line (byte ∷ front) back place (within, is, more) k =
-    (within, is, stands-append line front back (place + 1) more (subst (λ p. StandsAt line back p) (omega arith) k))
+stands-append : (fold : Bool) (line front back : List ℕ) (place : ℕ) → StandsAt fold line front place → StandsAt fold line back (place + length front)
+    → StandsAt fold line (front ++ back) place
+stands-append fold line [] back place h k = subst (λ p. StandsAt fold line back p) (omega arith) k
+stands-append fold line (byte ∷ front) back place (within, is, more) k =
+    (within, is, stands-append fold line front back (place + 1) more (subst (λ p. StandsAt fold line back p) (omega arith) k))
 
 -- an exact part behind another one makes its suffix longer
 pub exact_followed : (fold : Bool) (re last : Tree) (first second required : Required) → Requires fold re first → Requires fold last second → second.exact ≡ true
-    → ((line : List ℕ) → Contains line first.inner.items → Contains line second.inner.items → Contains line required.inner.items)
+    → ((line : List ℕ) → Contains fold line first.inner.items → Contains fold line second.inner.items → Contains fold line required.inner.items)
     → required.suffix.items ≡ first.suffix.items ++ second.suffix.items → required.exact ≡ first.exact → Requires fold (sequence re last) required
 exact_followed fold re last first second required front back second_exact longer suffix exact =
     let size : length required.suffix.items ≡ length first.suffix.items + length second.suffix.items =
@@ -52,8 +55,8 @@ exact_followed fold re last first second required front back second_exact longer
           let place : behind.0 ≡ before.0 + length first.suffix.items = omega (arith, before.1, behind.1, wide) in (
             before.0,
             omega (arith, before.1, wide, size),
-            subst (λ bytes. StandsAt line bytes before.0) (sym suffix)
-                (stands-append line first.suffix.items second.suffix.items before.0 before.2 (subst (λ p. StandsAt line second.suffix.items p) place behind.2)),
+            subst (λ bytes. StandsAt fold line bytes before.0) (sym suffix)
+                (stands-append fold line first.suffix.items second.suffix.items before.0 before.2 (subst (λ p. StandsAt fold line second.suffix.items p) place behind.2)),
           );
       exact = λ is line from to h.
           omega (arith, front.exact (sym exact ∙ is) line from h.0 h.1, back.exact second_exact line h.0 to h.2, size);
@@ -71,41 +74,27 @@ if_ok_map (Ok value) more h = more value h
 if_ok_map (Err error) more h = tt
 
 -- what stands before a place is contained
-pub before_contained : (line bytes : List ℕ) (end : ℕ) → StandsBefore line bytes end → Contains line bytes
-before_contained line bytes end (place, is, h) = (place, h)
+pub before_contained : (fold : Bool) (line bytes : List ℕ) (end : ℕ) → StandsBefore fold line bytes end → Contains fold line bytes
+before_contained fold line bytes end (place, is, h) = (place, h)
 
--- bytes that stand in a line are found there
-stands_within : (line bytes : List ℕ) (place : ℕ) → place ≤ length line → StandsAt line bytes place → place + length bytes ≤ length line
-stands_within line [] place within h = omega (arith, within)
-stands_within line (byte ∷ bytes) place within (here, is, more) = omega (arith, stands_within line bytes (place + 1) (omega (arith, here)) more)
+-- bytes that stand in a line stand within it
+pub stands_within : (fold : Bool) (line bytes : List ℕ) (place : ℕ) → place ≤ length line → StandsAt fold line bytes place → place + length bytes ≤ length line
+stands_within fold line [] place within h = omega (arith, within)
+stands_within fold line (byte ∷ bytes) place within (here, is, more) =
+    omega (arith, stands_within fold line bytes (place + 1) (omega (arith, here)) more)
 
-stands_reads : (line bytes : List ℕ) (place : ℕ) → StandsAt line bytes place → (offset : ℕ) → offset < length bytes
-    → slice_index line (place + offset) ≡ slice_index bytes offset
-stands_reads line [] place h offset within = absurd (omega (arith, within))
-stands_reads line (byte ∷ bytes) place (here, is, more) zero within = let e : place + zero ≡ place = omega arith in rw e is
-stands_reads line (byte ∷ bytes) place (here, is, more) (suc offset) within =
+pub stands_long : (fold : Bool) (line bytes : List ℕ) (place : ℕ) → StandsAt fold line bytes place → 0 < length bytes → place < length line
+stands_long fold line [] place h some = absurd (omega (arith, some))
+stands_long fold line (byte ∷ bytes) place (within, is, more) some = within
+
+-- each byte of the line is what the one of the bytes asks for
+pub stands_fits : (fold : Bool) (line bytes : List ℕ) (place : ℕ) → StandsAt fold line bytes place → (offset : ℕ) → offset < length bytes
+    → fits fold (Byte (slice_index bytes offset)) (slice_index line (place + offset)) ≡ true
+stands_fits fold line [] place h offset within = absurd (omega (arith, within))
+stands_fits fold line (byte ∷ bytes) place (here, is, more) zero within = let e : place + zero ≡ place = omega arith in rw e is
+stands_fits fold line (byte ∷ bytes) place (here, is, more) (suc offset) within =
     let e : place + suc offset ≡ place + 1 + offset = omega arith in
-    rw e (stands_reads line bytes (place + 1) more offset (omega (arith, within)))
-
-occurs : (line bytes : List ℕ) → Contains line bytes → (place : ℕ) × OccursAt line bytes place
-occurs line [] h = (0, record { fits = omega arith; reads = λ offset within. absurd (omega (arith, within)) })
-occurs line (byte ∷ bytes) (place, h) =
-    (place, record { fits = stands_within line (byte ∷ bytes) place (omega (arith, h.0)) h; reads = stands_reads line (byte ∷ bytes) place h })
-
--- where a search finds nothing the line lacks the bytes
-lacks : (line bytes : List ℕ) → FindsNeedle line bytes 0 None → ¬ Contains line bytes
-lacks line bytes none h =
-    let there = occurs line bytes h in
-    none there.0 (omega arith) (let fits = there.1.fits in omega (arith, fits)) there.1
-
--- a line that has an expression contains its literal
-pub has_literal : (fold whole : Bool) (re : Tree) (line bytes : List ℕ) → IsLiteral fold re bytes → Has fold whole line re → Contains line bytes
-has_literal fold true re line bytes literal h = literal line 0 (length line) h
-has_literal fold false re line bytes literal (from, to, within, h) = literal line from to h
-
--- the nodes that a walk has come over at its end are all of them
-pub all_taken : (nodes : List Node) (count : ℕ) → length nodes ≤ count → with_nodes [] (take count nodes) ≡ with_nodes [] nodes
-all_taken nodes count h = ap (λ all. with_nodes [] all) (take_all count nodes h)
+    rw e (stands_fits fold line bytes (place + 1) more offset (omega (arith, within)))
 
 -- one byte alone fits a byte that has no other case
 pub only_plain : (fold : Bool) (wanted byte : ℕ) → fold ≡ false → fits fold (Byte wanted) byte ≡ true → byte ≡ wanted
@@ -116,32 +105,59 @@ only_plain false wanted byte plain h = by_test (byte == wanted) refl h
     by_test true is h = eqb-true byte wanted is
     by_test false is h = absurd (false≢true h)
 
--- what has no other case is no other's other case
-one_case : (wanted byte : ℕ) → other_case wanted ≡ wanted → other_case byte ≡ wanted → byte ≡ wanted
+-- bytes that stand in a line as they are occur there
+pub occurs_there : (line bytes : List ℕ) (place : ℕ) → place ≤ length line → StandsAt false line bytes place → OccursAt line bytes place
+occurs_there line bytes place within h = record {
+  fits = stands_within false line bytes place within h;
+  reads = λ offset low. only_plain false (slice_index bytes offset) (slice_index line (place + offset)) refl (stands_fits false line bytes place h offset low);
+}
+
+-- a line that has an expression contains its literal
+pub has_literal : (fold whole : Bool) (re : Tree) (line bytes : List ℕ) → IsLiteral fold re bytes → Has fold whole line re → Contains fold line bytes
+has_literal fold true re line bytes literal h = literal line 0 (length line) h
+has_literal fold false re line bytes literal (from, to, within, h) = literal line from to h
+
+-- the nodes that a walk has come over at its end are all of them
+pub all_taken : (nodes : List Node) (count : ℕ) → length nodes ≤ count → with_nodes [] (take count nodes) ≡ with_nodes [] nodes
+all_taken nodes count h = ap (λ all. with_nodes [] all) (take_all count nodes h)
+
+-- a search for bytes as they are
+pub exact-first : (search : Search) (bytes text : List ℕ) (place : ℕ) → search ≡ Exact bytes → FindsNeedle text bytes 0 (Some place)
+    → Nowhere (StandsAt (folds search) text (bytes_of search)) 0 place
+exact-first search bytes text place is found = rw is (λ at low before stands.
+    let within = found.0.high in
+    found.0.before at low before (occurs_there text bytes at (omega (arith, within, before)) stands))
+
+pub exact-none : (search : Search) (bytes text : List ℕ) → search ≡ Exact bytes → FindsNeedle text bytes 0 None
+    → Nowhere (StandsAt (folds search) text (bytes_of search)) 0 (length text)
+exact-none search bytes text is none = rw is (λ at low before stands.
+    none at low (omega (arith, before)) (occurs_there text bytes at (omega (arith, before)) stands))
+
+-- a letter's other case has that letter as its other case
+other_case_twice : (byte : ℕ) → other_case (other_case byte) ≡ byte
 unfolding other_case is_from
-one_case wanted byte plain other = grind (arith, nat_tests)
+other_case_twice byte = grind (arith, nat_tests)
 
-pub only_folded : (fold : Bool) (wanted byte : ℕ) → other_case wanted ≡ wanted → fits fold (Byte wanted) byte ≡ true → byte ≡ wanted
-only_folded fold wanted byte plain h = by_test (byte == wanted) refl h
+-- what fits a byte in both cases is the byte or its other case
+pub fits_either : (wanted byte : ℕ) → fits true (Byte wanted) byte ≡ true → is_byte2 wanted (other_case wanted) byte ≡ true
+fits_either wanted byte h = by_test (byte == wanted) refl h
   where
-    by_other : (fold other : Bool) → (other_case byte == wanted) ≡ other → (fold && other) ≡ true → byte ≡ wanted
-    by_other true true is h = one_case wanted byte plain (eqb-true (other_case byte) wanted is)
-    by_other true false is h = absurd (false≢true h)
-    by_other false other is h = absurd (false≢true h)
+    by_test : (same : Bool) → (byte == wanted) ≡ same → (same || (true && (other_case byte == wanted))) ≡ true → (same || (byte == other_case wanted)) ≡ true
+    by_test true is h = refl
+    by_test false is h = eq-eqb byte (other_case wanted) (sym (other_case_twice byte) ∙ ap other_case (eqb-true (other_case byte) wanted h))
 
-    by_test : (same : Bool) → (byte == wanted) ≡ same → (same || (fold && (other_case byte == wanted))) ≡ true → byte ≡ wanted
-    by_test true is h = eqb-true byte wanted is
-    by_test false is h = by_other fold (other_case byte == wanted) refl h
+-- a line in which the literal of an expression stands nowhere lacks the expression
+pub lacking_literal : (fold whole : Bool) (re : Tree) (line : List ℕ) (literal : Option Search) → IfSome literal (λ search. Looks search fold re)
+    → MatchOption literal ⊥ (λ search. Nowhere (StandsAt (folds search) line (bytes_of search)) 0 (length line)) → ¬ Has fold whole line re
+lacking_literal fold whole re line (Some search) looks nowhere has =
+    let there = has_literal fold whole re line (bytes_of search) looks.required has in
+    let same : StandsAt (folds search) line (bytes_of search) there.0 = subst (λ fold. StandsAt fold line (bytes_of search) there.0) (sym looks.cases) there.1 in
+    nowhere there.0 (omega arith) (stands_long fold line (bytes_of search) there.0 there.1 looks.some) same
+lacking_literal fold whole re line None looks nowhere has = absurd nowhere
 
--- a search that finds nothing shows that the line lacks the bytes
-pub none_found : (line bytes : List ℕ) (found : Option ℕ) (none : Bool) → is_some found ≡ not none → none ≡ true → FindsNeedle line bytes 0 found
-    → ¬ Contains line bytes
-none_found line bytes None none is h nowhere = lacks line bytes nowhere
-none_found line bytes (Some place) true is h there = absurd (false≢true (sym is))
-none_found line bytes (Some place) false is h there = absurd (false≢true h)
-
--- a line that lacks the literal of an expression lacks the expression
-pub lacking_literal : (fold whole : Bool) (re : Tree) (line : List ℕ) (literal : Option (List ℕ)) → IfSome literal (λ bytes. IsLiteral fold re bytes)
-    → MatchOption literal ⊥ (λ bytes. ¬ Contains line bytes) → ¬ Has fold whole line re
-lacking_literal fold whole re line (Some bytes) literal lacking has = lacking (has_literal fold whole re line bytes literal has)
-lacking_literal fold whole re line None literal lacking has = absurd lacking
+-- where the first place is the line's end, the bytes stand nowhere in it
+pub nowhere_there : (literal : Option Search) (search : Search) (line : List ℕ) (place : ℕ) → literal ≡ Some search → (place == length line) ≡ true
+    → Nowhere (StandsAt (folds search) line (bytes_of search)) 0 place
+    → MatchOption literal ⊥ (λ search. Nowhere (StandsAt (folds search) line (bytes_of search)) 0 (length line))
+nowhere_there literal search line place is same nowhere =
+    rw is (subst (λ end. Nowhere (StandsAt (folds search) line (bytes_of search)) 0 end) (eqb-true place (length line) same) nowhere)

@@ -2,7 +2,7 @@
 use Rattle.std.specs.Prelude.{◌≡◌, Bool, IfSome}
 use Rattle.ut_regex.specs.declared.matcher.Matcher.{Matcher}
 use Rattle.ut_regex.specs.Tree.{Tree}
-use Rattle.ut_regex.specs.Literals.{IsLiteral}
+use Rattle.ut_regex.specs.Searches.{Looks}
 use Rattle.ut_regex.specs.Seeks.{Seeks, Same}
 use Rattle.ut_regex.specs.Tables.{IsMade}
 
@@ -10,7 +10,7 @@ use Rattle.ut_regex.specs.Tables.{IsMade}
 pub record Finds (matcher : Matcher) (fold whole : Bool) (re : Tree) : Type 0 where
   pub seeks : Seeks matcher.machine fold whole re
   pub table : IfSome matcher.table (λ table. IsMade matcher.machine.steps.items matcher.machine.fold matcher.machine.whole table)
-  pub literal : IfSome matcher.literal (λ bytes. IsLiteral fold re bytes)
+  pub literal : IfSome matcher.literal (λ search. Looks search fold re)
 
 -- a matcher finds what it found
 pub record Stays (old new : Matcher) : Type 0 where

@@ -7,7 +7,9 @@ pub mod Seeks
 pub mod Tables
 pub mod Twins
 pub mod Literals
+pub mod Searches
 pub mod Finds
+pub mod Having
 pub mod Brackets
 pub mod Intervals
 pub mod Pieces

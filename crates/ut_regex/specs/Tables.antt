@@ -1,6 +1,7 @@
 -- Tables of a machine's states. A table has an entry for each state and byte: the state behind it, or that the line has the
 -- expression.
-use Rattle.std.specs.Prelude.{ℕ, ◌≡◌, ◌+◌, ◌*◌, ◌<◌, ◌≤◌, ◌==◌, ◌||◌, ◌⊎◌, not, Bool, true, false, List, [], ◌∷◌, length, map, reverse, slice_index_or, if◌then◌else◌}
+use Rattle.std.specs.Prelude.{ℕ, suc, Option, Some, None, ◌≡◌, ◌+◌, ◌*◌, ◌<◌, ◌≤◌, ◌==◌, ◌||◌, ◌⊎◌, not, Bool, true, false, List, [], ◌∷◌, length, map, reverse, slice_index_or, if◌then◌else◌}
+use Rattle.ps_lines.specs.declared.newlines.TheConstants.{NEWLINE}
 use Rattle.ut_regex.specs.declared.machine.Row.{Row}
 use Rattle.ut_regex.specs.declared.program.Op.{Op}
 use Rattle.ut_regex.specs.declared.table.Table.{Table}
@@ -43,6 +44,18 @@ runs next ends state [] = slice_index_or ends state false
 runs next ends state (byte ∷ line) =
     if slice_index_or next (256 * state + byte) FOUND == FOUND then true
     else runs next ends (slice_index_or next (256 * state + byte) FOUND) line
+
+-- the entry of a state for a byte of a text: at a newline the line ends, and the next one begins in the first state
+abbrev pub text_entry : List ℕ → List Bool → ℕ → ℕ → ℕ
+text_entry next ends state byte =
+    if byte == NEWLINE then (if slice_index_or ends state false then FOUND else 0) else slice_index_or next (256 * state + byte) FOUND
+
+-- how much is left of a text where the first line that has the expression is known to have it, the byte that shows it among it; from a
+-- state on. What is behind the last newline counts as far as it is read
+abbrev pub left_at_found : List ℕ → List Bool → ℕ → List ℕ → Option ℕ
+left_at_found next ends state [] = None
+left_at_found next ends state (byte ∷ rest) =
+    if text_entry next ends state byte == FOUND then Some (suc (length rest)) else left_at_found next ends (text_entry next ends state byte) rest
 
 -- an entry leads to a state: the expression ends there, or it is that state's place
 abbrev pub IsEntry : List Op → Bool → List State → ℕ → State → Type 0

@@ -1,5 +1,7 @@
 //! Laws of the definitions that belong to no single call.
-ghost use Rattle.std.specs.Prelude.{Bool};
+ghost use Rattle.std.specs.Prelude.{◌≡◌, ◌++◌, ◌∷◌, ℕ, Bool, List};
+ghost use Rattle.ps_lines.specs.Lines.{lines};
+ghost use Rattle.ut_regex.specs.Having.{CutsOut};
 ghost use Rattle.ut_regex.specs.OneReading.{HasOneReading};
 ghost use Rattle.ut_regex.specs.Same.{SameTree};
 ghost use Rattle.ut_regex.specs.Spans.{Has};
@@ -21,3 +23,9 @@ pub fn same_lines(line: &[u8])
 {
     let _ = line;
 }
+
+/// The lines of a text out of which a line is cut are those before it, the line itself, and those behind it.
+#[tactic(auto, using(crate::proofs::HavingLemmas::lines_cut))]
+pub fn lines_around_a_cut()
+    ensures { (text before line rest : List ℕ) → CutsOut text before line rest → lines text ≡ lines before ++ line ∷ lines rest }
+{}

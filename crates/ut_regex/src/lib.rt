@@ -2,18 +2,21 @@
 //!
 //! `read_bre` and `read_ere` read a text as a basic or an extended expression, or tell its first fault. `compile` makes a
 //! matcher of an expression, and `Matcher::has` answers whether a line has it. The matcher carries a set of places along the
-//! line, so no expression makes it go back, and it takes no memory for a line.
+//! line, so no expression makes it go back, and it takes no memory for a line. `Matcher::first_having` finds the first line of a
+//! text that has it, and looks for the ends of lines only where a line may.
 //!
-//! `specs/Spans.antt` says which places of a line an expression spans, and which lines have it; `specs/Reading.antt` says
-//! which texts are expressions, of which tree, and what the first fault of the others is; `specs/Sizes.antt` says which
-//! expressions are too large.
+//! `specs/Spans.antt` says which places of a line an expression spans, and which lines have it; `specs/Having.antt` says which
+//! line of a text is the first that has it; `specs/Reading.antt` says which texts are expressions, of which tree, and what the
+//! first fault of the others is; `specs/Sizes.antt` says which expressions are too large.
 #![tactic(auto)]
 
 mod bits;
 mod brackets;
 mod building;
+mod cuts;
 mod expansion;
 mod fault;
+mod folded;
 mod intervals;
 pub mod laws;
 mod literals;
@@ -22,14 +25,18 @@ mod matcher;
 mod pieces;
 mod program;
 mod reading;
+mod search;
 mod sizes;
 mod sweep;
 mod table;
 #[cfg(test)]
 mod tests;
+#[cfg(test)]
+mod text_tests;
 mod tree;
 mod twins;
 
+pub use cuts::Cut;
 pub use fault::ReFault;
 pub use matcher::{Matcher, compile};
 pub use reading::{read_bre, read_ere};

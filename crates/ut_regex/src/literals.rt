@@ -3,7 +3,6 @@ ghost use Rattle.std.specs.Prelude.{◌≡◌, ℕ, Bool, List, [], IfOk, OnOk, 
 ghost use Rattle.ut_regex.specs.Tree.{Tree, leaf, line_begin, line_end, empty, group, sequence, repetition, last_tree, trees_before, with_node, with_nodes};
 ghost use Rattle.ut_regex.specs.Literals.{AreRequired, Contains, IsLiteral, Requires};
 
-use crate::program::only_byte;
 use crate::tree::{Bounds, Leaf, Node};
 use std::alloc::{AllocError, Global};
 
@@ -44,16 +43,16 @@ impl Required {
     }
 
     /// One byte.
-    fn of_leaf(alloc: Global, one: Leaf, fold: bool) -> Result<Required, AllocError>
-        ensures { IfOk result (λ required. Requires fold (leaf one) required) }
+    fn of_leaf(alloc: Global, one: Leaf) -> Result<Required, AllocError>
+        ensures { IfOk result (λ required. (fold : Bool) → Requires fold (leaf one) required) }
     {
-        match only_byte(one, fold) {
-            Some(byte) => Ok(Required {
+        match one {
+            Leaf::Byte(byte) => Ok(Required {
                 inner: Vec::new(alloc),
                 suffix: vec![in alloc; byte]?,
                 exact: true,
             }),
-            None => Ok(Required::nothing(alloc)),
+            Leaf::Any | Leaf::Among(_) | Leaf::NotAmong(_) => Ok(Required::nothing(alloc)),
         }
     }
 
@@ -96,7 +95,7 @@ impl Required {
 
 /// The longer one of two literals.
 fn longer(first: Vec<u8>, second: Vec<u8>) -> Vec<u8>
-    ensures { (line : List ℕ) → Contains line first.items → Contains line second.items → Contains line result.items }
+    ensures { (fold : Bool) (line : List ℕ) → Contains fold line first.items → Contains fold line second.items → Contains fold line result.items }
 {
     if first.len() < second.len() {
         second
@@ -106,44 +105,34 @@ fn longer(first: Vec<u8>, second: Vec<u8>) -> Vec<u8>
 }
 
 /// Bytes that a line has in a row wherever it has the expression of these nodes. There are none where none are known.
-pub(crate) fn literal_of(alloc: Global, nodes: &[Node], fold: bool) -> Result<Vec<u8>, AllocError>
-    ensures { IfOk result (λ literal. IsLiteral fold (last_tree (with_nodes [] nodes.now)) literal.items) }
+pub(crate) fn literal_of(alloc: Global, nodes: &[Node]) -> Result<Vec<u8>, AllocError>
+    ensures { IfOk result (λ literal. (fold : Bool) → IsLiteral fold (last_tree (with_nodes [] nodes.now)) literal.items) }
 {
     let mut parts = Vec::new(alloc);
     for node in nodes {
-        add_node(alloc, &mut parts, *node, fold)?;
+        add_node(alloc, &mut parts, *node)?;
     }
     let last = last_part(alloc, &mut parts);
     Ok(longer(last.inner, last.suffix))
 }
 
 /// Makes one part of the last parts, as a node says.
-fn add_node(
-    alloc: Global,
-    parts: &mut Vec<Required>,
-    node: Node,
-    fold: bool,
-) -> Result<(), AllocError>
-    ensures { OnOk result ((trees : List Tree) → AreRequired fold (reverse parts.old.items) trees
+fn add_node(alloc: Global, parts: &mut Vec<Required>, node: Node) -> Result<(), AllocError>
+    ensures { OnOk result ((fold : Bool) (trees : List Tree) → AreRequired fold (reverse parts.old.items) trees
         → AreRequired fold (reverse parts.new.items) (with_node trees node)) }
 {
-    let made = part_of(alloc, parts, node, fold)?;
+    let made = part_of(alloc, parts, node)?;
     parts.push(made)?;
     Ok(())
 }
 
 /// What is required of a node's tree, whose parts are taken.
-fn part_of(
-    alloc: Global,
-    parts: &mut Vec<Required>,
-    node: Node,
-    fold: bool,
-) -> Result<Required, AllocError>
-    ensures { IfOk result (λ made. (trees : List Tree) → AreRequired fold (reverse parts.old.items) trees
+fn part_of(alloc: Global, parts: &mut Vec<Required>, node: Node) -> Result<Required, AllocError>
+    ensures { IfOk result (λ made. (fold : Bool) (trees : List Tree) → AreRequired fold (reverse parts.old.items) trees
         → Requires fold (last_tree (with_node trees node)) made × AreRequired fold (reverse parts.new.items) (trees_before (with_node trees node))) }
 {
     match node {
-        Node::Leaf(one) => Required::of_leaf(alloc, one, fold),
+        Node::Leaf(one) => Required::of_leaf(alloc, one),
         Node::Begin | Node::End | Node::Empty => Ok(Required::no_bytes(alloc)),
         Node::Group => Ok(last_part(alloc, parts)),
         Node::Sequence => {

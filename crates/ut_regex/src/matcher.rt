@@ -1,17 +1,20 @@
 //! The matcher.
-ghost use Rattle.std.specs.Prelude.{◌≡◌, true, IfOk, IfSome, MatchOption};
+ghost use Rattle.std.specs.Prelude.{◌≡◌, ◌<◌, ◌≤◌, true, length, IfOk, IfSome, MatchOption};
+ghost use Rattle.memchr.specs.Find.{Nowhere};
 ghost use Rattle.ut_regex.specs.Finds.{Finds};
-ghost use Rattle.ut_regex.specs.Literals.{Contains};
+ghost use Rattle.ut_regex.specs.Literals.{StandsAt};
+ghost use Rattle.ut_regex.specs.Searches.{bytes_of, folds};
 ghost use Rattle.ut_regex.specs.Tree.{tree};
 
+use crate::cuts::{Cut, cut_around};
 use crate::expansion::program_of;
 use crate::literals::literal_of;
 use crate::machine::Machine;
+use crate::search::Search;
 use crate::table::{Table, table_of};
 use crate::tree::Regex;
-use memchr::memmem::Finder;
 use ps_lines::Memory;
-use std::alloc::{AllocError, Global};
+use std::alloc::Global;
 
 /// Seeks one expression in lines. A line without the bytes that the expression needs lacks it. Of the others a table of the
 /// machine's states answers where they are few, and else the machine itself.
@@ -19,7 +22,7 @@ use std::alloc::{AllocError, Global};
 pub struct Matcher {
     machine: Machine,
     table: Option<Table>,
-    literal: Option<Finder<'static>>,
+    literal: Option<Search>,
 }
 
 /// A matcher for an expression: with `fold` letters are compared in both cases, and with `whole` the expression has to be
@@ -30,7 +33,7 @@ pub fn compile(alloc: Global, re: &Regex, fold: bool, whole: bool) -> Result<Mat
     let steps = program_of(alloc, &re.nodes)?;
     let mut machine = Machine::running(alloc, steps, fold, whole)?;
     let table = table_of(alloc, &mut machine)?;
-    let literal = search_for(alloc, &literal_of(alloc, &re.nodes, fold)?)?;
+    let literal = Search::of(alloc, literal_of(alloc, &re.nodes)?, fold)?;
     Ok(Matcher {
         machine,
         table,
@@ -38,29 +41,27 @@ pub fn compile(alloc: Global, re: &Regex, fold: bool, whole: bool) -> Result<Mat
     })
 }
 
-/// A search for these bytes, where there are any.
-fn search_for(alloc: Global, bytes: &[u8]) -> Result<Option<Finder<'static>>, AllocError>
-    ensures { IfOk result (λ made. IfSome made (λ search. search ≡ bytes.now)) }
-{
-    if bytes.is_empty() {
-        return Ok(None);
-    }
-    Ok(Some(Finder::new(bytes).into_owned(alloc)?))
-}
-
 /// Whether the line is known to lack what is searched for.
-fn lacks(search: &Option<Finder>, line: &[u8]) -> bool
-    ensures { result ≡ true → MatchOption search.now ⊥ (λ bytes. ¬ Contains line.now bytes) }
+fn lacks(literal: &Option<Search>, line: &[u8]) -> bool
+    ensures { result ≡ true → MatchOption literal.now ⊥ (λ search. Nowhere (StandsAt (folds search) line.now (bytes_of search)) 0 (length line.now)) }
 {
-    match search {
-        Some(finder) => finder.find(line).is_none(),
+    match literal {
+        Some(search) => search.first_place(line) == line.len(),
         None => false,
     }
 }
 
+/// How many failures a search for the literal may have beside one for each stretch of so many bytes.
+const SPARE_FAILURES: usize = 16;
+
+/// The bytes in which one failure of a search for the literal costs no more than the table.
+const FAILURE_STRETCH: usize = 128;
+
 impl Matcher {
-    ghost use Rattle.std.specs.Prelude.{◌↔◌, Bool, IsTrue};
+    ghost use Rattle.std.specs.Prelude.{◌↔◌, Bool, IsTrue, IfNone};
+    ghost use Rattle.ps_lines.specs.Lines.{is_closed, lines};
     ghost use Rattle.ut_regex.specs.Finds.{Finds, Stays};
+    ghost use Rattle.ut_regex.specs.Having.{CutsOut, IsFirstHaving, IsPassed, Lack};
     ghost use Rattle.ut_regex.specs.Spans.{Has};
     ghost use Rattle.ut_regex.specs.Tree.{Tree};
 
@@ -72,9 +73,65 @@ impl Matcher {
         if lacks(&self.literal, line) {
             return false;
         }
+        self.runs_over(line)
+    }
+
+    /// Whether the line has the expression, with no look for its literal.
+    fn runs_over(&mut self, line: &[u8]) -> bool
+        ensures has { (fold whole : Bool) (re : Tree) → Finds self.old fold whole re → (IsTrue result ↔ Has fold whole line.now re) }
+        ensures stays { Stays self.old self.new }
+    {
         match &self.table {
             Some(table) => table.has(line),
             None => self.machine.has(line),
+        }
+    }
+
+    /// The first line of a closed text that has the expression. It takes no memory.
+    pub fn first_having<'t>(&mut self, text: &'t [u8]) -> Option<Cut<'t>>
+        requires closed { is_closed text.now ≡ true }
+        ensures found { (fold whole : Bool) (re : Tree) → Finds self.old fold whole re
+            → IfSome result (λ cut. IsFirstHaving fold whole re text.now cut.before.now cut.line.now cut.rest.now) }
+        ensures none { (fold whole : Bool) (re : Tree) → Finds self.old fold whole re → IfNone result (Lack fold whole re (lines text.now)) }
+        ensures shorter { IfSome result (λ cut. length cut.rest.now < length text.now) }
+        ensures rest { IfSome result (λ cut. is_closed cut.rest.now ≡ true) }
+        ensures stays { Stays self.old self.new }
+    {
+        let mut from = 0;
+        let mut failures = 0;
+        loop {
+            let left = &text[from..];
+            let place = self.passed(left, failures <= from / FAILURE_STRETCH + SPARE_FAILURES);
+            let Some(cut) = cut_around(left, place) else {
+                return None;
+            };
+            if self.runs_over(cut.line) {
+                return Some(Cut {
+                    before: &text[..from + cut.before.len()],
+                    line: cut.line,
+                    rest: cut.rest,
+                });
+            }
+            from = text.len() - cut.rest.len();
+            failures += 1;
+        }
+    }
+
+    /// A place of a closed text such that no line that ends before it has the expression, or the text's length where no line has it.
+    fn passed(&self, text: &[u8], by_literal: bool) -> usize
+        requires closed { is_closed text.now ≡ true }
+        ensures within { result ≤ length text.now }
+        ensures passed { (fold whole : Bool) (re : Tree) → Finds self.now fold whole re → IsPassed fold whole re text.now result }
+    {
+        match &self.literal {
+            Some(search) if by_literal => search.first_place(text),
+            Some(_) | None => match &self.table {
+                Some(table) => match table.left_at_found(text) {
+                    Some(left) => text.len() - left,
+                    None => text.len(),
+                },
+                None => 0,
+            },
         }
     }
 }

@@ -1,6 +1,6 @@
 //! What a matcher runs: an expression whose repetitions are written out, in postfix.
 
-ghost use Rattle.std.specs.Prelude.{◌≡◌, ℕ, IfSome, true};
+ghost use Rattle.std.specs.Prelude.{◌≡◌};
 ghost use Rattle.ut_regex.specs.Spans.{fits, other_case};
 
 use crate::tree::Leaf;
@@ -38,19 +38,9 @@ pub(crate) fn fits(leaf: Leaf, fold: bool, byte: u8) -> bool
     }
 }
 
-/// The one byte that the leaf asks for, where it's known to be one.
-pub(crate) fn only_byte(leaf: Leaf, fold: bool) -> Option<u8>
-    ensures { IfSome result (λ wanted. (byte : ℕ) → fits fold leaf byte ≡ true → byte ≡ wanted) }
-{
-    match leaf {
-        Leaf::Byte(wanted) if !fold || other_case(wanted) == wanted => Some(wanted),
-        Leaf::Byte(_) | Leaf::Any | Leaf::Among(_) | Leaf::NotAmong(_) => None,
-    }
-}
-
 /// A letter in the other case, and any other byte as it is.
 #[tactic(auto, using(std::proofs::lemmas::Bool::Decides::nat_tests), unfolding(crate::specs::Spans::other_case, crate::specs::Spans::is_from))]
-fn other_case(byte: u8) -> u8
+pub(crate) fn other_case(byte: u8) -> u8
     ensures { result ≡ other_case byte }
 {
     match byte {

@@ -1,11 +1,14 @@
 //! Tables of a machine's states.
-ghost use Rattle.std.specs.Prelude.{◌≡◌, ◌+◌, ◌*◌, ◌<◌, ◌≤◌, ◌++◌, ◌∷◌, [], IfOk, IfSome, OnOk, length, false, true, slice_index_or};
+ghost use Rattle.std.specs.Prelude.{◌≡◌, ◌+◌, ◌-◌, ◌*◌, ◌<◌, ◌≤◌, ◌++◌, ◌∷◌, [], Some, None, IfNone, IfOk, IfSome, OnOk, length, false, true, slice_index_or};
+ghost use Rattle.ps_lines.specs.Lines.{is_closed};
 ghost use Rattle.ut_regex.specs.Seeks.{Same};
 ghost use Rattle.ut_regex.specs.Twins.{AreTwins, HasTwins};
-ghost use Rattle.ut_regex.specs.Tables.{runs, state_of, states_of, state_at, IsEntry, IsMade, Entered, Keeps};
+ghost use Rattle.ut_regex.specs.Tables.{left_at_found, runs, text_entry, state_of, states_of, state_at, IsEntry, IsMade, Entered, Keeps};
 
+use crate::cuts::cut_at_line;
 use crate::machine::{Machine, Row};
 use crate::twins::twins_of;
+use ps_lines::NEWLINE;
 use std::alloc::{AllocError, Global};
 
 /// The most states for which a table is made.
@@ -13,6 +16,9 @@ const MAX_STATES: usize = 256;
 
 /// The most steps of a machine for which a table is made: each entry takes two sweeps over them.
 const MAX_STEPS: usize = 256;
+
+/// The bytes of a text that are run over alone, before its halves: a line that is found among them costs no other work.
+const HEAD: usize = 1024;
 
 /// An entry of a table that says that the line has the expression.
 pub(crate) const FOUND: u16 = 65_535;
@@ -24,6 +30,13 @@ pub(crate) struct Table {
     ends: Vec<bool>,
 }
 
+/// How far a table has run over a text.
+#[derive(Clone, Copy)]
+struct Run<'t> {
+    state: u16,
+    left: &'t [u8],
+}
+
 impl Table {
     /// Runs over the line from the first state.
     pub(crate) fn has(&self, line: &[u8]) -> bool
@@ -32,34 +45,146 @@ impl Table {
         let mut state = 0u16;
         let mut left = line;
         while let [byte, rest @ ..] = left {
-            let entry = self.entry(state, *byte);
+            let entry = entry_of(&self.next, state, *byte);
             if entry == FOUND {
                 return true;
             }
             state = entry;
             left = rest;
         }
-        self.ends_at(state)
+        ends_at(&self.ends, state)
     }
 
-    /// The entry of a state for a byte.
-    fn entry(&self, state: u16, byte: u8) -> u16
-        ensures { result ≡ slice_index_or self.now.next.items (256 * state + byte) FOUND }
+    /// How much is left of a closed text where the first line that has the expression is known to have it, the byte that shows it
+    /// among it; a newline is a byte of the line that it ends.
+    pub(crate) fn left_at_found(&self, text: &[u8]) -> Option<usize>
+        requires { is_closed text.now ≡ true }
+        ensures found { result ≡ left_at_found self.now.next.items self.now.ends.items 0 text.now }
+        ensures some { IfSome result (λ left. left ≤ length text.now) }
     {
-        match self.next.get(256 * state as usize + byte as usize) {
-            Some(entry) => *entry,
-            None => FOUND,
-        }
+        left_in_text(&self.next, &self.ends, text)
     }
+}
 
-    /// Whether the expression may end at the line's end in this state.
-    fn ends_at(&self, state: u16) -> bool
-        ensures { result ≡ slice_index_or self.now.ends.items state false }
-    {
-        match self.ends.get(state as usize) {
-            Some(ends) => *ends,
-            None => false,
+/// How much is left of a closed text where a table shows a line, from the first state on. A line near its beginning costs no more than
+/// the way there.
+fn left_in_text(next: &[u16], ends: &[bool], text: &[u8]) -> Option<usize>
+    requires { is_closed text.now ≡ true }
+    ensures found { result ≡ left_at_found next.now ends.now 0 text.now }
+    ensures some { IfSome result (λ left. left ≤ length text.now) }
+{
+    let (head, tail) = cut_at_line(text, HEAD.min(text.len()));
+    match run_on(next, ends, 0, head) {
+        Some(left) => Some(left + tail.len()),
+        None => left_in_halves(next, ends, tail),
+    }
+}
+
+/// How much is left of a closed text where a table shows a line, from the first state on.
+///
+/// The text is run over in two halves at a time: a state waits for the one before it, and the other half's don't.
+fn left_in_halves(next: &[u16], ends: &[bool], text: &[u8]) -> Option<usize>
+    requires { is_closed text.now ≡ true }
+    ensures found { result ≡ left_at_found next.now ends.now 0 text.now }
+    ensures some { IfSome result (λ left. left ≤ length text.now) }
+{
+    let (first, second) = cut_at_line(text, text.len() / 2);
+    let (first_run, second_run) = run_over_both(next, ends, first, second);
+    match run_on(next, ends, first_run.state, first_run.left) {
+        Some(left) => Some(left + second.len()),
+        None => run_on(next, ends, second_run.state, second_run.left),
+    }
+}
+
+/// Runs over two texts as far as neither is at its end and neither shows a line.
+///
+/// It isn't inlined, so that all that it carries along stays in registers.
+#[inline(never)]
+fn run_over_both<'t>(
+    next: &[u16],
+    ends: &[bool],
+    first: &'t [u8],
+    second: &'t [u8],
+) -> (Run<'t>, Run<'t>)
+    ensures first { left_at_found next.now ends.now result.0.state result.0.left.now ≡ left_at_found next.now ends.now 0 first.now }
+    ensures second { left_at_found next.now ends.now result.1.state result.1.left.now ≡ left_at_found next.now ends.now 0 second.now }
+    ensures shorter { (length result.0.left.now ≤ length first.now) × (length result.1.left.now ≤ length second.now) }
+{
+    let mut first_state = 0u16;
+    let mut second_state = 0u16;
+    let mut first_left = first;
+    let mut second_left = second;
+    while let ([first_byte, first_rest @ ..], [second_byte, second_rest @ ..]) = (
+        first_left,
+        second_left,
+    ) {
+        let first_entry = text_entry(next, ends, first_state, *first_byte);
+        let second_entry = text_entry(next, ends, second_state, *second_byte);
+        if first_entry == FOUND || second_entry == FOUND {
+            break;
         }
+        first_state = first_entry;
+        second_state = second_entry;
+        first_left = first_rest;
+        second_left = second_rest;
+    }
+    (
+        Run {
+            state: first_state,
+            left: first_left,
+        },
+        Run {
+            state: second_state,
+            left: second_left,
+        },
+    )
+}
+
+/// How much is left of a text where a table shows a line, from a state on.
+fn run_on(next: &[u16], ends: &[bool], begun: u16, text: &[u8]) -> Option<usize>
+    ensures found { result ≡ left_at_found next.now ends.now begun text.now }
+    ensures some { IfSome result (λ left. left ≤ length text.now) }
+{
+    let mut state = begun;
+    let mut left = text;
+    while let [byte, rest @ ..] = left {
+        let entry = text_entry(next, ends, state, *byte);
+        if entry == FOUND {
+            return Some(left.len());
+        }
+        state = entry;
+        left = rest;
+    }
+    None
+}
+
+/// The entry of a state for a byte of a text of lines.
+fn text_entry(next: &[u16], ends: &[bool], state: u16, byte: u8) -> u16
+    ensures { result ≡ text_entry next.now ends.now state byte }
+{
+    if byte != NEWLINE {
+        return entry_of(next, state, byte);
+    }
+    if ends_at(ends, state) { FOUND } else { 0 }
+}
+
+/// The entry of a state for a byte.
+fn entry_of(next: &[u16], state: u16, byte: u8) -> u16
+    ensures { result ≡ slice_index_or next.now (256 * state + byte) FOUND }
+{
+    match next.get(256 * state as usize + byte as usize) {
+        Some(entry) => *entry,
+        None => FOUND,
+    }
+}
+
+/// Whether the expression may end at the line's end in a state.
+fn ends_at(ends: &[bool], state: u16) -> bool
+    ensures { result ≡ slice_index_or ends.now state false }
+{
+    match ends.get(state as usize) {
+        Some(ends) => *ends,
+        None => false,
     }
 }
 

@@ -1,0 +1,53 @@
+use Rattle.std.proofs.Common.{arith, refl, rules, length-drop}
+use Rattle.std.proofs.lemmas.Bool.{false≢true}
+use Rattle.std.proofs.lemmas.List.{take_rest}
+use Rattle.ut_regex.proofs.CutLemmas.{closed-left}
+use Rattle.ut_regex.proofs.HavingLemmas.{finds-stays, passed-all, passed-before, walked-all, walked-ends, walked-having, walked-lack, walked-rest}
+use Rattle.ut_regex.proofs.matcher.Matcher.first_having.Goals as goal
+
+pub passed-place-requires : goal.passed-place-requires
+passed-place-requires c = rw take_rest (record { closed = closed-left c.args.text.now c.loop-cut.from c.requires.closed })
+
+pub returns-in_default-clause-none : goal.returns-in_default-clause-none
+returns-in_default-clause-none c = λ fold whole re finds.
+    let l = c.loop-cut in
+    let left = closed-left c.args.text.now l.from c.requires.closed in
+    let here = rw take_rest at c.passed-place.ensures.passed fold whole re (finds-stays c.args.self.now l.self fold whole re l.invariant.stays finds) in
+    walked-all c.args.text.now l.from fold whole re l.invariant.ends (l.invariant.passed fold whole re finds)
+    (passed-all fold whole re _ c.passed-place.result here left ((rw take_rest at c.in_default.ensures.none) left))
+
+pub returns-then-runs_over-clause-found : goal.returns-then-runs_over-clause-found
+returns-then-runs_over-clause-found c = λ fold whole re finds.
+    let l = c.loop-cut in
+    let cut = rw take_rest at c.in-Some.ensures.cut in
+    let now = finds-stays c.args.self.now l.self fold whole re l.invariant.stays finds in
+    let here = rw take_rest at c.passed-place.ensures.passed fold whole re now in
+    walked-having c.args.text.now c.in-Some.cut.before.now c.in-Some.cut.line.now c.in-Some.cut.rest.now l.from l.invariant.within l.invariant.ends cut fold whole re
+    (l.invariant.passed fold whole re finds)
+    (passed-before fold whole re _ c.in-Some.cut.before.now c.in-Some.cut.line.now c.in-Some.cut.rest.now c.passed-place.result here cut c.in-Some.ensures.here)
+    ((c.if-runs_over.ensures.has fold whole re now).0 refl)
+
+pub returns-then-runs_over-clause-rest : goal.returns-then-runs_over-clause-rest
+returns-then-runs_over-clause-rest c =
+    walked-rest c.args.text.now c.in-Some.cut.before.now c.in-Some.cut.line.now c.in-Some.cut.rest.now c.loop-cut.from c.loop-cut.invariant.within
+    c.loop-cut.invariant.ends (rw take_rest at c.in-Some.ensures.cut) c.requires.closed
+
+pub loop-cut-preserved : goal.loop-cut-preserved
+loop-cut-preserved c =
+    let l = c.loop-cut in
+    let cut = rw take_rest at c.in-Some.ensures.cut in
+    let shorter = rw take_rest at c.in-Some.ensures.shorter in
+    let size = length-drop l.from c.args.text.now in
+    record {
+      within = omega arith;
+      counted = omega (arith, shorter, size, l.invariant.counted);
+      ends = walked-ends c.args.text.now c.in-Some.cut.before.now c.in-Some.cut.line.now c.in-Some.cut.rest.now l.from l.invariant.within l.invariant.ends cut;
+      stays = search (rules, l.invariant.stays, c.if-runs_over.ensures.stays);
+      passed = λ fold whole re finds.
+          let now = finds-stays c.args.self.now l.self fold whole re l.invariant.stays finds in
+          let here = rw take_rest at c.passed-place.ensures.passed fold whole re now in
+          walked-lack c.args.text.now c.in-Some.cut.before.now c.in-Some.cut.line.now c.in-Some.cut.rest.now l.from l.invariant.within l.invariant.ends cut fold whole re
+          (l.invariant.passed fold whole re finds)
+          (passed-before fold whole re _ c.in-Some.cut.before.now c.in-Some.cut.line.now c.in-Some.cut.rest.now c.passed-place.result here cut c.in-Some.ensures.here)
+          (λ has. false≢true ((c.if-runs_over.ensures.has fold whole re now).1 has));
+    }

@@ -1,0 +1,11 @@
+use Rattle.std.proofs.Common.{IfSome, subst, sym, ◌∙◌}
+use Rattle.ut_regex.specs.Tables.{IsMade}
+use Rattle.ut_regex.proofs.RunLemmas.{are_bytes, made_has}
+use Rattle.ut_regex.proofs.matcher.Matcher.runs_over.Goals as goal
+
+pub returns-in-Some-clause-has : goal.returns-in-Some-clause-has
+returns-in-Some-clause-has c = λ fold whole re finds.
+    let machine = c.args.self.now.machine in
+    let made = subst (λ table. IfSome table (λ made. IsMade machine.steps.items machine.fold machine.whole made)) c.in-Some.is finds.table in
+    let answer = made_has machine fold whole re c.args.line.now c.in-Some.table finds.seeks (are_bytes c.args.line.now c.type_inv.line) made in
+    (λ h. answer.0 (sym c.has.ensures ∙ h), λ h. c.has.ensures ∙ answer.1 h)

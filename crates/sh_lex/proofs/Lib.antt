@@ -4,3 +4,5 @@ pub mod Shorter
 pub mod Stacks
 pub mod Readings
 pub mod Scripts
+pub mod Markings
+pub mod Marked

@@ -11,3 +11,5 @@ pub mod Commands
 pub mod Reads
 pub mod Lexes
 pub mod Lexing
+pub mod Marks
+pub mod Marking

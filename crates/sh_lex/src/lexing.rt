@@ -5,6 +5,8 @@ ghost use Rattle.sh_lex.specs.Numbers.{leading_digits};
 ghost use Rattle.sh_lex.specs.Lexes.{HasTokens, Tokens, token_between, spelled, told};
 ghost use Rattle.sh_lex.specs.Lexing.{Advances, StopsAt, Refuses};
 
+mod marks;
+
 use crate::acts::Lexeme;
 use crate::bytes::is_digit;
 use crate::operators::lexeme;
@@ -13,6 +15,7 @@ use crate::reading::{Stop, past_construct};
 use crate::refusals::{LexRefusal, Static};
 use crate::texts::front;
 use crate::tokens::{Op, Token, TokenKind};
+pub use marks::{Mark, read_marks};
 use ps_lines::{Memory, Text};
 use std::alloc::Global;
 

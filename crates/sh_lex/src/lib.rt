@@ -2,9 +2,11 @@
 //!
 //! A script is a list of bytes, in the C locale: one byte is one character. `lex` gives its tokens in order, each with the
 //! offsets at which it begins and ends, or the one refusal that is met at the least place. Quoting and expansions are
-//! parts of words here: their inner form is read later.
+//! parts of words here: their inner form is read later. `read_marks` gives them with the tokens of command substitutions at
+//! their place.
 //!
-//! `specs/` says what a token is: `Lexes` and `Offence` in `Lexes.antt`, and each construct in a file of its own.
+//! `specs/` says what a token is: `Lexes` and `Offence` in `Lexes.antt`, marks in `Marks.antt`, and each construct in a file of its
+//! own.
 #![tactic(auto)]
 
 mod acts;
@@ -26,6 +28,8 @@ mod texts;
 mod tokens;
 mod words;
 
-pub use lexing::{MAX_SCRIPT, lex};
+pub use bytes::{is_name_byte, is_name_start};
+pub use lexing::{MAX_SCRIPT, Mark, lex, read_marks};
 pub use refusals::{LexRefusal, Static};
+pub use texts::front;
 pub use tokens::{Op, Token, TokenKind};

@@ -55,7 +55,7 @@ pub fn past_construct(alloc: Global, construct: Part, text: &[u8]) -> Result<&[u
 }
 
 /// What the text does to the construct that is open there.
-fn step(part: Part, text: &[u8]) -> Step<'_>
+pub fn step(part: Part, text: &[u8]) -> Step<'_>
     ensures { act_of result ≡ act part text.now }
 {
     match part {

@@ -1,5 +1,5 @@
 //! Texts and their tokens or refusals.
-use crate::{LexRefusal, Op, Static, TokenKind, lex};
+use crate::{LexRefusal, Mark, Op, Static, TokenKind, lex, read_marks};
 use std::alloc::{AllocError, Global};
 use std::process::Abort;
 use std::test::Fail;
@@ -340,5 +340,70 @@ fn a_script_has_at_most_1_048_576_bytes(rt: HostRuntime) -> Result<(), Fail> {
         shown(rt.alloc(), text.as_slice())?.as_str(),
         "ScriptTooLong"
     );
+    Ok(())
+}
+
+/// The marks of a text: `<` and `>` with the ends of words, `$` and `$)` for those of substitutions, `t` with another token's
+/// beginning, and `)` for the end of a subshell in a substitution.
+fn shown_marks(alloc: Global, text: &[u8]) -> Result<String, AllocError> {
+    match read_marks(alloc, text) {
+        Ok(marks) => {
+            let mut words = String::new(alloc);
+            for mark in &marks {
+                if !words.is_empty() {
+                    words.push_str(" ")?;
+                }
+                words.push_str(mark_shown(alloc, *mark)?.as_str())?;
+            }
+            Ok(words)
+        }
+        Err(LexRefusal::Refused(refusal)) => refusal_shown(alloc, &refusal),
+        Err(LexRefusal::Memory) => String::from_str(alloc, "Memory"),
+    }
+}
+
+fn mark_shown(alloc: Global, mark: Mark) -> Result<String, AllocError> {
+    match mark {
+        Mark::WordBegin(offset) => format!(in alloc; "<{offset}"),
+        Mark::WordEnd(offset) => format!(in alloc; ">{offset}"),
+        Mark::Token(token) => {
+            let from = token.from;
+            format!(in alloc; "t{from}")
+        }
+        Mark::SubOpen(offset) => format!(in alloc; "${offset}"),
+        Mark::SubClose => String::from_str(alloc, "$)"),
+        Mark::Close => String::from_str(alloc, ")"),
+    }
+}
+
+#[test]
+fn texts_have_their_marks(rt: HostRuntime) -> Result<(), Fail> {
+    let alloc = rt.alloc();
+    for (text, expected) in [
+        ("", ""),
+        ("a b\n", "<0 >1 <2 >3 t3"),
+        ("(a;b)", "t0 <1 >2 t2 <3 >4 t4"),
+        ("a $(b c)", "<0 >1 <2 $2 <4 >5 <6 >7 $) >8"),
+        ("a $() b", "<0 >1 <2 $2 $) >5 <6 >7"),
+        ("\"$(a)\"b", "<0 $1 <3 >4 $) >7"),
+        ("$((1+$(a)))", "<0 $5 <7 >8 $) >11"),
+        ("$(a;(b))", "<0 $0 <2 >3 t3 t4 <5 >6 ) $) >8"),
+        ("$(a $(b))", "<0 $0 <2 >3 <4 $4 <6 >7 $) >8 $) >9"),
+        ("$(a #b)\n)", "<0 $0 <2 >3 t7 $) >9"),
+        (
+            "$(a>$(b)1 2>c)",
+            "<0 $0 <2 >3 t3 <4 $4 <6 >7 $) >9 t10 t11 <12 >13 $) >14",
+        ),
+        ("$(a\\\nb)\\\n", "<0 $0 <2 >6 $) >7"),
+        ("$('a)'${x-)}b)", "<0 $0 <2 >13 $) >14"),
+        ("$(a", "UnclosedBrace 0"),
+        ("$(a &)", "OutOfProfile & 4"),
+    ] {
+        assert_eq!(rt;
+            shown_marks(alloc, text.as_bytes())?.as_str(),
+            expected,
+            "at {text:?}"
+        );
+    }
     Ok(())
 }

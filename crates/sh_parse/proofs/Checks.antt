@@ -1,5 +1,5 @@
 -- One step of the check.
-use Rattle.std.proofs.Common.{◌≡◌, ℕ, ◌+◌, ◌<◌, ◌≤◌, List, [], ◌∷◌, ◌++◌, length, cond, sym, ◌∙◌, ap, nat_le}
+use Rattle.std.proofs.Common.{◌≡◌, ◌⊎◌, inl, inr, ℕ, ◌+◌, ◌<◌, ◌≤◌, List, [], ◌∷◌, ◌++◌, length, cond, sym, ◌∙◌, ap, nat_le}
 use Rattle.std.proofs.lemmas.Bool.{le-leb, lt-leb}
 use Rattle.sh_parse.specs.Owed.{Part, Move, push, opens, skip, stuck, move, moved, step, levels, verdict, verdict_behind, bad, deep}
 use Rattle.sh_parse.specs.Moves.{parts_of, move_of, with_more, owing_of, stacked}
@@ -27,6 +27,15 @@ skip_is owing m e is = sym e ∙ ap (λ w. with_more (move_of w) (parts_of owing
 
 pub stuck_is : (owing : Owing) (m : Move) → owing_of owing ≡ m → owing.what ≡ by.Stuck → m ≡ stuck
 stuck_is owing m e is = sym e ∙ ap (λ w. with_more (move_of w) (parts_of owing.behind)) is
+
+pub goes_is : (owing : Owing) (m : Move) (parts : Parts) → owing_of owing ≡ m → (owing.what ≡ by.Push parts) ⊎ (owing.what ≡ by.Opens parts)
+    → (m ≡ push (parts_of parts ++ parts_of owing.behind)) ⊎ (m ≡ opens (parts_of parts ++ parts_of owing.behind))
+goes_is owing m parts e (inl is) = inl (push_is owing m parts e is)
+goes_is owing m parts e (inr is) = inr (opens_is owing m parts e is)
+
+pub halts_is : (owing : Owing) (m : Move) → owing_of owing ≡ m → (owing.what ≡ by.Skip) ⊎ (owing.what ≡ by.Stuck) → (m ≡ skip) ⊎ (m ≡ stuck)
+halts_is owing m e (inl is) = inl (skip_is owing m e is)
+halts_is owing m e (inr is) = inr (stuck_is owing m e is)
 
 module _ (first : Item) (part : Part) (stack : List Part) (rest : List Item) where
   pub push_steps : (parts behind : List Part) → move part first ≡ push parts → behind ≡ parts ++ stack

@@ -5,3 +5,8 @@ pub mod Completes
 pub mod Tops
 pub mod Movings
 pub mod Checks
+pub mod Builds
+pub mod Lists
+pub mod Arounds
+pub mod Walks
+pub mod Spellings

@@ -136,25 +136,25 @@ moves_on (opens first) h parts more otherwise stack one other =
 moves_on skip h parts more otherwise stack one other = absurd h
 moves_on stuck h parts more otherwise stack one other = absurd h
 
-again_by : (first : Item) → Moves (pipeline_by first)
+pub again_by : (first : Item) → Moves (pipeline_by first)
     → move again first ≡ followed (pipeline_by first) (pipes ∷ joins ∷ separator ∷ []) skip
 again_by token.Newline h = absurd h
 again_by _ h = refl
 
-body_by : (first : Item) → Moves (pipeline_by first)
+pub body_by : (first : Item) → Moves (pipeline_by first)
     → move body first ≡ followed (pipeline_by first) (pipes ∷ joins ∷ separator ∷ []) stuck
 body_by token.Newline h = absurd h
 body_by _ h = refl
 
-next_pipeline_by : (first : Item) → Moves (pipeline_by first) → move next_pipeline first ≡ move a_pipeline first
+pub next_pipeline_by : (first : Item) → Moves (pipeline_by first) → move next_pipeline first ≡ move a_pipeline first
 next_pipeline_by token.Newline h = absurd h
 next_pipeline_by _ h = refl
 
-next_command_by : (first : Item) → Moves (command_by first) → move next_command first ≡ move a_command first
+pub next_command_by : (first : Item) → Moves (command_by first) → move next_command first ≡ move a_command first
 next_command_by token.Newline h = absurd h
 next_command_by _ h = refl
 
-pipeline_by_command : (first : Item) → Moves (command_by first) → pipeline_by first ≡ command_by first
+pub pipeline_by_command : (first : Item) → Moves (command_by first) → pipeline_by first ≡ command_by first
 pipeline_by_command (token.Word (word.Reserved reserved.Bang) at) h = absurd h
 pipeline_by_command _ h = refl
 
@@ -216,24 +216,24 @@ module _ (most : ℕ) where
   left_out part begins [] stack e skips h = ap (λ b. cond b fine (bad 0)) e
   left_out part begins (first ∷ rest) stack e skips h = on_skip most part first rest stack (skips first h)
 
-separator_skips : (first : Item) → is_separator first ≡ false → move separator first ≡ skip
+pub separator_skips : (first : Item) → is_separator first ≡ false → move separator first ≡ skip
 separator_skips token.Semi h = cc
 separator_skips token.Newline h = cc
 separator_skips _ h = refl
 
-join_skips : (first : Item) → is_join first ≡ false → move joins first ≡ skip
+pub join_skips : (first : Item) → is_join first ≡ false → move joins first ≡ skip
 join_skips (token.Join sign) h = cc
 join_skips _ h = refl
 
-pipe_skips : (first : Item) → is_pipe first ≡ false → move pipes first ≡ skip
+pub pipe_skips : (first : Item) → is_pipe first ≡ false → move pipes first ≡ skip
 pipe_skips token.Pipe h = cc
 pipe_skips _ h = refl
 
-sub_skips : (first : Item) → is_sub_open first ≡ false → move substitutions first ≡ skip
+pub sub_skips : (first : Item) → is_sub_open first ≡ false → move substitutions first ≡ skip
 sub_skips (token.SubOpen at) h = cc
 sub_skips _ h = refl
 
-simple_begins : (items : List Item) → (first : Item) × ((rest : List Item) × ((items ≡ first ∷ rest) × Moves (piece_by place.First first)))
+pub simple_begins : (items : List Item) → (first : Item) × ((rest : List Item) × ((items ≡ first ∷ rest) × Moves (piece_by place.First first)))
     → BeginsCommand items
 simple_begins items (first, (rest, (e, m))) =
     subst BeginsCommand (sym e) (subst Moves (sym (command_by_piece first m)) m)

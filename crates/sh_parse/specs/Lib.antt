@@ -4,3 +4,7 @@ pub mod Owed
 pub mod Grammar
 pub mod Stops
 pub mod Moves
+pub mod Building
+pub mod Trees
+pub mod Built
+pub mod Kinds

@@ -58,7 +58,7 @@ fn judge(alloc: Global, items: &[Item]) -> Result<(), Stop>
 }
 
 /// The first item, and what is left behind it.
-fn front(items: &[Item]) -> Option<(Item, &[Item])>
+pub fn front(items: &[Item]) -> Option<(Item, &[Item])>
     ensures { MatchOption result (items.now ≡ []) (λ r. items.now ≡ r.0 ∷ r.1.now) }
 {
     let (first, rest) = items.split_first()?;
@@ -93,7 +93,7 @@ fn step(stack: Vec<Part>, first: Item, left: usize) -> Result<Vec<Part>, Stop>
 }
 
 /// The stack with more on top: these parts, and the others behind them.
-fn owe_all(stack: Vec<Part>, parts: Parts, behind: Parts) -> Result<Vec<Part>, Stop>
+pub fn owe_all(stack: Vec<Part>, parts: Parts, behind: Parts) -> Result<Vec<Part>, Stop>
     ensures owed { IfOk result (λ r. stacked r.items ≡ (parts_of parts ++ parts_of behind) ++ stacked stack.items) }
     ensures memory { IfErr result (λ stop. stop ≡ stop_kind.Memory) }
 {
@@ -116,7 +116,7 @@ fn owe_parts(stack: Vec<Part>, parts: Parts) -> Result<Vec<Part>, Stop>
 
 /// The stack with this part on top.
 #[tactic(auto, using(crate::proofs::Movings::stacked_last))]
-fn owe(stack: Vec<Part>, part: Part) -> Result<Vec<Part>, Stop>
+pub fn owe(stack: Vec<Part>, part: Part) -> Result<Vec<Part>, Stop>
     ensures owed { IfOk result (λ r. stacked r.items ≡ part ∷ stacked stack.items) }
     ensures memory { IfErr result (λ stop. stop ≡ stop_kind.Memory) }
 {

@@ -1,6 +1,16 @@
-//! Items and whether they are a script, as `dash -n` has it.
-use crate::{GrammarRefusal, Item, Refusal, Reserved, Span, WordKind, check};
-use sh_tree::{How, Join};
+//! Items and whether they are a script, as `dash -n` has it, and the trees of a dozen scripts, written by hand.
+ghost use Rattle.std.specs.Prelude.{◌≡◌, IfOk, false};
+ghost use Rattle.sh_tree.specs.Trees.{part, substitution, no_part};
+ghost use Rattle.sh_tree.specs.Views.{word_tree};
+
+use crate::{
+    GrammarRefusal, Item, Refusal, Reserved, Span, WordKind, WordReader, check, parse_items,
+    word_kind,
+};
+use ps_lines::{Memory, Text};
+use sh_tree::{
+    AndOr, Command, How, Join, List, Part, Pipeline, Redir, Script, Simple, Tail, Word, Words,
+};
 use std::alloc::{AllocError, Global};
 use std::process::Abort;
 use std::test::Fail;
@@ -41,15 +51,16 @@ static OTHERS: [(&str, Item); 12] = [
 ];
 
 /// The items of a row, which stand apart by blanks: `NL` is a newline, `$(` and `$)` are the ends of a command
-/// substitution that is a word, and `#2` is the number 2 before a redirection.
+/// substitution that is a word, and `#2` is the number 2 before a redirection. A word stands at the number of its item.
 fn items_of(alloc: Global, row: &[u8]) -> Result<Vec<Item>, AllocError> {
     let mut items = Vec::new(alloc);
     for piece in row.split(|byte| *byte == b' ') {
+        let place = u32::try_from(items.len()).unwrap_or(0);
         if piece == b"$(".as_slice() {
-            items.push(Item::Word(WordKind::Other, NOWHERE))?;
+            items.push(Item::Word(WordKind::Other, span_of(place)))?;
             items.push(Item::SubOpen(0))?;
-        } else {
-            items.push(item_of(piece))?;
+        } else if !piece.is_empty() {
+            items.push(item_of(piece, span_of(place)))?;
         }
     }
     Ok(items)
@@ -57,10 +68,17 @@ fn items_of(alloc: Global, row: &[u8]) -> Result<Vec<Item>, AllocError> {
 
 const NOWHERE: Span = Span { from: 0, to: 0 };
 
-fn item_of(piece: &[u8]) -> Item {
+fn span_of(place: u32) -> Span {
+    Span {
+        from: place,
+        to: place,
+    }
+}
+
+fn item_of(piece: &[u8], at: Span) -> Item {
     for &(spelling, name) in RESERVED.iter() {
         if spelling.as_bytes() == piece {
-            return Item::Word(WordKind::Reserved(name), NOWHERE);
+            return Item::Word(WordKind::Reserved(name), at);
         }
     }
     for &(spelling, item) in OTHERS.iter() {
@@ -71,10 +89,10 @@ fn item_of(piece: &[u8]) -> Item {
     if piece == b"(".as_slice() {
         return Item::Open(0);
     }
-    Item::Word(word_kind(piece), NOWHERE)
+    Item::Word(piece_kind(piece), at)
 }
 
-fn word_kind(piece: &[u8]) -> WordKind {
+fn piece_kind(piece: &[u8]) -> WordKind {
     if piece == b"in".as_slice() {
         WordKind::In
     } else if piece.contains(&b'=') {
@@ -313,6 +331,8 @@ fn expect_all(rt: &impl Abort, alloc: Global, rows: &[u8], scripts: bool) -> Res
         let items = items_of(alloc, row)?;
         let found = check(alloc, items.as_slice());
         assert_eq!(rt; found.is_ok(), scripts, "{row:?}");
+        let parsed = parse_items(alloc, &Places, items.as_slice());
+        assert_eq!(rt; parsed.err(), found.err(), "{row:?}");
     }
     Ok(())
 }
@@ -341,6 +361,283 @@ fn sixty_four_levels_are_allowed(rt: HostRuntime) -> Result<(), Fail> {
             items.push(Item::Close)?;
         }
         assert_eq!(rt; check(rt.alloc(), items.as_slice()), expected);
+    }
+    Ok(())
+}
+
+/// A reader whose words tell where they stand and the number of their first substitution.
+struct Places;
+
+impl WordReader for Places {
+    ghost use Rattle.std.specs.Prelude.{◌≡◌, ◌∷◌, [], IfOk, false};
+    ghost use Rattle.sh_tree.specs.Trees.{part, substitution, no_part};
+    ghost use Rattle.sh_tree.specs.Views.{word_tree};
+
+    ghost views = { λ _. record {
+      word = λ at first. part (substitution at.from false) (part (substitution first false) no_part);
+      assign = λ at first. ([], part (substitution at.from false) (part (substitution first false) no_part));
+      name = λ _. [];
+    } };
+
+    fn word(&self, alloc: Global, at: Span, first: usize) -> Result<Word, Memory> {
+        word(alloc, at.from, first)
+    }
+
+    fn assign(&self, alloc: Global, at: Span, first: usize) -> Result<(Text, Word), Memory> {
+        Ok((Text::copy_of(alloc, &[])?, word(alloc, at.from, first)?))
+    }
+
+    fn name(&self, alloc: Global, at: Span) -> Result<Text, Memory> {
+        let _ = at;
+        Text::copy_of(alloc, &[])
+    }
+}
+
+/// The word at a place.
+fn word(alloc: Global, place: u32, first: usize) -> Result<Word, Memory>
+    ensures { IfOk result (λ word. word_tree word ≡ part (substitution place false) (part (substitution first false) no_part)) }
+{
+    let Ok(first) = u32::try_from(first) else {
+        return Err(Memory);
+    };
+    let mut parts = Vec::new(alloc);
+    parts.push(Part::Sub {
+        number: place,
+        quoted: false,
+    })?;
+    parts.push(Part::Sub {
+        number: first,
+        quoted: false,
+    })?;
+    Ok(Word { parts })
+}
+
+/// Words at these places, none behind a substitution.
+fn words(alloc: Global, places: &[u32]) -> Result<Vec<Word>, Memory> {
+    let mut words = Vec::new(alloc);
+    for place in places {
+        words.push(word(alloc, *place, 0)?)?;
+    }
+    Ok(words)
+}
+
+/// A simple command of these words alone.
+fn run(alloc: Global, places: &[u32]) -> Result<Command, Memory> {
+    Ok(Command::Simple(Simple {
+        assigns: Vec::new(alloc),
+        words: words(alloc, places)?,
+        redirs: Vec::new(alloc),
+        subs: Vec::new(alloc),
+    }))
+}
+
+/// A redirection.
+fn redir(alloc: Global, number: u8, how: How, place: u32) -> Result<Redir, Memory> {
+    Ok(Redir {
+        number,
+        how,
+        word: word(alloc, place, 0)?,
+    })
+}
+
+fn no_tail(alloc: Global) -> Tail {
+    Tail {
+        redirs: Vec::new(alloc),
+        subs: Vec::new(alloc),
+    }
+}
+
+/// A pipeline of one command.
+fn alone(alloc: Global, command: Command) -> Result<Pipeline, AllocError> {
+    Ok(Pipeline {
+        negated: false,
+        stages: vec![in alloc; command]?,
+    })
+}
+
+/// An and-or list of one pipeline.
+fn only(alloc: Global, first: Pipeline) -> AndOr {
+    AndOr {
+        first,
+        rest: Vec::new(alloc),
+    }
+}
+
+/// A list of one command.
+fn list(alloc: Global, command: Command) -> Result<List, AllocError> {
+    Ok(List {
+        items: vec![in alloc; only(alloc, alone(alloc, command)?)]?,
+    })
+}
+
+/// A list of one simple command, of one word.
+fn name(alloc: Global, place: u32) -> Result<List, Fail> {
+    Ok(list(alloc, run(alloc, &[place])?)?)
+}
+
+/// Sees that the row is the script with this list.
+fn expect_list(rt: &impl Abort, alloc: Global, row: &[u8], body: Option<List>) -> Result<(), Fail> {
+    let items = items_of(alloc, row)?;
+    match parse_items(alloc, &Places, items.as_slice()) {
+        Ok(found) => {
+            let found = format!(in alloc; "{found:?}")?;
+            let expected = Script { body };
+            let expected = format!(in alloc; "{expected:?}")?;
+            assert_eq!(rt; found, expected, "{row:?}");
+        }
+        Err(refusal) => assert_eq!(rt; Some(refusal), None, "{row:?}"),
+    }
+    Ok(())
+}
+
+fn expect(rt: &impl Abort, alloc: Global, row: &[u8], command: Command) -> Result<(), Fail> {
+    let body = list(alloc, command)?;
+    expect_list(rt, alloc, row, Some(body))
+}
+
+#[test]
+fn lists_and_pipelines_have_their_trees(rt: HostRuntime) -> Result<(), Fail> {
+    let alloc = rt.alloc();
+    expect_list(&rt, alloc, b"", None)?;
+    expect_list(&rt, alloc, b"NL NL", None)?;
+    expect(&rt, alloc, b"NL a", run(alloc, &[1])?)?;
+    let items = vec![in alloc;
+        only(alloc, alone(alloc, run(alloc, &[0, 1])?)?),
+        only(alloc, alone(alloc, run(alloc, &[3])?)?),
+    ]?;
+    expect_list(&rt, alloc, b"a b ; c NL", Some(List { items }))?;
+    let items = vec![in alloc;
+        AndOr {
+            first: alone(alloc, run(alloc, &[0])?)?,
+            rest: vec![in alloc;
+                (Join::And, alone(alloc, run(alloc, &[2])?)?),
+                (Join::Or, alone(alloc, run(alloc, &[5])?)?)
+            ]?,
+        },
+    ]?;
+    expect_list(&rt, alloc, b"a && b || NL c", Some(List { items }))?;
+    let pipeline = Pipeline {
+        negated: true,
+        stages: vec![in alloc; run(alloc, &[1])?, run(alloc, &[3])?, run(alloc, &[5])?]?,
+    };
+    let items = vec![in alloc; only(alloc, pipeline)]?;
+    expect_list(&rt, alloc, b"! a | b | c", Some(List { items }))?;
+    Ok(())
+}
+
+#[test]
+fn simple_commands_have_their_trees(rt: HostRuntime) -> Result<(), Fail> {
+    let alloc = rt.alloc();
+    let command = Command::Simple(Simple {
+        assigns: vec![in alloc; (Text::copy_of(alloc, &[])?, word(alloc, 0, 0)?)]?,
+        words: words(alloc, &[1, 7])?,
+        redirs: vec![in alloc;
+            redir(alloc, 1, How::Write, 3)?,
+            redir(alloc, 2, How::Copy, 6)?,
+            redir(alloc, 0, How::Read, 9)?,
+        ]?,
+        subs: Vec::new(alloc),
+    });
+    expect(&rt, alloc, b"x=1 a > f #2 >& 1 y=2 < g", command)?;
+    let command = Command::Simple(Simple {
+        assigns: Vec::new(alloc),
+        words: vec![in alloc; word(alloc, 0, 0)?, word(alloc, 1, 0)?, word(alloc, 11, 2)?]?,
+        redirs: vec![in alloc;
+            Redir {
+                number: 1,
+                how: How::Write,
+                word: word(alloc, 7, 1)?,
+            },
+        ]?,
+        subs: vec![in alloc; name(alloc, 3)?, name(alloc, 9)?]?,
+    });
+    expect(&rt, alloc, b"a $( b NL $) > $( c $) d", command)?;
+    Ok(())
+}
+
+#[test]
+fn compound_commands_have_their_trees(rt: HostRuntime) -> Result<(), Fail> {
+    let alloc = rt.alloc();
+    let tail = Tail {
+        redirs: vec![in alloc; redir(alloc, 1, How::Append, 5)?]?,
+        subs: Vec::new(alloc),
+    };
+    let command = Command::Group(name(alloc, 1)?, tail);
+    expect(&rt, alloc, b"{ a ; } >> f", command)?;
+    let inner = Command::Subshell(name(alloc, 2)?, no_tail(alloc));
+    let command = Command::Subshell(list(alloc, inner)?, no_tail(alloc));
+    expect(&rt, alloc, b"( ( a ) )", command)?;
+    let branches = vec![in alloc;
+        (name(alloc, 1)?, name(alloc, 4)?),
+        (name(alloc, 7)?, name(alloc, 10)?),
+    ]?;
+    let command = Command::If(branches, Some(name(alloc, 13)?), no_tail(alloc));
+    expect(
+        &rt,
+        alloc,
+        b"if a ; then b ; elif c ; then d ; else e ; fi",
+        command,
+    )?;
+    let branches = vec![in alloc; (name(alloc, 1)?, name(alloc, 4)?)]?;
+    let command = Command::If(branches, None, no_tail(alloc));
+    expect(&rt, alloc, b"if a ; then b ; fi", command)?;
+    let command = Command::While(name(alloc, 1)?, name(alloc, 4)?, no_tail(alloc));
+    expect(&rt, alloc, b"while a ; do b ; done", command)?;
+    let command = Command::Until(name(alloc, 1)?, name(alloc, 4)?, no_tail(alloc));
+    expect(&rt, alloc, b"until a ; do b ; done", command)?;
+    Ok(())
+}
+
+#[test]
+fn loops_over_words_have_their_trees(rt: HostRuntime) -> Result<(), Fail> {
+    let alloc = rt.alloc();
+    let among = Words {
+        words: words(alloc, &[3, 4])?,
+        subs: Vec::new(alloc),
+    };
+    let variable = Text::copy_of(alloc, &[])?;
+    let command = Command::For(variable, Some(among), name(alloc, 7)?, no_tail(alloc));
+    expect(&rt, alloc, b"for i in a b ; do c ; done", command)?;
+    let among = Words {
+        words: Vec::new(alloc),
+        subs: Vec::new(alloc),
+    };
+    let variable = Text::copy_of(alloc, &[])?;
+    let command = Command::For(variable, Some(among), name(alloc, 5)?, no_tail(alloc));
+    expect(&rt, alloc, b"for i in ; do a ; done", command)?;
+    let variable = Text::copy_of(alloc, &[])?;
+    let command = Command::For(variable, None, name(alloc, 4)?, no_tail(alloc));
+    expect(&rt, alloc, b"for i NL do a ; done", command)?;
+    Ok(())
+}
+
+/// Words by their bytes, and what they are.
+static WORDS: [(&str, WordKind); 18] = [
+    ("!", WordKind::Reserved(Reserved::Bang)),
+    ("if", WordKind::Reserved(Reserved::If)),
+    ("i\\\nf", WordKind::Reserved(Reserved::If)),
+    ("esac", WordKind::Reserved(Reserved::Esac)),
+    ("'if'", WordKind::Other),
+    ("i\\f", WordKind::Other),
+    ("in", WordKind::In),
+    ("\\\nin", WordKind::In),
+    ("iff", WordKind::Name),
+    ("_a1", WordKind::Name),
+    ("a\\\nb", WordKind::Name),
+    ("1a", WordKind::Other),
+    ("a=", WordKind::Assign),
+    ("a1=$b", WordKind::Assign),
+    ("a\\\n=b", WordKind::Assign),
+    ("'a'=b", WordKind::Other),
+    ("a-b=c", WordKind::Other),
+    ("=a", WordKind::Other),
+];
+
+#[test]
+fn words_are_what_their_bytes_allow(rt: HostRuntime) -> Result<(), Fail> {
+    for &(word, expected) in WORDS.iter() {
+        let kind = word_kind(rt.alloc(), word.as_bytes())?;
+        assert_eq!(rt; kind, expected, "{word:?}");
     }
     Ok(())
 }

@@ -1,0 +1,87 @@
+-- What a run of a graph's network leaves, from where it began.
+use Rattle.std.proofs.Common.{◌≡◌, ℕ, zero, suc, ◌<◌, List, [], ◌∷◌, Bool, true, false, length, map, slice_get, get_or, Option, Some, ap, sym, subst, ◌∙◌}
+use Rattle.std.proofs.lemmas.List.{length-map}
+use Rattle.std.proofs.lemmas.Option.{slice_get_within}
+use Rattle.ps_world.specs.Told.{then_bytes, GrewByPrefix, IsEnded}
+use Rattle.fl_graph.specs.Net.{Cell}
+use Rattle.fl_graph.specs.Runs.{State}
+use Rattle.fl_graph.specs.Valid.{Valid}
+use Rattle.fl_graph.specs.declared.graphs.StatusRule.{StatusRule}
+use Rattle.fl_graph.specs.declared.kinds.NodeKind.{NodeKind}
+use Rattle.fl_graph.specs.declared.pieces.Piece.{Piece}
+use Rattle.fl_classes.specs.Flow.{flow, is_source, only, selects, selections}
+use Rattle.fl_core.specs.Kinds.{is_sink}
+use Rattle.fl_core.specs.Plans.{AreTold, IsNetOf}
+use Rattle.fl_core.specs.Runs.{Halted, Halts, Leads}
+use Rattle.fl_core.specs.Steps.{waiting_on}
+use Rattle.fl_core.specs.declared.nets.Ports.{Ports}
+use Rattle.fl_core.proofs.FinishLemmas.{halted_writes, finished_reads, finished_writes, finished_selects}
+use Rattle.fl_core.proofs.HaltLemmas.{reached_halts}
+use Rattle.fl_core.proofs.LawLemmas.{selections_of_the_flow}
+use Rattle.fl_core.proofs.OutsideLemmas.{some_at}
+use Rattle.fl_core.proofs.StartLemmas.{net_plan}
+
+some_is : {X : Type 0} (one other : X) → Some one ≡ Some other → one ≡ other
+some_is one other is = cc
+
+-- a list of what a function tells of each, at a place
+map_at : {X : Type 0} (tell : X → Bool) (items : List X) (place : ℕ) (item : X) → slice_get items place ≡ Some item → get_or (map tell items) place false ≡ tell item
+map_at tell [] place item at = absurd (cc)
+map_at tell (first ∷ items) zero item at = ap tell (some_is first item at)
+map_at tell (first ∷ items) (suc place) item at = map_at tell items place item at
+
+module _ {Machine : Type 0} (state : Machine → State) (cells : List (Cell NodeKind)) (status : StatusRule) (valid : Valid cells status)
+    (ports : List Ports) (machines : List Machine) (wires : List (List Piece)) (net : IsNetOf state cells ports machines wires) (left taken : ℕ → Option (List ℕ)) where
+  -- a run that halted
+  pub halted_front : (taken' : ℕ → Option (List ℕ)) → Halts state ports machines wires left taken taken'
+      → (sources : List (List ℕ)) → AreTold sources cells left → (node : ℕ) (cell : Cell NodeKind) → slice_get cells node ≡ Some cell → is_sink cell.kind ≡ true
+      → GrewByPrefix (taken node) (taken' node) (only (map (flow cells sources) cell.ins))
+  halted_front taken' halts sources told node cell at sink =
+      let own = net_plan state cells status valid ports machines wires net left taken in
+      halted_writes cells status own.0 valid own.1 taken' (subst (λ (nodes : ℕ). Halted own.0 nodes taken') net.all_machines (halts own.0 own.2 own.3 own.4)) sources told node cell at sink
+
+  module _ (machines' : List Machine) (wires' : List (List Piece)) (left' taken' : ℕ → Option (List ℕ)) (counted : length machines' ≡ length machines)
+      (leads : Leads state ports machines machines' wires wires' left left' taken taken') where
+    -- a run that has come anywhere
+    pub reached_front : (sources : List (List ℕ)) → AreTold sources cells left → (node : ℕ) (cell : Cell NodeKind) → slice_get cells node ≡ Some cell → is_sink cell.kind ≡ true
+        → GrewByPrefix (taken node) (taken' node) (only (map (flow cells sources) cell.ins))
+    reached_front sources told node cell at sink =
+        let own = net_plan state cells status valid ports machines wires net left taken in
+        halted_writes cells status own.0 valid own.1 taken'
+        (reached_halts state own.0 machines' wires' left' taken' (leads own.0 own.2 own.3 own.4) (length cells) (counted ∙ net.all_machines)) sources told node cell at sink
+
+    pub reached_whole : (node : ℕ) (machine : Machine) → slice_get machines' node ≡ Some machine → (state machine).broken ≡ false
+    reached_whole node machine at =
+        let own = net_plan state cells status valid ports machines wires net left taken in
+        (leads own.0 own.2 own.3 own.4).whole node machine at
+
+    -- a run that has finished
+    module _ (stopped : (node : ℕ) (machine : Machine) → slice_get machines' node ≡ Some machine
+        → ((port : ℕ) → (state machine).takes port ≡ false) × ((port : ℕ) → (state machine).puts port ≡ false)) where
+      pub done_reads : (node : ℕ) (cell : Cell NodeKind) → slice_get cells node ≡ Some cell → is_source cell.kind ≡ true → IsEnded (left' node)
+      done_reads =
+          let own = net_plan state cells status valid ports machines wires net left taken in
+          finished_reads state cells status own.0 valid own.1 machines' wires' left' taken' (leads own.0 own.2 own.3 own.4) (counted ∙ net.all_machines) stopped
+
+      module _ (sources : List (List ℕ)) (told : AreTold sources cells left) where
+        pub done_writes : ((edge : ℕ) → waiting_on wires' edge ≡ []) → (node : ℕ) (cell : Cell NodeKind) → slice_get cells node ≡ Some cell → is_sink cell.kind ≡ true
+            → taken' node ≡ then_bytes (taken node) (only (map (flow cells sources) cell.ins))
+        done_writes =
+            let own = net_plan state cells status valid ports machines wires net left taken in
+            finished_writes state cells status own.0 valid own.1 machines' wires' left' taken' (leads own.0 own.2 own.3 own.4) (counted ∙ net.all_machines) stopped sources told
+
+        -- what each node selects, in the order of the nodes
+        pub done_selects : (node : ℕ) (machine : Machine) → slice_get machines' node ≡ Some machine
+            → get_or (selections cells sources) node false ≡ (state machine).selects (λ _. [])
+        done_selects node machine at =
+            let own = net_plan state cells status valid ports machines wires net left taken in
+            let size : length machines' ≡ length cells = counted ∙ net.all_machines in
+            let here = some_at cells node (subst (λ (nodes : ℕ). node < nodes) size (slice_get_within machines' node machine at)) in
+            ap (λ (told : List Bool). get_or told node false) (selections_of_the_flow cells status valid sources)
+            ∙ map_at (λ (cell : Cell NodeKind). selects cell.kind (map (flow cells sources) cell.ins)) cells node here.0 here.1
+            ∙ sym (finished_selects state cells status own.0 valid own.1 machines' wires' left' taken' (leads own.0 own.2 own.3 own.4) size stopped sources told node here.0 machine here.1 at (λ _. []))
+
+        pub done_counted : length (selections cells sources) ≡ length machines'
+        done_counted =
+            ap (λ (told : List Bool). length told) (selections_of_the_flow cells status valid sources)
+            ∙ length-map cells (λ (cell : Cell NodeKind). selects cell.kind (map (flow cells sources) cell.ins)) ∙ sym (counted ∙ net.all_machines)

@@ -1,0 +1,146 @@
+-- A network's step goes on with its run.
+use Rattle.std.proofs.Common.{◌≡◌, ℕ, zero, suc, ◌==◌, List, [], ◌∷◌, ◌++◌, Bool, true, false, not, ◌&&◌, length, slice_get, slice_set, Option, Some, Result, Ok, Err, IfOk, refl, ap, sym, subst, ◌∙◌, arith, take, drop, append-nil}
+use Rattle.std.specs.List.{list_all}
+use Rattle.std.proofs.lemmas.Bool.{true≢false, and_parts}
+use Rattle.std.proofs.lemmas.List.Folds.{list_all-append}
+use Rattle.std.proofs.Math.Dec.{eqb-suc-suc}
+use Rattle.ps_lines.specs.declared.memory.Memory.{Memory}
+use Rattle.fl_graph.specs.Runs.{State}
+use Rattle.fl_graph.specs.declared.pieces.Piece.{Piece}
+use Rattle.fl_core.specs.Steps.{is_plain, waiting_on, ArePlain, Fits, Took, Gave, Starves}
+use Rattle.fl_core.specs.Runs.{Reached, Leads, Goes}
+use Rattle.fl_core.specs.declared.nets.Ports.{Ports}
+use Rattle.fl_core.specs.declared.steps.Progress.{Progress}
+use Rattle.fl_core.specs.declared.steps.Progress.TheVariants as progress
+use Rattle.fl_core.proofs.ReachLemmas.{Replaced, reached_took, reached_gave}
+
+module _ {X : Type 0} where
+  set_here : (items : List X) (place : ℕ) (item now : X) → slice_get (slice_set items place item) place ≡ Some now → now ≡ item
+  set_here [] place item now is = absurd (cc)
+  set_here (first ∷ items) zero item now is = cc
+  set_here (first ∷ items) (suc place) item now is = set_here items place item now is
+
+  set_elsewhere : (items : List X) (place other : ℕ) (item : X) → (other == place) ≡ false → slice_get (slice_set items place item) other ≡ slice_get items other
+  set_elsewhere [] place other item apart = refl
+  set_elsewhere (first ∷ items) zero zero item apart = absurd (true≢false apart)
+  set_elsewhere (first ∷ items) zero (suc other) item apart = refl
+  set_elsewhere (first ∷ items) (suc place) zero item apart = refl
+  set_elsewhere (first ∷ items) (suc place) (suc other) item apart = set_elsewhere items place other item (sym (eqb-suc-suc other place) ∙ apart)
+
+  set_same : (items : List X) (place : ℕ) (item : X) → slice_get items place ≡ Some item → slice_set items place item ≡ items
+  set_same [] place item is = refl
+  set_same (first ∷ items) zero item is = ap (λ (it : X). it ∷ items) (cc)
+  set_same (first ∷ items) (suc place) item is = ap (λ (rest : List X). first ∷ rest) (set_same items place item is)
+
+  pub replaced_by : (items items' : List X) (place : ℕ) (was now : X) → slice_get items place ≡ Some was → items' ≡ slice_set items place now → Replaced items items' place was now
+  replaced_by items items' place was now is set = record {
+    was = is;
+    here = λ found there. set_here items place now found (ap (λ (it : List X). slice_get it place) (sym set) ∙ there);
+    others = λ other apart. ap (λ (it : List X). slice_get it other) set ∙ set_elsewhere items place other now apart;
+  }
+
+module _ {Machine : Type 0} (state : Machine → State) (ports : List Ports) where
+  -- a step that changes nothing
+  stays : (machines machines' : List Machine) (wires wires' : List (List Piece)) (left taken : ℕ → Option (List ℕ)) → machines' ≡ machines → wires' ≡ wires
+      → Leads state ports machines machines' wires wires' left left taken taken
+  stays machines machines' wires wires' left taken same_machines same_wires plan wired follows reached =
+      subst (λ (it : List Machine). Reached state plan it wires' left taken) (sym same_machines)
+      (subst (λ (it : List (List Piece)). Reached state plan machines it left taken) (sym same_wires) reached)
+
+  pub step_leads : (machines machines' : List Machine) (wires wires' : List (List Piece)) (node : ℕ) (machine machine' : Machine) (own : Ports) (result : Result Progress Memory)
+      → slice_get machines node ≡ Some machine → slice_get ports node ≡ Some own → machines' ≡ slice_set machines node machine'
+      → (result ≡ Ok progress.Took → Took (state machine) (state machine') own.ins.items wires wires')
+      → (result ≡ Ok progress.Gave → Gave (state machine) (state machine') own.outs.items wires wires')
+      → IfOk result (λ step. (step ≡ progress.Took → ⊥) → (step ≡ progress.Gave → ⊥) → (machine' ≡ machine) × (wires' ≡ wires))
+      → IfOk result (λ _. (left taken : ℕ → Option (List ℕ)) → Leads state ports machines machines' wires wires' left left taken taken)
+  step_leads machines machines' wires wires' node machine machine' own (Ok progress.Took) at at_own set took gave same = λ left taken plan wired follows reached.
+      reached_took state plan wired machines machines' wires wires' left taken node machine machine' (replaced_by machines machines' node machine machine' at set)
+      (subst (λ (ins : List ℕ). Took (state machine) (state machine') ins wires wires') (sym (follows.ins node own at_own)) (took refl)) reached
+  step_leads machines machines' wires wires' node machine machine' own (Ok progress.Gave) at at_own set took gave same = λ left taken plan wired follows reached.
+      reached_gave state plan wired machines machines' wires wires' left taken node machine machine' (replaced_by machines machines' node machine machine' at set)
+      (subst (λ (outs : List ℕ). Gave (state machine) (state machine') outs wires wires') (sym (follows.outs node own at_own)) (gave refl)) reached
+  step_leads machines machines' wires wires' node machine machine' own (Ok progress.Starves) at at_own set took gave same = λ left taken.
+      let as_before = same (λ is. absurd (cc)) (λ is. absurd (cc)) in
+      stays machines machines' wires wires' left taken (set ∙ ap (slice_set machines node) as_before.0 ∙ set_same machines node machine at) as_before.1
+  step_leads machines machines' wires wires' node machine machine' own (Ok progress.Waits) at at_own set took gave same = λ left taken.
+      let as_before = same (λ is. absurd (cc)) (λ is. absurd (cc)) in
+      stays machines machines' wires wires' left taken (set ∙ ap (slice_set machines node) as_before.0 ∙ set_same machines node machine at) as_before.1
+  step_leads machines machines' wires wires' node machine machine' own (Ok progress.Ended) at at_own set took gave same = λ left taken.
+      let as_before = same (λ is. absurd (cc)) (λ is. absurd (cc)) in
+      stays machines machines' wires wires' left taken (set ∙ ap (slice_set machines node) as_before.0 ∙ set_same machines node machine at) as_before.1
+  step_leads machines machines' wires wires' node machine machine' own (Err memory) at at_own set took gave same = tt
+
+  pub slice_starves : (machines : List Machine) (wires' new : List (List Piece)) (node : ℕ) (machine' : Machine) (own : Ports) (result : Result Progress Memory)
+      → slice_get ports node ≡ Some own → wires' ≡ new → (result ≡ Ok progress.Starves → Starves (state machine') own.ins.items new)
+      → result ≡ Ok progress.Starves → (machine : Machine) (other : Ports) → slice_get (slice_set machines node machine') node ≡ Some machine → slice_get ports node ≡ Some other
+      → Starves (state machine) other.ins.items wires'
+  slice_starves machines wires' new node machine' own result at_own new_is starves is machine other at at_other =
+      subst (λ (it : List (List Piece)). Starves (state machine) other.ins.items it) (sym new_is)
+      (subst (λ (it : Machine). Starves (state it) other.ins.items new) (sym (set_here machines node machine' machine at))
+      (subst (λ (it : Ports). Starves (state machine') it.ins.items new) same_own (starves is)))
+    where
+      same_own : own ≡ other
+      same_own = cc
+
+  -- the same where a step was made over the wires' slice
+  pub slice_step_leads : (machines machines' : List Machine) (wires wires' given new : List (List Piece)) (node : ℕ) (machine machine' : Machine) (own : Ports) (result : Result Progress Memory)
+      → slice_get machines node ≡ Some machine → slice_get ports node ≡ Some own → machines' ≡ slice_set machines node machine' → given ≡ wires → wires' ≡ new
+      → (result ≡ Ok progress.Took → Took (state machine) (state machine') own.ins.items given new)
+      → (result ≡ Ok progress.Gave → Gave (state machine) (state machine') own.outs.items given new)
+      → IfOk result (λ step. (step ≡ progress.Took → ⊥) → (step ≡ progress.Gave → ⊥) → (machine' ≡ machine) × (new ≡ given))
+      → IfOk result (λ _. (left taken : ℕ → Option (List ℕ)) → Leads state ports machines machines' wires wires' left left taken taken)
+  slice_step_leads machines machines' wires wires' given new node machine machine' own result at at_own set old_is new_is took gave same =
+      subst (λ (it : List (List Piece)). IfOk result (λ _. (left taken : ℕ → Option (List ℕ)) → Leads state ports machines machines' wires it left left taken taken)) (sym new_is)
+      (subst (λ (it : List (List Piece)). IfOk result (λ _. (left taken : ℕ → Option (List ℕ)) → Leads state ports machines machines' it new left left taken taken)) old_is
+      (step_leads machines machines' given new node machine machine' own result at at_own set took gave same))
+
+-- a slice of all of a list, written back
+module _ {X : Type 0} where
+  drop_all : (count : ℕ) (items : List X) → count ≡ length items → drop count items ≡ []
+  drop_all zero [] is = refl
+  drop_all zero (item ∷ items) is = absurd (omega (arith, is))
+  drop_all (suc count) [] is = refl
+  drop_all (suc count) (item ∷ items) is = drop_all count items (omega (arith, is))
+
+  take_all : (count : ℕ) (items : List X) → count ≡ length items → take count items ≡ items
+  take_all zero [] is = refl
+  take_all zero (item ∷ items) is = absurd (omega (arith, is))
+  take_all (suc count) [] is = refl
+  take_all (suc count) (item ∷ items) is = ap (λ (rest : List X). item ∷ rest) (take_all count items (omega (arith, is)))
+
+  pub written_back : (old new : List X) (count : ℕ) → length new ≡ length old → count ≡ length old → take count (new ++ drop (length new) old) ≡ new
+  written_back old new count same all =
+      ap (λ (rest : List X). take count (new ++ rest)) (drop_all (length new) old same)
+      ∙ ap (take count) (append-nil new) ∙ take_all count new (all ∙ sym same)
+
+-- a part of plain pieces behind others is plain
+plain_behind : (front back : List Piece) → list_all is_plain (front ++ back) ≡ true → list_all is_plain back ≡ true
+plain_behind front back plain = (and_parts (list_all is_plain front) (list_all is_plain back) (sym (list_all-append is_plain front back) ∙ plain)).1
+
+opened_first : (start now closed : Bool) → now ≡ (start && not closed) → now ≡ true → start ≡ true
+opened_first start now closed is opened = (and_parts start (not closed) (sym is ∙ opened)).0
+
+-- what a network that goes gives for a step
+module _ {Machine : Type 0} (state : Machine → State) (ports : List Ports) (machines : List Machine) (wires : List (List Piece)) (left taken : ℕ → Option (List ℕ))
+    (goes : Goes state ports machines wires left taken) where
+  pub goes_whole : (node : ℕ) (machine : Machine) → slice_get machines node ≡ Some machine → (state machine).broken ≡ false
+  goes_whole = goes.reached.whole
+
+  pub goes_plain : ArePlain wires
+  goes_plain edge =
+      plain_behind (goes.reached.took edge) (waiting_on wires edge) (ap (list_all is_plain) (sym (goes.reached.queued edge)) ∙ goes.reached.plain edge)
+
+  pub goes_fits : (node : ℕ) (machine : Machine) (own : Ports) → slice_get machines node ≡ Some machine → slice_get ports node ≡ Some own
+      → Fits (state machine) own.ins.items own.outs.items (length wires)
+  goes_fits node machine own at at_own =
+      let run = goes.reached.runs node machine at in
+      let ins_are = goes.follows.ins node own at_own in
+      let outs_are = goes.follows.outs node own at_own in
+      subst (λ (ins : List ℕ). Fits (state machine) ins own.outs.items (length wires)) ins_are
+      (subst (λ (outs : List ℕ). Fits (state machine) (goes.plan.ins node) outs (length wires)) outs_are
+      (record {
+        ins_known = λ port opened. goes.follows.in_ports node port (opened_first _ _ _ (run.ins port) opened);
+        outs_known = λ port opened. goes.follows.out_ports node port (opened_first _ _ _ (run.outs port) opened);
+        ins_wired = goes.follows.wired_ins node;
+        outs_wired = goes.follows.wired_outs node;
+      }))

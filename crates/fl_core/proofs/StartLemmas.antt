@@ -1,0 +1,210 @@
+-- A graph's network at its beginning follows the graph's plan, and stands at the plan's start.
+use Rattle.std.proofs.Common.{◌≡◌, ℕ, zero, suc, ◌<◌, ◌≤◌, List, [], ◌∷◌, Bool, true, false, if◌then◌else◌, length, slice_get, get_or, nat_lt, Option, Some, None, refl, ap, sym, subst, ◌∙◌, arith}
+use mathlib.Core.Path.{fun_ext}
+use Rattle.std.specs.Option.{option_map_or}
+use Rattle.std.specs.List.{flat_map}
+use Rattle.std.proofs.lemmas.Bool.{true≢false, true_from_ne_false, ltb-true}
+use Rattle.std.proofs.lemmas.Option.{slice_get_within, slice_get-get_or}
+use Rattle.ps_world.proofs.ToldLemmas.{then_bytes-nil, bytes_then-nil}
+use Rattle.fl_graph.specs.Net.{Cell, has, count, gives, takes}
+use Rattle.fl_graph.specs.Runs.{State, Run}
+use Rattle.fl_graph.specs.Valid.{Valid}
+use Rattle.fl_graph.specs.declared.graphs.StatusRule.{StatusRule}
+use Rattle.fl_graph.specs.declared.kinds.NodeKind.{NodeKind}
+use Rattle.fl_graph.specs.declared.pieces.Piece.{Piece}
+use Rattle.fl_graph.proofs.ListLemmas.{count-has, count-none}
+use Rattle.fl_graph.proofs.StateLemmas.{Run-start}
+use Rattle.fl_classes.specs.Flow.{is_source}
+use Rattle.fl_classes.specs.Nodes.{Begins}
+use Rattle.fl_core.specs.Kinds.{is_sink, run_kind, run_ins, run_outs}
+use Rattle.fl_core.specs.Laws.{at_ports}
+use Rattle.fl_core.specs.Runs.{Plan, IsWired, Follows, Reached}
+use Rattle.fl_core.specs.Plans.{outer_edge, edges_in, edges_out, IsPlanOf, IsNetOf}
+use Rattle.fl_core.specs.Points.{IsUnderWay}
+use Rattle.fl_core.specs.declared.nets.Ports.{Ports}
+use Rattle.fl_core.proofs.PortLemmas.{stands-has, part_within}
+use Rattle.fl_core.proofs.PlanLemmas.{plan_is_wired}
+use Rattle.fl_core.proofs.HaltLemmas.{machine_at}
+
+-- nothing was taken and nothing put
+at_ports-nothing : (edges : List ℕ) (port : ℕ) → at_ports edges (λ _. []) port ≡ []
+at_ports-nothing [] port = refl
+at_ports-nothing (edge ∷ edges) zero = refl
+at_ports-nothing (edge ∷ edges) (suc port) = at_ports-nothing edges port
+
+-- an end's one edge
+sole_below : (edge bound port : ℕ) → edge < bound → port < 1 → get_or (edge ∷ []) port 0 < bound
+sole_below edge bound zero low within = low
+sole_below edge bound (suc port) low within = absurd (omega (arith, within))
+
+sole_length : (test : Bool) (outer : ℕ) (edges : List ℕ) → length (if test then outer ∷ [] else edges) ≡ (if test then 1 else length edges)
+sole_length true outer edges = refl
+sole_length false outer edges = refl
+
+-- a machine of a node that isn't there
+abbrev pub no_state : State
+no_state = record { takes = λ _. false; puts = λ _. false; broken = false; due = λ _ _. []; selects = λ _. false }
+
+module _ {Machine : Type 0} (state : Machine → State) (cells : List (Cell NodeKind)) (status : StatusRule) (valid : Valid cells status)
+    (ports : List Ports) (machines : List Machine) (wires : List (List Piece)) (net : IsNetOf state cells ports machines wires) (left taken : ℕ → Option (List ℕ)) where
+  abbrev pub start_plan : Plan
+  start_plan = record {
+    ins = λ node. option_map_or (edges_in cells node) (slice_get cells node) [];
+    outs = λ node. option_map_or (edges_out cells node) (slice_get cells node) [];
+    starts = λ node. option_map_or state (slice_get machines node) no_state;
+    reads = λ node. option_map_or (λ cell. is_source cell.kind) (slice_get cells node) false;
+    writes = λ node. option_map_or (λ cell. is_sink cell.kind) (slice_get cells node) false;
+    left = left;
+    taken = taken;
+  }
+
+  -- a node has its machine, and a machine its node
+  node_machine : (node : ℕ) (cell : Cell NodeKind) → slice_get cells node ≡ Some cell → (machine : Machine) × (slice_get machines node ≡ Some machine)
+  node_machine node cell at_node =
+      let within = slice_get_within cells node cell at_node in
+      let counted = net.all_machines in
+      machine_at machines node (omega (arith, within, counted))
+
+  machine_node : (node : ℕ) (machine : Machine) → slice_get machines node ≡ Some machine → (cell : Cell NodeKind) × (slice_get cells node ≡ Some cell)
+  machine_node node machine at_machine =
+      let within = slice_get_within machines node machine at_machine in
+      let counted = net.all_machines in
+      machine_at cells node (omega (arith, within, counted))
+
+  ports_node : (node : ℕ) (own : Ports) → slice_get ports node ≡ Some own → (cell : Cell NodeKind) × (slice_get cells node ≡ Some cell)
+  ports_node node own at_ports =
+      let within = slice_get_within ports node own at_ports in
+      let counted = net.all_ports in
+      machine_at cells node (omega (arith, within, counted))
+
+  start_of : (node : ℕ) (machine : Machine) → slice_get machines node ≡ Some machine → start_plan.starts node ≡ state machine
+  start_of node machine at_machine = ap (λ (found : Option Machine). option_map_or state found no_state) at_machine
+
+  pub start_is_planned : IsPlanOf cells start_plan
+  start_is_planned = record {
+    ins = λ node cell at_node. ap (λ (found : Option (Cell NodeKind)). option_map_or (edges_in cells node) found []) at_node;
+    outs = λ node cell at_node. ap (λ (found : Option (Cell NodeKind)). option_map_or (edges_out cells node) found []) at_node;
+    reads = λ node cell at_node. ap (λ (found : Option (Cell NodeKind)). option_map_or (λ (it : Cell NodeKind). is_source it.kind) found false) at_node;
+    writes = λ node cell at_node. ap (λ (found : Option (Cell NodeKind)). option_map_or (λ (it : Cell NodeKind). is_sink it.kind) found false) at_node;
+    no_ins = λ node none. ap (λ (found : Option (Cell NodeKind)). option_map_or (edges_in cells node) found []) none;
+    no_outs = λ node none. ap (λ (found : Option (Cell NodeKind)). option_map_or (edges_out cells node) found []) none;
+    no_reads = λ node none. ap (λ (found : Option (Cell NodeKind)). option_map_or (λ (it : Cell NodeKind). is_source it.kind) found false) none;
+    no_writes = λ node none. ap (λ (found : Option (Cell NodeKind)). option_map_or (λ (it : Cell NodeKind). is_sink it.kind) found false) none;
+    begins = λ node cell at_node.
+        let its = node_machine node cell at_node in
+        subst (λ (start : State). Begins (run_kind cell.kind) (run_ins cell.kind (length cell.ins)) (run_outs cell.kind (length cell.outs))
+        start.takes start.puts start.broken start.due start.selects)
+        (sym (start_of node its.0 its.1)) (net.begins node cell its.0 at_node its.1);
+  }
+
+  pub start_is_wired : IsWired start_plan
+  start_is_wired = plan_is_wired cells status start_plan valid start_is_planned
+
+  -- each edge of a node has its wire
+  given_below : (edge : ℕ) → 1 ≤ count edge (gives cells) → edge < length (gives cells)
+  given_below edge some =
+      valid.edges.below edge (true_from_ne_false (has edge (gives cells)) (λ none. let absent = count-none edge (gives cells) none in omega (arith, absent, some)))
+
+  module _ (part : Cell NodeKind → List ℕ) (ends : NodeKind → Bool) (below : (edge : ℕ) → 1 ≤ count edge (flat_map part cells) → edge < length (gives cells)) (node : ℕ) where
+    abbrev edges_of : Option (Cell NodeKind) → List ℕ
+    edges_of found = option_map_or (λ (cell : Cell NodeKind). if ends cell.kind then outer_edge cells node ∷ [] else part cell) found []
+
+    own_below : (port : ℕ) (cell : Cell NodeKind) → slice_get cells node ≡ Some cell → port < length (part cell) → get_or (part cell) port 0 < length (gives cells)
+    own_below port cell at_node within =
+        let edge = get_or (part cell) port 0 in
+        let there = count-has edge (part cell) (stands-has (part cell) port edge (slice_get-get_or (part cell) port 0 within)) in
+        let all = part_within part edge cells node cell at_node in
+        below edge (omega (arith, there, all))
+
+    edges_wired : (port : ℕ) → port < length (edges_of (slice_get cells node)) → get_or (edges_of (slice_get cells node)) port 0 < length wires
+    edges_wired port within = by_cell (slice_get cells node) refl within
+      where
+        by_kind : (cell : Cell NodeKind) (outer : Bool) → slice_get cells node ≡ Some cell → port < length (if outer then outer_edge cells node ∷ [] else part cell)
+            → get_or (if outer then outer_edge cells node ∷ [] else part cell) port 0 < length wires
+        by_kind cell true at_node first =
+            let there = slice_get_within cells node cell at_node in
+            let all = net.all_wires in
+            sole_below (outer_edge cells node) (length wires) port (omega (arith, there, all)) first
+        by_kind cell false at_node inside = let low = own_below port cell at_node inside in let all = net.all_wires in omega (arith, low, all)
+
+        by_cell : (found : Option (Cell NodeKind)) → slice_get cells node ≡ found → port < length (edges_of found) → get_or (edges_of found) port 0 < length wires
+        by_cell (Some cell) at_node here = by_kind cell (ends cell.kind) at_node here
+        by_cell None at_node here = absurd (omega (arith, here))
+
+    -- and the open ports of its machine are its own
+    ports_own : (opened : State → ℕ → Bool) → ((port : ℕ) → opened no_state port ≡ false)
+        → ((cell : Cell NodeKind) (machine : Machine) (port : ℕ) → slice_get cells node ≡ Some cell → slice_get machines node ≡ Some machine
+        → opened (state machine) port ≡ nat_lt port (if ends cell.kind then 1 else length (part cell)))
+        → (port : ℕ) → opened (option_map_or state (slice_get machines node) no_state) port ≡ true → port < length (edges_of (slice_get cells node))
+    ports_own opened shut begins port is = by_machine (slice_get machines node) refl is
+      where
+        by_machine : (found : Option Machine) → slice_get machines node ≡ found → opened (option_map_or state found no_state) port ≡ true
+            → port < length (edges_of (slice_get cells node))
+        by_machine (Some machine) at_machine open_here =
+            let its = machine_node node machine at_machine in
+            let cell : Cell NodeKind = its.0 in
+            let within = ltb-true port (if ends cell.kind then 1 else length (part cell)) (sym (begins cell machine port its.1 at_machine) ∙ open_here) in
+            let same : length (edges_of (slice_get cells node)) ≡ (if ends cell.kind then 1 else length (part cell)) =
+            ap (λ (found : Option (Cell NodeKind)). length (edges_of found)) its.1 ∙ sole_length (ends cell.kind) (outer_edge cells node) (part cell) in
+            subst (λ (count : ℕ). port < count) (sym same) within
+        by_machine None at_machine open_here = absurd (true≢false (sym open_here ∙ shut port))
+
+  taken_below : (edge : ℕ) → 1 ≤ count edge (takes cells) → edge < length (gives cells)
+  taken_below edge some = let same = valid.edges.taken edge in given_below edge (omega (arith, same, some))
+
+  -- the network's ports are the plan's
+  pub start_follows : Follows start_plan ports (length wires)
+  start_follows = record {
+    ins = λ node own at_node. let its = ports_node node own at_node in start_is_planned.ins node its.0 its.1 ∙ sym (net.ins node its.0 own its.1 at_node);
+    outs = λ node own at_node. let its = ports_node node own at_node in start_is_planned.outs node its.0 its.1 ∙ sym (net.outs node its.0 own its.1 at_node);
+    reads = λ node own at_node. let its = ports_node node own at_node in start_is_planned.reads node its.0 its.1 ∙ sym (net.reads node its.0 own its.1 at_node);
+    writes = λ node own at_node. let its = ports_node node own at_node in start_is_planned.writes node its.0 its.1 ∙ sym (net.writes node its.0 own its.1 at_node);
+    wired_ins = λ node. edges_wired (λ (cell : Cell NodeKind). cell.ins) is_source taken_below node;
+    wired_outs = λ node. edges_wired (λ (cell : Cell NodeKind). cell.outs) is_sink given_below node;
+    in_ports = λ node. ports_own (λ (cell : Cell NodeKind). cell.ins) is_source taken_below node (λ (it : State) (port : ℕ). it.takes port) (λ port. refl)
+        (λ cell machine port at_node at_machine. (net.begins node cell machine at_node at_machine).takes_all port);
+    out_ports = λ node. ports_own (λ (cell : Cell NodeKind). cell.outs) is_sink given_below node (λ (it : State) (port : ℕ). it.puts port) (λ port. refl)
+        (λ cell machine port at_node at_machine. (net.begins node cell machine at_node at_machine).puts_all port);
+  }
+
+  start_whole : (node : ℕ) (machine : Machine) → slice_get machines node ≡ Some machine → (state machine).broken ≡ false
+  start_whole node machine at_machine = let its = machine_node node machine at_machine in (net.begins node its.0 machine its.1 at_machine).is_whole
+
+  -- before anything has moved
+  pub start_is_reached : Reached state start_plan machines wires left taken
+  start_is_reached = record {
+    took = λ edge. [];
+    put = λ edge. [];
+    queued = λ edge. sym (net.none_waits edge);
+    clean = λ edge. refl;
+    plain = λ edge. refl;
+    runs = λ node machine at_machine.
+        let nothing : (edges : List ℕ) → (λ (_ : ℕ). []) ≡ at_ports edges (λ (_ : ℕ). []) = λ edges. fun_ext (λ (port : ℕ). sym (at_ports-nothing edges port)) in
+        subst (λ (start : State). Run start (state machine) (at_ports (start_plan.ins node) (λ (_ : ℕ). [])) (at_ports (start_plan.outs node) (λ (_ : ℕ). [])))
+        (sym (start_of node machine at_machine))
+        (subst (λ (put : ℕ → List Piece). Run (state machine) (state machine) (at_ports (start_plan.ins node) (λ (_ : ℕ). [])) put) (nothing (start_plan.outs node))
+        (subst (λ (took : ℕ → List Piece). Run (state machine) (state machine) took (λ (_ : ℕ). [])) (nothing (start_plan.ins node))
+        (Run-start (state machine) (start_whole node machine at_machine))));
+    whole = start_whole;
+    read = λ node edge reads is. sym (bytes_then-nil (left node));
+    ended = λ node edge reads is ended. absurd (true≢false (sym ended));
+    written = λ node edge writes is. sym (then_bytes-nil (taken node));
+  }
+
+  -- all that later steps want of the plan
+  abbrev pub net_plan : (plan : Plan) × IsPlanOf cells plan × IsWired plan × Follows plan ports (length wires) × Reached state plan machines wires left taken × (plan.left ≡ left) × (plan.taken ≡ taken)
+  net_plan = (start_plan, start_is_planned, start_is_wired, start_follows, start_is_reached, refl, refl)
+
+  -- so a run is under way, where each source has an end to read from and each sink one to write to
+  pub net_under_way : (reads writes : ℕ → Bool) (faults : ℕ → ℕ)
+      → ((node : ℕ) (cell : Cell NodeKind) → slice_get cells node ≡ Some cell → is_source cell.kind ≡ true → reads node ≡ true)
+      → ((node : ℕ) (cell : Cell NodeKind) → slice_get cells node ≡ Some cell → is_sink cell.kind ≡ true → writes node ≡ true)
+      → IsUnderWay state (record { ports = ports; machines = machines; wires = wires; left = left; taken = taken; reads = reads; writes = writes; faults = faults })
+  net_under_way reads writes faults readable writable = record {
+    goes = record { plan = start_plan; wired = start_is_wired; follows = start_follows; reached = start_is_reached };
+    ends = record {
+      reading = λ node own at_node is. let its = ports_node node own at_node in readable node its.0 its.1 (sym (net.reads node its.0 own its.1 at_node) ∙ is);
+      writing = λ node own at_node is. let its = ports_node node own at_node in writable node its.0 its.1 (sym (net.writes node its.0 own its.1 at_node) ∙ is);
+    };
+    counted = net.all_machines ∙ sym net.all_ports;
+  }

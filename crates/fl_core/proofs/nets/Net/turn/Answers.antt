@@ -1,0 +1,72 @@
+use Rattle.std.proofs.Common.{ap, ◌∙◌, Ok}
+use Rattle.std.specs.Global.{Vec}
+use Rattle.fl_core.specs.declared.nets.Ports.{Ports}
+use Rattle.fl_core.proofs.NetLemmas.{goes_fits}
+use Rattle.fl_core.proofs.TurnLemmas.{step_halts, turn_reads, turn_writes, turn_read_leads, turn_write_leads, turn_halts, turn_write_halts}
+use Rattle.fl_core.proofs.nets.Net.turn.Goals as goal
+
+pub step-requires-clause-fits : goal.step-requires-clause-fits
+step-requires-clause-fits g c =
+    goes_fits (λ machine. record { takes = g.M.Machine.takes machine; puts = g.M.Machine.puts machine; broken = g.M.Machine.broken machine; due = g.M.Machine.due machine; selects = g.M.Machine.selects machine })
+    c.args.self.now.ports.items c.args.self.now.machines.items c.args.self.now.wires.items (g.E.NodeEnds.left c.args.ends.now) (g.E.NodeEnds.taken c.args.ends.now) c.requires.goes c.args.node
+
+pub returns-in-Err-clause-halts : goal.returns-in-Err-clause-halts
+returns-in-Err-clause-halts g c =
+    step_halts (λ machine. record { takes = g.M.Machine.takes machine; puts = g.M.Machine.puts machine; broken = g.M.Machine.broken machine; due = g.M.Machine.due machine; selects = g.M.Machine.selects machine })
+    c.args.self.now.ports.items c.args.self.now.machines.items c.args.self.now.wires.items (g.E.NodeEnds.left c.args.ends.now) (g.E.NodeEnds.taken c.args.ends.now)
+
+pub read-requires-clause-reads : goal.read-requires-clause-reads
+read-requires-clause-reads g c =
+    turn_reads (λ machine. record { takes = g.M.Machine.takes machine; puts = g.M.Machine.puts machine; broken = g.M.Machine.broken machine; due = g.M.Machine.due machine; selects = g.M.Machine.selects machine })
+    c.args.self.now.ports.items c.step.new.self.ports.items (ap (λ (it : Vec Ports). it.items) c.step.ensures.ports)
+    c.args.self.now.machines.items c.step.new.self.machines.items c.args.self.now.wires.items c.step.new.self.wires.items
+    (g.E.NodeEnds.left c.args.ends.now) (g.E.NodeEnds.taken c.args.ends.now) c.args.node c.requires.node.1 c.step.ensures.wires
+    (g.E.NodeEnds.reads c.args.ends.now) (g.E.NodeEnds.writes c.args.ends.now) c.requires.ends c.reads.result c.reads.ensures c.if-reads.true
+
+pub write-requires-clause-writes : goal.write-requires-clause-writes
+write-requires-clause-writes g c =
+    turn_writes (λ machine. record { takes = g.M.Machine.takes machine; puts = g.M.Machine.puts machine; broken = g.M.Machine.broken machine; due = g.M.Machine.due machine; selects = g.M.Machine.selects machine })
+    c.args.self.now.ports.items c.step.new.self.ports.items (ap (λ (it : Vec Ports). it.items) c.step.ensures.ports)
+    c.args.self.now.machines.items c.step.new.self.machines.items c.args.self.now.wires.items c.step.new.self.wires.items
+    (g.E.NodeEnds.left c.args.ends.now) (g.E.NodeEnds.taken c.args.ends.now) c.args.node c.requires.node.1 c.step.ensures.wires
+    (g.E.NodeEnds.reads c.args.ends.now) (g.E.NodeEnds.writes c.args.ends.now) c.requires.ends c.writes.result c.writes.ensures c.if-writes.true
+
+pub returns-in-Ok-read-clause-leads : goal.returns-in-Ok-read-clause-leads
+returns-in-Ok-read-clause-leads g c =
+    turn_read_leads (λ machine. record { takes = g.M.Machine.takes machine; puts = g.M.Machine.puts machine; broken = g.M.Machine.broken machine; due = g.M.Machine.due machine; selects = g.M.Machine.selects machine })
+    c.args.self.now.ports.items c.step.new.self.ports.items (ap (λ (it : Vec Ports). it.items) c.step.ensures.ports)
+    c.args.self.now.machines.items c.step.new.self.machines.items c.args.self.now.wires.items c.step.new.self.wires.items
+    (g.E.NodeEnds.left c.args.ends.now) (g.E.NodeEnds.taken c.args.ends.now) c.args.node c.requires.node.1 c.step.ensures.wires
+    c.step.ensures.machines (c.in-Ok.ensures.leads (g.E.NodeEnds.left c.args.ends.now) (g.E.NodeEnds.taken c.args.ends.now))
+    _ _ _ _ c.requires.node.0 (c.step.ensures.starves (c.in-Ok.is ∙ ap (λ it. Ok it) c.in-Starves.is))
+    c.reads.result c.reads.ensures c.if-reads.true c.in-Ok-read.ensures.leads
+
+pub returns-in-Err-read-clause-halts : goal.returns-in-Err-read-clause-halts
+returns-in-Err-read-clause-halts g c =
+    turn_halts (λ machine. record { takes = g.M.Machine.takes machine; puts = g.M.Machine.puts machine; broken = g.M.Machine.broken machine; due = g.M.Machine.due machine; selects = g.M.Machine.selects machine })
+    c.args.self.now.ports.items c.step.new.self.ports.items (ap (λ (it : Vec Ports). it.items) c.step.ensures.ports)
+    c.args.self.now.machines.items c.step.new.self.machines.items c.args.self.now.wires.items c.step.new.self.wires.items
+    (g.E.NodeEnds.left c.args.ends.now) (g.E.NodeEnds.taken c.args.ends.now) c.args.node c.requires.node.1 c.step.ensures.wires
+    c.step.ensures.machines (c.in-Ok.ensures.leads (g.E.NodeEnds.left c.args.ends.now) (g.E.NodeEnds.taken c.args.ends.now))
+    _ c.in-Err-read.ensures.halts
+
+pub returns-in-Ok-write-clause-leads : goal.returns-in-Ok-write-clause-leads
+returns-in-Ok-write-clause-leads g c =
+    turn_write_leads (λ machine. record { takes = g.M.Machine.takes machine; puts = g.M.Machine.puts machine; broken = g.M.Machine.broken machine; due = g.M.Machine.due machine; selects = g.M.Machine.selects machine })
+    c.args.self.now.ports.items c.step.new.self.ports.items (ap (λ (it : Vec Ports). it.items) c.step.ensures.ports)
+    c.args.self.now.machines.items c.step.new.self.machines.items c.args.self.now.wires.items c.step.new.self.wires.items
+    (g.E.NodeEnds.left c.args.ends.now) (g.E.NodeEnds.taken c.args.ends.now) c.args.node c.requires.node.1 c.step.ensures.wires
+    c.step.ensures.machines (c.in-Ok.ensures.leads (g.E.NodeEnds.left c.args.ends.now) (g.E.NodeEnds.taken c.args.ends.now))
+    _ _ _ _ c.writes.result c.writes.ensures c.if-writes.true c.in-Ok-write.ensures.leads
+
+pub returns-in-Err-write-clause-halts : goal.returns-in-Err-write-clause-halts
+returns-in-Err-write-clause-halts g c =
+    turn_write_halts (λ machine. record { takes = g.M.Machine.takes machine; puts = g.M.Machine.puts machine; broken = g.M.Machine.broken machine; due = g.M.Machine.due machine; selects = g.M.Machine.selects machine })
+    c.args.self.now.ports.items c.step.new.self.ports.items (ap (λ (it : Vec Ports). it.items) c.step.ensures.ports)
+    c.args.self.now.machines.items c.step.new.self.machines.items c.args.self.now.wires.items c.step.new.self.wires.items
+    (g.E.NodeEnds.left c.args.ends.now) (g.E.NodeEnds.taken c.args.ends.now) c.args.node c.requires.node.1 c.step.ensures.wires
+    c.step.ensures.machines (c.in-Ok.ensures.leads (g.E.NodeEnds.left c.args.ends.now) (g.E.NodeEnds.taken c.args.ends.now))
+    _ c.writes.result c.writes.ensures c.if-writes.true c.in-Err-write.ensures.halts
+
+pub returns-in_default-clause-leads : goal.returns-in_default-clause-leads
+returns-in_default-clause-leads g c = c.in-Ok.ensures.leads (g.E.NodeEnds.left c.args.ends.now) (g.E.NodeEnds.taken c.args.ends.now)

@@ -1,0 +1,31 @@
+-- The kinds of nodes that the engine runs (own).
+use Rattle.std.specs.Prelude.{ℕ, List, Bool, true, false, ◌||◌, if◌then◌else◌}
+use Rattle.std.specs.List.{list_all}
+use Rattle.fl_graph.specs.Net.{Cell}
+use Rattle.fl_graph.specs.declared.kinds.NodeKind.{NodeKind}
+use Rattle.fl_graph.specs.declared.kinds.NodeKind.TheVariants as kind
+use Rattle.fl_classes.specs.Flow.{is_source}
+use Rattle.fl_machines.specs.Kinds.{runs_utility}
+use Rattle.fl_joints.specs.Joints.{is_joint}
+
+abbrev pub is_sink : NodeKind → Bool
+is_sink (kind.Sink sink) = true
+is_sink other = false
+
+-- a source, a sink, or a node that has a machine
+abbrev pub is_run : NodeKind → Bool
+is_run node = is_source node || (is_sink node || (is_joint node || runs_utility node))
+
+abbrev pub are_run : List (Cell NodeKind) → Bool
+are_run cells = list_all (λ cell. is_run cell.kind) cells
+
+-- what runs a node: a source and a sink hand on what comes
+abbrev pub run_kind : NodeKind → NodeKind
+run_kind node = if is_source node || is_sink node then kind.Cat false else node
+
+-- with how many ins and outs: a source has one in from outside, and a sink one out to it
+abbrev pub run_ins : NodeKind → ℕ → ℕ
+run_ins kind ins = if is_source kind then 1 else ins
+
+abbrev pub run_outs : NodeKind → ℕ → ℕ
+run_outs kind outs = if is_sink kind then 1 else outs

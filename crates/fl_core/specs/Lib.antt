@@ -1,0 +1,9 @@
+pub mod Kinds
+pub mod Laws
+pub mod Steps
+pub mod Runs
+pub mod Plans
+pub mod Causes
+pub mod Points
+pub mod Ends
+pub mod Starts

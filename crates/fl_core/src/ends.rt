@@ -1,0 +1,53 @@
+//! The ends of nodes.
+ghost use Rattle.std.specs.Prelude.{◌≡◌, ◌==◌, ℕ, ◌<◌, ◌≤◌, List, Bool, true, false, length, take, Option, Ok, Err, IfOk, OnOk, OnErr, MatchResult};
+ghost use Rattle.ps_world.specs.Counts.{Counts};
+ghost use Rattle.ps_world.specs.Told.{bytes_then, then_bytes, GrewByPrefix, IsEnded};
+
+use ps_world::WorldErr;
+
+/// What a graph's sources read and its sinks write, by the numbers of their nodes.
+///
+/// A call touches the end of its node alone.
+pub trait NodeEnds {
+    /// The bytes still to come at a source, where its end tells them.
+    ghost left: { Self → ℕ → Option (List ℕ) };
+    /// The bytes that the end of a sink has taken, where it tells them.
+    ghost taken: { Self → ℕ → Option (List ℕ) };
+    /// How many calls of a node's end have failed.
+    ghost faults: { Self → ℕ → ℕ };
+    /// The nodes that have an end to read.
+    ghost reads: { Self → ℕ → Bool };
+    /// The nodes that have an end to write.
+    ghost writes: { Self → ℕ → Bool };
+    /// What no call changes: the borrows that it holds, by their ghost names, and which ends there are.
+    ghost borrows: { Self → List ℕ };
+
+    /// Reads into the front of `buffer` from a source's end, as `Source::read` does.
+    fn read(&mut self, node: u32, buffer: &mut [u8]) -> Result<usize, WorldErr>
+        requires { reads self.old node ≡ true }
+        ensures bound { IfOk result (λ count. count ≤ length buffer.new) }
+        ensures bytes { MatchResult result
+            (λ count. left self.old node ≡ bytes_then (take count buffer.new) (left self.new node))
+            (λ _. left self.new node ≡ left self.old node) }
+        ensures end { result ≡ Ok 0 → 0 < length buffer.new → IsEnded (left self.new node) }
+        ensures left { (other : ℕ) → (other == node) ≡ false → left self.new other ≡ left self.old other }
+        ensures taken { (other : ℕ) → taken self.new other ≡ taken self.old other }
+        ensures cause { Counts (faults self.old node) (faults self.new node) result }
+        ensures calm { (other : ℕ) → (other == node) ≡ false → faults self.new other ≡ faults self.old other }
+        ensures reads { (other : ℕ) → reads self.new other ≡ reads self.old other }
+        ensures writes { (other : ℕ) → writes self.new other ≡ writes self.old other }
+        ensures borrows { borrows self.new ≡ borrows self.old };
+
+    /// Writes all of `bytes` to a sink's end. On an error it has taken a front of them.
+    fn write_all(&mut self, node: u32, bytes: &[u8]) -> Result<(), WorldErr>
+        requires { writes self.old node ≡ true }
+        ensures ok { OnOk result (taken self.new node ≡ then_bytes (taken self.old node) bytes.now) }
+        ensures err { OnErr result (GrewByPrefix (taken self.old node) (taken self.new node) bytes.now) }
+        ensures taken { (other : ℕ) → (other == node) ≡ false → taken self.new other ≡ taken self.old other }
+        ensures left { (other : ℕ) → left self.new other ≡ left self.old other }
+        ensures cause { Counts (faults self.old node) (faults self.new node) result }
+        ensures calm { (other : ℕ) → (other == node) ≡ false → faults self.new other ≡ faults self.old other }
+        ensures reads { (other : ℕ) → reads self.new other ≡ reads self.old other }
+        ensures writes { (other : ℕ) → writes self.new other ≡ writes self.old other }
+        ensures borrows { borrows self.new ≡ borrows self.old };
+}

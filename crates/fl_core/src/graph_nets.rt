@@ -1,0 +1,234 @@
+//! Networks of graphs.
+ghost use Rattle.std.specs.Prelude.{◌≡◌, ◌<◌, ◌+◌, ◌^◌, ◌∷◌, [], ℕ, true, if◌then◌else◌, length, IfOk};
+ghost use Rattle.std.specs.List.{list_all};
+ghost use Rattle.fl_graph.specs.Cells.{cell, cells};
+ghost use Rattle.fl_graph.specs.Kinds.{has_its_ports, reads_one_input};
+ghost use Rattle.fl_graph.specs.Net.{gives};
+ghost use Rattle.fl_graph.specs.Valid.{Valid};
+ghost use Rattle.fl_classes.specs.Flow.{is_source as is_source_lem};
+ghost use Rattle.fl_core.specs.Kinds.{are_run, is_run, is_sink as is_sink_lem};
+ghost use Rattle.fl_core.specs.Plans.{IsNetOf};
+ghost use Rattle.fl_core.specs.Starts.{BeginsAs, HasPorts, NodesHave};
+ghost use Rattle.fl_core.specs.Steps.{waiting_on};
+
+use crate::machines::{NodeMachine, node_machine};
+use crate::nets::{Net, Ports};
+use crate::wires::Wire;
+use fl_graph::{Graph, Machine, Node, NodeKind};
+use ps_lines::Memory;
+use std::alloc::Global;
+
+/// How many pieces may wait on an edge that is bounded.
+const ROOM: usize = 8;
+
+/// The network of a graph, before anything has moved.
+///
+/// A wire is bounded where its edge leads into a node of one in, to the outside or from there. A node of many ins reads them in an order
+/// of its own, so what comes at a later one may not hold up its giver, on which an earlier one may wait. On Memory nothing is left; it is
+/// also the answer where edges and nodes together are too many for numbers of 32 bits.
+pub fn net_of(alloc: Global, graph: &Graph) -> Result<Net<NodeMachine>, Memory>
+    requires valid { Valid (cells graph.now.nodes.items) graph.now.status }
+    requires kinds { are_run (cells graph.now.nodes.items) ≡ true }
+    ensures net { IfOk result (λ net. IsNetOf (λ machine. record {
+      takes = ⟦<NodeMachine as Machine>⟧.takes machine;
+      puts = ⟦<NodeMachine as Machine>⟧.puts machine;
+      broken = ⟦<NodeMachine as Machine>⟧.broken machine;
+      due = ⟦<NodeMachine as Machine>⟧.due machine;
+      selects = ⟦<NodeMachine as Machine>⟧.selects machine;
+    }) (cells graph.now.nodes.items) net.ports.items net.machines.items net.wires.items) }
+    ensures few { IfOk result (λ net. length net.machines.items < 2 ^ 32) }
+{
+    let nodes = graph.nodes.as_slice();
+    let edges = edge_count(nodes)?;
+    let count = wire_count(nodes, edges)?;
+    let ports = ports_of(alloc, nodes, edges)?;
+    let machines = machines_of(alloc, nodes)?;
+    let wires = wires_of(alloc, nodes, count)?;
+    Ok(Net {
+        ports,
+        machines,
+        wires,
+    })
+}
+
+/// The number of edges, which is that of outs.
+fn edge_count(nodes: &[Node]) -> Result<usize, Memory>
+    ensures { IfOk result (λ count. count ≡ length (gives (cells nodes.now))) }
+{
+    let mut count: usize = 0;
+    for node in nodes {
+        let Some(more) = count.checked_add(node.outs.len()) else {
+            return Err(Memory);
+        };
+        count = more;
+    }
+    Ok(count)
+}
+
+/// The number of wires: one for each edge, and one for each node that may have an edge to the outside. Each has a number of 32 bits.
+fn wire_count(nodes: &[Node], edges: usize) -> Result<usize, Memory>
+    ensures sum { IfOk result (λ count. count ≡ edges + length nodes.now) }
+    ensures few { IfOk result (λ count. count < 2 ^ 32) }
+{
+    match edges.checked_add(nodes.len()) {
+        Some(count) if count <= u32::MAX as usize => Ok(count),
+        _ => Err(Memory),
+    }
+}
+
+/// The ports of all nodes.
+fn ports_of(alloc: Global, nodes: &[Node], edges: usize) -> Result<Vec<Ports>, Memory>
+    requires counted { edges ≡ length (gives (cells nodes.now)) }
+    requires few { edges + length nodes.now < 2 ^ 32 }
+    ensures all { IfOk result (λ ports. length ports.items ≡ length nodes.now) }
+    ensures each { IfOk result (λ ports. NodesHave (HasPorts (cells nodes.now)) (cells nodes.now) ports.items) }
+{
+    let mut ports = Vec::new(alloc);
+    for node in 0..nodes.len() {
+        ports.push(ports_of_node(alloc, &nodes[node], (edges + node) as u32)?)?;
+    }
+    Ok(ports)
+}
+
+/// The ports of a node, whose edge from outside or to the outside is this one where it is an end.
+fn ports_of_node(alloc: Global, node: &Node, outer: u32) -> Result<Ports, Memory>
+    ensures ins { IfOk result (λ own. own.ins.items ≡ (if is_source_lem node.now.kind then outer ∷ [] else node.now.ins.items)) }
+    ensures outs { IfOk result (λ own. own.outs.items ≡ (if is_sink_lem node.now.kind then outer ∷ [] else node.now.outs.items)) }
+    ensures reads { IfOk result (λ own. own.reads ≡ is_source_lem node.now.kind) }
+    ensures writes { IfOk result (λ own. own.writes ≡ is_sink_lem node.now.kind) }
+{
+    let reads = is_source(&node.kind);
+    let writes = is_sink(&node.kind);
+    let ins = edges_of(alloc, reads, node.ins.as_slice(), outer)?;
+    let outs = edges_of(alloc, writes, node.outs.as_slice(), outer)?;
+    Ok(Ports {
+        ins,
+        outs,
+        reads,
+        writes,
+    })
+}
+
+/// The edges on one side of a node: at an end its outer edge, and else its own.
+fn edges_of(alloc: Global, is_end: bool, own: &[u32], outer: u32) -> Result<Vec<u32>, Memory>
+    ensures { IfOk result (λ edges. edges.items ≡ (if is_end then outer ∷ [] else own.now)) }
+{
+    if is_end {
+        Ok(Vec::from_slice(alloc, &[outer])?)
+    } else {
+        Ok(Vec::from_slice(alloc, own)?)
+    }
+}
+
+/// Whether the node is a source.
+fn is_source(kind: &NodeKind) -> bool
+    ensures { result ≡ is_source_lem kind.now }
+{
+    match kind {
+        NodeKind::Source(_) => true,
+        _ => false,
+    }
+}
+
+/// Whether the node is a sink.
+fn is_sink(kind: &NodeKind) -> bool
+    ensures { result ≡ is_sink_lem kind.now }
+{
+    match kind {
+        NodeKind::Sink(_) => true,
+        _ => false,
+    }
+}
+
+/// The machines of all nodes, at their beginning.
+fn machines_of(alloc: Global, nodes: &[Node]) -> Result<Vec<NodeMachine>, Memory>
+    requires ports { list_all has_its_ports (cells nodes.now) ≡ true }
+    requires inputs { list_all (λ cell. reads_one_input cell.kind) (cells nodes.now) ≡ true }
+    requires kinds { are_run (cells nodes.now) ≡ true }
+    ensures all { IfOk result (λ machines. length machines.items ≡ length nodes.now) }
+    ensures each { IfOk result (λ machines. NodesHave (λ node cell machine. BeginsAs (record {
+      takes = ⟦<NodeMachine as Machine>⟧.takes machine;
+      puts = ⟦<NodeMachine as Machine>⟧.puts machine;
+      broken = ⟦<NodeMachine as Machine>⟧.broken machine;
+      due = ⟦<NodeMachine as Machine>⟧.due machine;
+      selects = ⟦<NodeMachine as Machine>⟧.selects machine;
+    }) cell) (cells nodes.now) machines.items) }
+{
+    let mut machines = Vec::new(alloc);
+    for node in 0..nodes.len() {
+        machines.push(machine_of(alloc, &nodes[node])?)?;
+    }
+    Ok(machines)
+}
+
+/// The machine of a node, at its beginning.
+fn machine_of(alloc: Global, node: &Node) -> Result<NodeMachine, Memory>
+    requires ports { has_its_ports (cell node.now) ≡ true }
+    requires inputs { reads_one_input node.now.kind ≡ true }
+    requires kind { is_run node.now.kind ≡ true }
+    ensures { IfOk result (λ machine. BeginsAs (record {
+      takes = ⟦<NodeMachine as Machine>⟧.takes machine;
+      puts = ⟦<NodeMachine as Machine>⟧.puts machine;
+      broken = ⟦<NodeMachine as Machine>⟧.broken machine;
+      due = ⟦<NodeMachine as Machine>⟧.due machine;
+      selects = ⟦<NodeMachine as Machine>⟧.selects machine;
+    }) (cell node.now)) }
+{
+    let ins = port_count(node.ins.as_slice())?;
+    let outs = port_count(node.outs.as_slice())?;
+    node_machine(alloc, &node.kind, ins, outs)
+}
+
+/// The number of a node's edges on one side.
+fn port_count(edges: &[u32]) -> Result<u32, Memory>
+    ensures { IfOk result (λ count. count ≡ length edges.now) }
+{
+    if edges.len() > u32::MAX as usize {
+        return Err(Memory);
+    }
+    Ok(edges.len() as u32)
+}
+
+/// So many wires on which nothing waits, those into nodes of many ins without a bound.
+fn wires_of(alloc: Global, nodes: &[Node], count: usize) -> Result<Vec<Wire>, Memory>
+    ensures all { IfOk result (λ wires. length wires.items ≡ count) }
+    ensures none { IfOk result (λ wires. (edge : ℕ) → waiting_on wires.items edge ≡ []) }
+{
+    let mut wires = bounded_wires(alloc, count)?;
+    for node in nodes {
+        if node.ins.len() > 1 {
+            lift_bounds(wires.as_mut_slice(), node.ins.as_slice());
+        }
+    }
+    Ok(wires)
+}
+
+/// So many wires on which nothing waits, each with a bound.
+fn bounded_wires(alloc: Global, count: usize) -> Result<Vec<Wire>, Memory>
+    ensures all { IfOk result (λ wires. length wires.items ≡ count) }
+    ensures none { IfOk result (λ wires. (edge : ℕ) → waiting_on wires.items edge ≡ []) }
+{
+    let mut wires = Vec::new(alloc);
+    for _ in 0..count {
+        wires.push(Wire::new(alloc, ROOM))?;
+    }
+    Ok(wires)
+}
+
+/// Takes the bound from the wires of these edges.
+fn lift_bounds(wires: &mut [Wire], edges: &[u32])
+    ensures { wires.new ≡ wires.old }
+{
+    for edge in edges {
+        lift_bound(wires, *edge);
+    }
+}
+
+/// Takes the bound from the wire of an edge.
+fn lift_bound(wires: &mut [Wire], edge: u32)
+    ensures { wires.new ≡ wires.old }
+{
+    if (edge as usize) < wires.len() {
+        wires[edge as usize].lift_bound();
+    }
+}

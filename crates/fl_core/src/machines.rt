@@ -1,0 +1,125 @@
+//! The machine of any node.
+ghost use Rattle.std.specs.Prelude.{◌≡◌, true, false, IfOk};
+ghost use Rattle.fl_graph.specs.Kinds.{may_have, reads_one_input};
+ghost use Rattle.fl_classes.specs.Nodes.{Begins};
+ghost use Rattle.fl_core.specs.Kinds.{is_run, run_kind, run_ins, run_outs};
+
+use fl_graph::{Act, Machine, NodeKind, Piece};
+use fl_joints::{Joint, joint};
+use fl_machines::{UtilMachine, util_machine};
+use ps_lines::Memory;
+use std::alloc::Global;
+
+/// The machine that runs a node.
+#[derive(Drop)]
+pub enum NodeMachine {
+    /// That of a node which runs a utility.
+    Util(UtilMachine),
+    /// That of a node which joins, splits, or hands its input on.
+    Joint(Joint),
+}
+
+/// The machine of a node of this kind with so many ins and outs, at its beginning.
+///
+/// A source and a sink hand on what comes: that of a source from outside, and that of a sink to the outside.
+pub fn node_machine(
+    alloc: Global,
+    kind: &NodeKind,
+    ins: u32,
+    outs: u32,
+) -> Result<NodeMachine, Memory>
+    requires known { is_run kind.now ≡ true }
+    requires ports { may_have kind.now ins outs ≡ true }
+    requires inputs { reads_one_input kind.now ≡ true }
+    ensures { IfOk result (λ machine. Begins (run_kind kind.now) (run_ins kind.now ins) (run_outs kind.now outs)
+        (⟦<NodeMachine as Machine>⟧.takes machine) (⟦<NodeMachine as Machine>⟧.puts machine)
+        (⟦<NodeMachine as Machine>⟧.broken machine) (⟦<NodeMachine as Machine>⟧.due machine) (⟦<NodeMachine as Machine>⟧.selects machine)) }
+{
+    match kind {
+        NodeKind::Source(_) | NodeKind::Sink(_) => hand_on(alloc),
+        NodeKind::Map(_) | NodeKind::Whole(_) | NodeKind::Finish(_) => {
+            match util_machine(alloc, kind, ins, outs) {
+                Ok(machine) => Ok(NodeMachine::Util(machine)),
+                Err(memory) => Err(memory),
+            }
+        }
+        _ => match joint(alloc, kind, ins, outs) {
+            Ok(joint) => Ok(NodeMachine::Joint(joint)),
+            Err(memory) => Err(memory),
+        },
+    }
+}
+
+/// The machine that hands on what comes.
+fn hand_on(alloc: Global) -> Result<NodeMachine, Memory>
+    ensures { IfOk result (λ machine. Begins (NodeKind.Cat false) 1 1
+        (⟦<NodeMachine as Machine>⟧.takes machine) (⟦<NodeMachine as Machine>⟧.puts machine)
+        (⟦<NodeMachine as Machine>⟧.broken machine) (⟦<NodeMachine as Machine>⟧.due machine) (⟦<NodeMachine as Machine>⟧.selects machine)) }
+{
+    match joint(alloc, &NodeKind::Cat { close: false }, 1, 1) {
+        Ok(joint) => Ok(NodeMachine::Joint(joint)),
+        Err(memory) => Err(memory),
+    }
+}
+
+impl Machine for NodeMachine {
+    ghost use Rattle.fl_core.specs.declared.machines.NodeMachine.TheVariants as variant;
+
+    ghost act = { λ node. elim node [
+      | variant.Util machine ↦ ⟦<UtilMachine as Machine>⟧.act machine
+      | variant.Joint machine ↦ ⟦<Joint as Machine>⟧.act machine
+    ] };
+
+    ghost takes = { λ node port. elim node [
+      | variant.Util machine ↦ ⟦<UtilMachine as Machine>⟧.takes machine port
+      | variant.Joint machine ↦ ⟦<Joint as Machine>⟧.takes machine port
+    ] };
+
+    ghost puts = { λ node port. elim node [
+      | variant.Util machine ↦ ⟦<UtilMachine as Machine>⟧.puts machine port
+      | variant.Joint machine ↦ ⟦<Joint as Machine>⟧.puts machine port
+    ] };
+
+    ghost broken = { λ node. elim node [
+      | variant.Util machine ↦ ⟦<UtilMachine as Machine>⟧.broken machine
+      | variant.Joint machine ↦ ⟦<Joint as Machine>⟧.broken machine
+    ] };
+
+    ghost due = { λ node texts port. elim node [
+      | variant.Util machine ↦ ⟦<UtilMachine as Machine>⟧.due machine texts port
+      | variant.Joint machine ↦ ⟦<Joint as Machine>⟧.due machine texts port
+    ] };
+
+    ghost selects = { λ node texts. elim node [
+      | variant.Util machine ↦ ⟦<UtilMachine as Machine>⟧.selects machine texts
+      | variant.Joint machine ↦ ⟦<Joint as Machine>⟧.selects machine texts
+    ] };
+
+    fn next(&self) -> Act {
+        match self {
+            NodeMachine::Util(machine) => machine.next(),
+            NodeMachine::Joint(machine) => machine.next(),
+        }
+    }
+
+    fn take(&mut self, piece: Piece) -> Result<(), Memory> {
+        match self {
+            NodeMachine::Util(machine) => machine.take(piece),
+            NodeMachine::Joint(machine) => machine.take(piece),
+        }
+    }
+
+    fn put(&mut self) -> Result<Piece, Memory> {
+        match self {
+            NodeMachine::Util(machine) => machine.put(),
+            NodeMachine::Joint(machine) => machine.put(),
+        }
+    }
+
+    fn selected(&self) -> bool {
+        match self {
+            NodeMachine::Util(machine) => machine.selected(),
+            NodeMachine::Joint(machine) => machine.selected(),
+        }
+    }
+}

@@ -1,0 +1,288 @@
+//! Networks at work.
+ghost use Rattle.std.specs.Prelude.{◌≡◌, ◌<◌, ◌≤◌, ◌^◌, length, slice_get, get_or, true, false, Ok, Some, IfOk, OnOk, OnErr};
+ghost use Rattle.fl_graph.specs.declared.pieces.TheConstants.{MAX_PIECE};
+ghost use Rattle.fl_core.specs.Causes.{Causes};
+ghost use Rattle.fl_core.specs.Points.{Advances, HaltsFrom, IsUnderWay};
+ghost use Rattle.fl_core.specs.Runs.{Goes, Halts, HasEnds, Leads};
+
+use crate::ends::NodeEnds;
+use crate::outside::{Halt, read_piece, write_piece};
+use crate::steps::{Progress, step};
+use crate::wires::Wire;
+use fl_graph::{MAX_PIECE, Machine};
+use ps_lines::Memory;
+use std::alloc::Global;
+
+/// The most steps that a node makes before the next has its turn.
+const STEPS_OF_A_TURN: u32 = 1024;
+
+/// The edges of a node, in the order of its ports.
+///
+/// A node that reads has one in, on which the network puts what comes from outside, and one that writes has one out.
+#[derive(Drop)]
+pub struct Ports {
+    pub ins: Vec<u32>,
+    pub outs: Vec<u32>,
+    pub reads: bool,
+    pub writes: bool,
+}
+
+/// A graph's machines, and the pieces that wait on its edges.
+#[derive(Drop)]
+pub struct Net<M: Machine> {
+    pub ports: Vec<Ports>,
+    pub machines: Vec<M>,
+    pub wires: Vec<Wire>,
+}
+
+impl<M: Machine> Net<M> {
+    ghost use Rattle.std.specs.Prelude.{ℕ, List, Option};
+    ghost use Rattle.fl_graph.specs.Runs.{State};
+    ghost use Rattle.fl_core.specs.Steps.{ArePlain, Fits, Starves};
+    ghost use Rattle.fl_core.specs.declared.nets.Ports.{Ports as Port};
+
+    /// Does what the machine of a node does next, where it can. On Memory no step follows.
+    pub fn step(&mut self, node: u32) -> Result<Progress, Memory>
+        requires node { (node < length self.old.machines.items) × (node < length self.old.ports.items) }
+        requires whole { (machine : M) → slice_get self.old.machines.items node ≡ Some machine → M.broken machine ≡ false }
+        requires plain { ArePlain self.old.wires.items }
+        requires fits { let state : M → State = λ machine. record { takes = M.takes machine; puts = M.puts machine; broken = M.broken machine; due = M.due machine; selects = M.selects machine } in
+            (machine : M) (own : Port) → slice_get self.old.machines.items node ≡ Some machine → slice_get self.old.ports.items node ≡ Some own →
+            Fits (state machine) own.ins.items own.outs.items (length self.old.wires.items) }
+        ensures leads { let state : M → State = λ machine. record { takes = M.takes machine; puts = M.puts machine; broken = M.broken machine; due = M.due machine; selects = M.selects machine } in
+            IfOk result (λ _. (left taken : ℕ → Option (List ℕ)) →
+            Leads state self.old.ports.items self.old.machines.items self.new.machines.items self.old.wires.items self.new.wires.items left left taken taken) }
+        ensures starves { let state : M → State = λ machine. record { takes = M.takes machine; puts = M.puts machine; broken = M.broken machine; due = M.due machine; selects = M.selects machine } in
+            result ≡ Ok Progress.Starves → (machine : M) (own : Port) → slice_get self.new.machines.items node ≡ Some machine → slice_get self.new.ports.items node ≡ Some own →
+            Starves (state machine) own.ins.items self.new.wires.items }
+        ensures ports { self.new.ports ≡ self.old.ports }
+        ensures machines { length self.new.machines.items ≡ length self.old.machines.items }
+        ensures wires { length self.new.wires.items ≡ length self.old.wires.items }
+    {
+        let ports = &self.ports[node as usize];
+        step(
+            &mut self.machines[node as usize],
+            ports.ins.as_slice(),
+            ports.outs.as_slice(),
+            self.wires.as_mut_slice(),
+        )
+    }
+
+    /// Reads a piece for a node whose in comes from outside, and puts it there. On a halt the piece is dropped.
+    fn read<E: NodeEnds>(
+        &mut self,
+        alloc: Global,
+        node: u32,
+        ends: &mut E,
+        buffer: &mut [u8],
+    ) -> Result<(), Halt>
+        requires node { node < length self.old.ports.items }
+        requires port { (own : Port) → slice_get self.old.ports.items node ≡ Some own → (0 < length own.ins.items) × (get_or own.ins.items 0 0 < length self.old.wires.items) }
+        requires reads { E.reads ends.old node ≡ true }
+        requires room { (0 < length buffer.old) × (length buffer.old ≤ MAX_PIECE) }
+        ensures leads { let state : M → State = λ machine. record { takes = M.takes machine; puts = M.puts machine; broken = M.broken machine; due = M.due machine; selects = M.selects machine } in
+            OnOk result ((own : Port) (machine : M) → slice_get self.old.ports.items node ≡ Some own → slice_get self.old.machines.items node ≡ Some machine → own.reads ≡ true →
+            Starves (state machine) own.ins.items self.old.wires.items →
+            Leads state self.old.ports.items self.old.machines.items self.new.machines.items self.old.wires.items self.new.wires.items
+            (E.left ends.old) (E.left ends.new) (E.taken ends.old) (E.taken ends.new)) }
+        ensures halts { let state : M → State = λ machine. record { takes = M.takes machine; puts = M.puts machine; broken = M.broken machine; due = M.due machine; selects = M.selects machine } in
+            OnErr result (Halts state self.old.ports.items self.old.machines.items self.old.wires.items (E.left ends.old) (E.taken ends.old) (E.taken ends.new)) }
+        ensures ports { self.new.ports ≡ self.old.ports }
+        ensures machines { self.new.machines ≡ self.old.machines }
+        ensures wires { length self.new.wires.items ≡ length self.old.wires.items }
+        ensures reads_same { (other : ℕ) → E.reads ends.new other ≡ E.reads ends.old other }
+        ensures writes_same { (other : ℕ) → E.writes ends.new other ≡ E.writes ends.old other }
+        ensures borrows { E.borrows ends.new ≡ E.borrows ends.old }
+        ensures cause { Causes (E.faults ends.old) (E.faults ends.new) result }
+    {
+        let edge = self.ports[node as usize].ins[0];
+        let wire = &mut self.wires[edge as usize];
+        let piece = match read_piece(alloc, node, ends, buffer) {
+            Ok(piece) => piece,
+            Err(halt) => return Err(halt),
+        };
+        match wire.push(piece) {
+            Ok(()) => Ok(()),
+            Err(_refused) => Err(Halt::Memory),
+        }
+    }
+
+    /// Writes the piece that waits for the outside at a node whose out goes there, where one waits.
+    fn write<E: NodeEnds>(&mut self, node: u32, ends: &mut E) -> Result<(), Halt>
+        requires node { node < length self.old.ports.items }
+        requires port { (own : Port) → slice_get self.old.ports.items node ≡ Some own → (0 < length own.outs.items) × (get_or own.outs.items 0 0 < length self.old.wires.items) }
+        requires writes { E.writes ends.old node ≡ true }
+        ensures leads { let state : M → State = λ machine. record { takes = M.takes machine; puts = M.puts machine; broken = M.broken machine; due = M.due machine; selects = M.selects machine } in
+            OnOk result ((own : Port) → slice_get self.old.ports.items node ≡ Some own → own.writes ≡ true →
+            Leads state self.old.ports.items self.old.machines.items self.new.machines.items self.old.wires.items self.new.wires.items
+            (E.left ends.old) (E.left ends.new) (E.taken ends.old) (E.taken ends.new)) }
+        ensures halts { let state : M → State = λ machine. record { takes = M.takes machine; puts = M.puts machine; broken = M.broken machine; due = M.due machine; selects = M.selects machine } in
+            OnErr result ((own : Port) → slice_get self.old.ports.items node ≡ Some own → own.writes ≡ true →
+            Halts state self.old.ports.items self.old.machines.items self.old.wires.items (E.left ends.old) (E.taken ends.old) (E.taken ends.new)) }
+        ensures ports { self.new.ports ≡ self.old.ports }
+        ensures machines { self.new.machines ≡ self.old.machines }
+        ensures wires { length self.new.wires.items ≡ length self.old.wires.items }
+        ensures reads_same { (other : ℕ) → E.reads ends.new other ≡ E.reads ends.old other }
+        ensures writes_same { (other : ℕ) → E.writes ends.new other ≡ E.writes ends.old other }
+        ensures borrows { E.borrows ends.new ≡ E.borrows ends.old }
+        ensures cause { Causes (E.faults ends.old) (E.faults ends.new) result }
+    {
+        let edge = self.ports[node as usize].outs[0];
+        let Some(piece) = self.wires[edge as usize].pop() else {
+            return Ok(());
+        };
+        write_piece(node, ends, &piece)
+    }
+
+    /// Does one step of a node, and what it asks of the outside; answers whether a piece has moved.
+    pub fn turn<E: NodeEnds>(
+        &mut self,
+        alloc: Global,
+        node: u32,
+        ends: &mut E,
+        buffer: &mut [u8],
+    ) -> Result<bool, Halt>
+        requires node { (node < length self.old.machines.items) × (node < length self.old.ports.items) }
+        requires goes { let state : M → State = λ machine. record { takes = M.takes machine; puts = M.puts machine; broken = M.broken machine; due = M.due machine; selects = M.selects machine } in
+            Goes state self.old.ports.items self.old.machines.items self.old.wires.items (E.left ends.old) (E.taken ends.old) }
+        requires ends { HasEnds self.old.ports.items (E.reads ends.old) (E.writes ends.old) }
+        requires room { (0 < length buffer.old) × (length buffer.old ≤ MAX_PIECE) }
+        ensures leads { let state : M → State = λ machine. record { takes = M.takes machine; puts = M.puts machine; broken = M.broken machine; due = M.due machine; selects = M.selects machine } in
+            OnOk result (Leads state self.old.ports.items self.old.machines.items self.new.machines.items self.old.wires.items self.new.wires.items
+            (E.left ends.old) (E.left ends.new) (E.taken ends.old) (E.taken ends.new)) }
+        ensures halts { let state : M → State = λ machine. record { takes = M.takes machine; puts = M.puts machine; broken = M.broken machine; due = M.due machine; selects = M.selects machine } in
+            OnErr result (Halts state self.old.ports.items self.old.machines.items self.old.wires.items (E.left ends.old) (E.taken ends.old) (E.taken ends.new)) }
+        ensures ports { self.new.ports ≡ self.old.ports }
+        ensures machines { length self.new.machines.items ≡ length self.old.machines.items }
+        ensures wires { length self.new.wires.items ≡ length self.old.wires.items }
+        ensures buffer { length buffer.new ≡ length buffer.old }
+        ensures reads_same { (other : ℕ) → E.reads ends.new other ≡ E.reads ends.old other }
+        ensures writes_same { (other : ℕ) → E.writes ends.new other ≡ E.writes ends.old other }
+        ensures borrows { E.borrows ends.new ≡ E.borrows ends.old }
+        ensures cause { Causes (E.faults ends.old) (E.faults ends.new) result }
+    {
+        let progress = match self.step(node) {
+            Ok(progress) => progress,
+            Err(_refused) => return Err(Halt::Memory),
+        };
+        match progress {
+            Progress::Starves if self.reads(node) => match self.read(alloc, node, ends, buffer) {
+                Ok(()) => Ok(true),
+                Err(halt) => Err(halt),
+            },
+            Progress::Gave if self.writes(node) => match self.write(node, ends) {
+                Ok(()) => Ok(true),
+                Err(halt) => Err(halt),
+            },
+            progress => Ok(progress.has_moved()),
+        }
+    }
+
+    /// Lets a node go on for so many steps at most, as long as it can; answers whether a piece has moved.
+    fn run_node<E: NodeEnds>(
+        &mut self,
+        alloc: Global,
+        node: u32,
+        ends: &mut E,
+        buffer: &mut [u8],
+    ) -> Result<bool, Halt>
+        requires node { node < length self.old.machines.items }
+        requires way { let state : M → State = λ machine. record { takes = M.takes machine; puts = M.puts machine; broken = M.broken machine; due = M.due machine; selects = M.selects machine } in
+            IsUnderWay state (record { ports = self.old.ports.items; machines = self.old.machines.items; wires = self.old.wires.items; left = E.left ends.old; taken = E.taken ends.old; reads = E.reads ends.old; writes = E.writes ends.old; faults = E.faults ends.old }) }
+        requires room { (0 < length buffer.old) × (length buffer.old ≤ MAX_PIECE) }
+        ensures ok { let state : M → State = λ machine. record { takes = M.takes machine; puts = M.puts machine; broken = M.broken machine; due = M.due machine; selects = M.selects machine } in
+            OnOk result (Advances state (record { ports = self.old.ports.items; machines = self.old.machines.items; wires = self.old.wires.items; left = E.left ends.old; taken = E.taken ends.old; reads = E.reads ends.old; writes = E.writes ends.old; faults = E.faults ends.old })
+            (record { ports = self.new.ports.items; machines = self.new.machines.items; wires = self.new.wires.items; left = E.left ends.new; taken = E.taken ends.new; reads = E.reads ends.new; writes = E.writes ends.new; faults = E.faults ends.new })) }
+        ensures err { let state : M → State = λ machine. record { takes = M.takes machine; puts = M.puts machine; broken = M.broken machine; due = M.due machine; selects = M.selects machine } in
+            OnErr result (HaltsFrom state (record { ports = self.old.ports.items; machines = self.old.machines.items; wires = self.old.wires.items; left = E.left ends.old; taken = E.taken ends.old; reads = E.reads ends.old; writes = E.writes ends.old; faults = E.faults ends.old }) (E.taken ends.new)) }
+        ensures buffer { length buffer.new ≡ length buffer.old }
+        ensures borrows { E.borrows ends.new ≡ E.borrows ends.old }
+        ensures cause { Causes (E.faults ends.old) (E.faults ends.new) result }
+    {
+        let mut moved = false;
+        for _ in 0..STEPS_OF_A_TURN {
+            match self.turn(alloc, node, ends, buffer) {
+                Ok(true) => moved = true,
+                Ok(false) => return Ok(moved),
+                Err(halt) => return Err(halt),
+            }
+        }
+        Ok(moved)
+    }
+
+    /// Gives each node its turn, in order; answers whether a piece has moved.
+    fn sweep<E: NodeEnds>(
+        &mut self,
+        alloc: Global,
+        ends: &mut E,
+        buffer: &mut [u8],
+    ) -> Result<bool, Halt>
+        requires few { length self.old.machines.items < 2 ^ 32 }
+        requires way { let state : M → State = λ machine. record { takes = M.takes machine; puts = M.puts machine; broken = M.broken machine; due = M.due machine; selects = M.selects machine } in
+            IsUnderWay state (record { ports = self.old.ports.items; machines = self.old.machines.items; wires = self.old.wires.items; left = E.left ends.old; taken = E.taken ends.old; reads = E.reads ends.old; writes = E.writes ends.old; faults = E.faults ends.old }) }
+        requires room { (0 < length buffer.old) × (length buffer.old ≤ MAX_PIECE) }
+        ensures ok { let state : M → State = λ machine. record { takes = M.takes machine; puts = M.puts machine; broken = M.broken machine; due = M.due machine; selects = M.selects machine } in
+            OnOk result (Advances state (record { ports = self.old.ports.items; machines = self.old.machines.items; wires = self.old.wires.items; left = E.left ends.old; taken = E.taken ends.old; reads = E.reads ends.old; writes = E.writes ends.old; faults = E.faults ends.old })
+            (record { ports = self.new.ports.items; machines = self.new.machines.items; wires = self.new.wires.items; left = E.left ends.new; taken = E.taken ends.new; reads = E.reads ends.new; writes = E.writes ends.new; faults = E.faults ends.new })) }
+        ensures err { let state : M → State = λ machine. record { takes = M.takes machine; puts = M.puts machine; broken = M.broken machine; due = M.due machine; selects = M.selects machine } in
+            OnErr result (HaltsFrom state (record { ports = self.old.ports.items; machines = self.old.machines.items; wires = self.old.wires.items; left = E.left ends.old; taken = E.taken ends.old; reads = E.reads ends.old; writes = E.writes ends.old; faults = E.faults ends.old }) (E.taken ends.new)) }
+        ensures buffer { length buffer.new ≡ length buffer.old }
+        ensures borrows { E.borrows ends.new ≡ E.borrows ends.old }
+        ensures cause { Causes (E.faults ends.old) (E.faults ends.new) result }
+    {
+        let mut moved = false;
+        for node in 0..self.machines.len() as u32 {
+            match self.run_node(alloc, node, ends, buffer) {
+                Ok(went_on) => moved |= went_on,
+                Err(halt) => return Err(halt),
+            }
+        }
+        Ok(moved)
+    }
+
+    /// Gives the nodes their turns until no piece moves any more.
+    pub fn run<E: NodeEnds>(
+        &mut self,
+        alloc: Global,
+        ends: &mut E,
+        buffer: &mut [u8],
+    ) -> Result<(), Halt>
+        requires few { length self.old.machines.items < 2 ^ 32 }
+        requires way { let state : M → State = λ machine. record { takes = M.takes machine; puts = M.puts machine; broken = M.broken machine; due = M.due machine; selects = M.selects machine } in
+            IsUnderWay state (record { ports = self.old.ports.items; machines = self.old.machines.items; wires = self.old.wires.items; left = E.left ends.old; taken = E.taken ends.old; reads = E.reads ends.old; writes = E.writes ends.old; faults = E.faults ends.old }) }
+        requires room { (0 < length buffer.old) × (length buffer.old ≤ MAX_PIECE) }
+        ensures ok { let state : M → State = λ machine. record { takes = M.takes machine; puts = M.puts machine; broken = M.broken machine; due = M.due machine; selects = M.selects machine } in
+            OnOk result (Advances state (record { ports = self.old.ports.items; machines = self.old.machines.items; wires = self.old.wires.items; left = E.left ends.old; taken = E.taken ends.old; reads = E.reads ends.old; writes = E.writes ends.old; faults = E.faults ends.old })
+            (record { ports = self.new.ports.items; machines = self.new.machines.items; wires = self.new.wires.items; left = E.left ends.new; taken = E.taken ends.new; reads = E.reads ends.new; writes = E.writes ends.new; faults = E.faults ends.new })) }
+        ensures err { let state : M → State = λ machine. record { takes = M.takes machine; puts = M.puts machine; broken = M.broken machine; due = M.due machine; selects = M.selects machine } in
+            OnErr result (HaltsFrom state (record { ports = self.old.ports.items; machines = self.old.machines.items; wires = self.old.wires.items; left = E.left ends.old; taken = E.taken ends.old; reads = E.reads ends.old; writes = E.writes ends.old; faults = E.faults ends.old }) (E.taken ends.new)) }
+        ensures buffer { length buffer.new ≡ length buffer.old }
+        ensures borrows { E.borrows ends.new ≡ E.borrows ends.old }
+        ensures cause { Causes (E.faults ends.old) (E.faults ends.new) result }
+    {
+        for _ in 0..u64::MAX {
+            match self.sweep(alloc, ends, buffer) {
+                Ok(true) => {}
+                Ok(false) => return Ok(()),
+                Err(halt) => return Err(halt),
+            }
+        }
+        Ok(())
+    }
+
+    /// Whether a node reads from outside.
+    fn reads(&self, node: u32) -> bool
+        requires { node < length self.now.ports.items }
+        ensures { (own : Port) → slice_get self.now.ports.items node ≡ Some own → result ≡ own.reads }
+    {
+        self.ports[node as usize].reads
+    }
+
+    /// Whether a node writes to the outside.
+    fn writes(&self, node: u32) -> bool
+        requires { node < length self.now.ports.items }
+        ensures { (own : Port) → slice_get self.now.ports.items node ≡ Some own → result ≡ own.writes }
+    {
+        self.ports[node as usize].writes
+    }
+}

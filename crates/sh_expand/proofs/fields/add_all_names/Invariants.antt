@@ -1,0 +1,18 @@
+use Rattle.std.proofs.Common.{◌≡◌, ◌++◌, ℕ, List, length, IfSome}
+use Rattle.ps_lines.specs.Texts.{texts_of}
+use Rattle.ps_world.specs.Files.{Files}
+use Rattle.sh_expand.specs.Splitting.{fields_of}
+use Rattle.sh_expand.specs.Fields.{AreNames, Appends}
+use Rattle.sh_expand.proofs.fields.add_all_names.Given as goal
+
+-- the names so far, and those of the fields that are left, are those of all
+abbrev pub invariant-loop-field : goal.invariant-loop-field
+invariant-loop-field g l = record {
+  state : g.T.Tree.state l.tree ≡ g.T.Tree.state l.fn.tree;
+  faults : g.T.Tree.faults l.tree ≡ g.T.Tree.faults l.fn.tree;
+  go : IfSome (g.T.Tree.state l.fn.tree).held (λ (files : Files). (others : List (List ℕ)) → AreNames files (g.T.Tree.state l.fn.tree).home (fields_of l.left) others
+      → Appends (λ (names : List (List ℕ)). AreNames files (g.T.Tree.state l.fn.tree).home (fields_of l.fn.fields) names) (texts_of l.fn.out.items) (texts_of l.out.items ++ others));
+}
+
+abbrev pub decreases-loop-field : goal.decreases-loop-field
+decreases-loop-field g l = length l.left

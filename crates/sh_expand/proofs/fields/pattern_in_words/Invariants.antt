@@ -1,0 +1,14 @@
+use Rattle.std.proofs.Common.{◌||◌, Bool, map, drop}
+use Rattle.sh_arith.specs.Variables.{Variables}
+use Rattle.sh_tree.specs.Views.{word_tree}
+use Rattle.sh_expand.specs.declared.faults.ExpandFault.{ExpandFault}
+use Rattle.sh_expand.specs.Given.{given_of}
+use Rattle.sh_expand.specs.Fields.{PatternIn, Stop}
+use Rattle.sh_expand.proofs.fields.pattern_in_words.Given as goal
+
+-- what the words that are left tell is told of all
+abbrev pub invariant-loop-word : goal.invariant-loop-word
+invariant-loop-word l = record {
+  go : (more : Bool) (end : Variables) → PatternIn (given_of l.fn.known) l.env (map word_tree (drop l.word-index l.fn.words)) more end → PatternIn (given_of l.fn.known) l.fn.env (map word_tree l.fn.words) (l.found || more) end;
+  stop : (shown : ExpandFault) (end : Variables) → Stop (given_of l.fn.known) l.env (map word_tree (drop l.word-index l.fn.words)) shown end → Stop (given_of l.fn.known) l.fn.env (map word_tree l.fn.words) shown end;
+}

@@ -1,0 +1,12 @@
+pub mod Faults
+pub mod Marks
+pub mod Splitting
+pub mod Given
+pub mod Parameters
+pub mod Trims
+pub mod Values
+pub mod Views
+pub mod Frames
+pub mod Fields
+pub mod MarkedTexts
+pub mod Laws

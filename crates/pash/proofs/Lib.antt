@@ -2,3 +2,10 @@ pub mod FormLemmas
 pub mod CopyLemmas
 pub mod CatLemmas
 pub mod RunLemmas
+pub mod FirstNetLemmas
+pub mod FirstValidLemmas
+pub mod FirstFlowLemmas
+pub mod FirstGraphLemmas
+pub mod FirstMakingLemmas
+pub mod FirstEndsLemmas
+pub mod CountingLemmas

@@ -1,10 +1,10 @@
--- The form of script that runs so far (own): `cat`, then 1 to 256 times one space and a plain word, then at most one newline, with at most
--- 1,048,576 bytes in all.
+-- Scripts of one command (own): `cat`, then 1 to 256 times one space and a plain word, then at most one newline, with at most 1,048,576
+-- bytes in all.
 use Rattle.std.specs.Prelude.{ℕ, ◌-◌, List, [], ◌∷◌, Bool, ◌&&◌, ◌||◌, Option, Some, None, if◌then◌else◌, nat_eq, nat_lt, nat_le, length, take, drop, codes}
 use Rattle.std.specs.Char.{is_ascii_alphanumeric}
-use Rattle.std.specs.List.{list_all, slice_split}
+use Rattle.std.specs.List.{list_all}
 use Rattle.std.specs.Str.{bytes_eq}
-use Rattle.pash.specs.declared.cat_form.TheConstants.{MOST_BYTES, MOST_OPERANDS}
+use Rattle.pash.specs.declared.cat_form.TheConstants.{MOST_OPERANDS}
 
 -- letters, digits, `_`, `.` and `/`
 unfoldable pub is_plain_byte : ℕ → Bool
@@ -29,7 +29,3 @@ are_operands words = nat_lt 0 (length words) && (nat_le (length words) MOST_OPER
 abbrev pub operands_from : List (List ℕ) → Option (List (List ℕ))
 operands_from [] = None
 operands_from (name ∷ words) = if bytes_eq name (codes "cat") && are_operands words then Some words else None
-
--- the operands of a script of the form, and None for any other text
-abbrev pub operands_of : List ℕ → Option (List (List ℕ))
-operands_of text = if nat_le (length text) MOST_BYTES then operands_from (slice_split is_space (without_newline text)) else None

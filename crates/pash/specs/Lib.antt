@@ -1,6 +1,10 @@
 pub mod Words
 pub mod CatForm
+pub mod Forms
 pub mod Answers
 pub mod Cat
 pub mod Meaning
 pub mod Runs
+pub mod Pipeline
+pub mod FirstGraph
+pub mod FirstRuns

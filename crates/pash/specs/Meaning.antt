@@ -6,9 +6,10 @@ use Rattle.ps_world.specs.Places.{resolve}
 use Rattle.ps_world.specs.declared.Place.{Place}
 use Rattle.ps_world.specs.declared.Place.TheVariants as place
 use Rattle.pash.specs.Words.{RunCommand, command_of}
-use Rattle.pash.specs.CatForm.{operands_of}
+use Rattle.pash.specs.Forms.{Form, Cat, Count, form_of}
+use Rattle.pash.specs.Pipeline.{pipeline_output}
 use Rattle.pash.specs.Answers.{diagnostic, no_such_file, usage_line, not_built_line}
-use Rattle.pash.specs.Cat.{cat_output, cat_errors, cat_status}
+use Rattle.pash.specs.Cat.{operand_output, operand_errors, cat_output, cat_errors, cat_status}
 use Rattle.pash.specs.declared.answers.Why.{Why}
 use Rattle.pash.specs.declared.answers.Why.TheVariants as why
 use Rattle.pash.specs.declared.answers.Refusal.TheVariants as refusal
@@ -42,19 +43,26 @@ file_of (place.File path) = Some path
 file_of place.Null = None
 
 module _ (files : Files) (home : Components) where
-  -- a script of the form runs cat over its operands
-  abbrev pub reply_of_operands : Option (List (List ℕ)) → Reply
-  reply_of_operands None = not_built
-  reply_of_operands (Some operands) =
+  -- a script of a form is run; the status of a pipeline is that of its last command (XCU 2.9.2), which here reads all that comes
+  abbrev pub reply_of_form : Option Form → Reply
+  reply_of_form None = not_built
+  reply_of_form (Some (Cat operands)) =
       record {
         output = cat_output files home operands;
         errors = cat_errors files home operands;
         status = cat_status files home operands;
         answer = why.Finished;
       }
+  reply_of_form (Some (Count file word)) =
+      record {
+        output = pipeline_output word (operand_output files home file);
+        errors = operand_errors files home file;
+        status = 0;
+        answer = why.Finished;
+      }
 
   abbrev pub reply_of_text : List ℕ → Reply
-  reply_of_text text = reply_of_operands (operands_of text)
+  reply_of_text text = reply_of_form (form_of text)
 
   -- a script is run where its path names a file
   abbrev pub reply_of_file : List ℕ → Option Components → Reply

@@ -1,12 +1,12 @@
 -- The words of the command line (own): `run W SCRIPT ARG*`.
-use Rattle.std.specs.Prelude.{ℕ, String, List, [], ◌∷◌, Bool, false, Option, Some, None, if◌then◌else◌, nat_eq, nat_le, codes, map}
+use Rattle.std.specs.Prelude.{ℕ, String, List, [], ◌∷◌, Bool, false, ◌&&◌, Option, Some, None, if◌then◌else◌, nat_eq, nat_le, codes, map}
 use Rattle.std.specs.Global.{Global}
 use Rattle.std.specs.Option.{option_map, option_and_then}
 use Rattle.std.specs.Str.{bytes_eq}
 use Rattle.std.specs.String.{string_bytes}
 use Rattle.ps_lines.specs.Numbers.{number_of}
-use Rattle.pash.specs.declared.words.RunCommand.{RunCommand as ReadCommand}
-use Rattle.pash.specs.declared.words.TheConstants.{MOST_WIDTH}
+use Rattle.pash.specs.declared.command.RunCommand.{RunCommand as ReadCommand}
+use Rattle.pash.specs.declared.command.TheConstants.{MOST_WIDTH}
 
 -- a command to run a script, at a width
 pub record RunCommand : Type 0 where
@@ -24,7 +24,7 @@ begins_with_zero (byte ∷ bytes) = nat_eq byte 48
 
 -- a number that is a width
 abbrev pub as_width : ℕ → Option ℕ
-as_width number = if nat_le number MOST_WIDTH then Some number else None
+as_width number = if nat_le 1 number && nat_le number MOST_WIDTH then Some number else None
 
 -- a width is a number from 1 to 16 in decimal, without a sign or a leading zero
 abbrev pub width_of : List ℕ → Option ℕ

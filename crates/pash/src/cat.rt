@@ -1,5 +1,5 @@
 //! cat with operands (XCU cat).
-ghost use Rattle.std.specs.Prelude.{◌≡◌, ◌<◌, false, length, map, IfOk, IfSome, OnOk, OnErr};
+ghost use Rattle.std.specs.Prelude.{◌≡◌, ◌<◌, ℕ, List, [], false, length, map, IfOk, IfSome, IfNone, OnOk, OnErr};
 ghost use Rattle.std.specs.List.{list_all};
 ghost use Rattle.ps_world.specs.Files.{NoWriterOut};
 ghost use Rattle.ps_world.specs.Places.{NamesFileIn};
@@ -170,5 +170,31 @@ fn skip<E: Sink>(alloc: Global, err: &mut E, word: &[u8], reason: &[u8]) -> Resu
     match tell(alloc, err, NAME, word, reason) {
         Ok(()) => Ok(false),
         Err(stop) => Err(stop),
+    }
+}
+
+/// Tells why what stands at a place isn't read, where it can't be.
+pub fn complain<E: Sink>(alloc: Global, err: &mut E, word: &[u8], place: &Place) -> Result<(), Stop>
+    ensures ok { OnOk result (E.taken err.new ≡ then_bytes (E.taken err.old) (complaint word.now place.now)) }
+    ensures part { OnErr result (GrewByPrefix (E.taken err.old) (E.taken err.new) (complaint word.now place.now)) }
+    ensures cause { Stops
+        (record { out = 0; err = E.faults err.old; tree = 0 })
+        (record { out = 0; err = E.faults err.new; tree = 0 }) result }
+{
+    match complaint_at(place) {
+        Some(reason) => tell(alloc, err, NAME, word, reason),
+        None => Ok(()),
+    }
+}
+
+/// Why what stands at a place can't be read, where it can't be.
+fn complaint_at(place: &Place) -> Option<&'static [u8]>
+    ensures some { IfSome result (λ reason. (word : List ℕ) → complaint word place.now ≡ diagnostic NAME.now word reason.now) }
+    ensures none { IfNone result ((word : List ℕ) → complaint word place.now ≡ []) }
+{
+    match place {
+        Place::Missing | Place::Makeable(_) => Some(NO_SUCH_FILE),
+        Place::Dir(_) => Some(IS_A_DIRECTORY),
+        Place::File(_) | Place::Null => None,
     }
 }

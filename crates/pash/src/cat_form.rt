@@ -1,8 +1,9 @@
-//! The form of script that runs so far: `cat` and its operands.
+//! The words of a script, and the form of `cat` and its operands.
 ghost use Rattle.std.specs.Prelude.{◌≡◌, List, ℕ, map, IfOk, count_by};
 ghost use Rattle.std.specs.List.{list_all, slice_split};
 ghost use Rattle.std.specs.Option.{option_map};
-ghost use Rattle.pash.specs.CatForm.{is_plain_byte, is_plain_word, is_space, without_newline, are_operands, operands_from, operands_of};
+ghost use Rattle.pash.specs.CatForm.{is_plain_byte, is_plain_word, is_space, without_newline, are_operands, operands_from};
+ghost use Rattle.pash.specs.Forms.{form_from, form_of};
 
 use std::alloc::{AllocError, Global};
 
@@ -13,11 +14,11 @@ pub const MOST_BYTES: usize = 1_048_576;
 pub const MOST_OPERANDS: usize = 256;
 
 /// The command's name.
-const CAT: &[u8] = b"cat";
+pub const CAT: &[u8] = b"cat";
 
 /// The words of a script, which stand between its spaces; none where the text is too long for the form, or has too many.
 pub fn script_words(alloc: Global, text: &[u8]) -> Result<Vec<&[u8]>, AllocError>
-    ensures { IfOk result (λ words. operands_from (map (λ word. word.now) words.items) ≡ operands_of text.now) }
+    ensures { IfOk result (λ words. form_from (map (λ word. word.now) words.items) ≡ form_of text.now) }
 {
     if text.len() > MOST_BYTES {
         return Ok(Vec::new(alloc));
@@ -83,7 +84,7 @@ fn are_plain(words: &[&[u8]]) -> bool
 }
 
 /// Whether a word is one or more letters, digits, `_`, `.` and `/`.
-fn is_plain(word: &[u8]) -> bool
+pub fn is_plain(word: &[u8]) -> bool
     ensures { result ≡ is_plain_word word.now }
 {
     !word.is_empty() && has_plain_bytes_alone(word)

@@ -7,7 +7,13 @@
 mod answers;
 mod cat;
 mod cat_form;
+mod command;
 mod copying;
+mod count;
+mod counting;
+mod counting_graphs;
+mod first_graph;
+mod forms;
 mod lines;
 mod run;
 #[cfg(test)]

@@ -1,17 +1,20 @@
 //! A run of a script, from the words of the command line to its answer.
-ghost use Rattle.std.specs.Prelude.{◌≡◌, ℕ, List, [], Option, None, map, IfOk, IfSome, IfNone, OnErr, MatchOption, MatchResult};
+ghost use Rattle.std.specs.Prelude.{◌≡◌, ◌≤◌, ℕ, List, [], Option, Some, None, map, IfOk, IfSome, IfNone, OnErr, MatchOption, MatchResult};
 ghost use Rattle.ps_world.specs.Files.{NoWriterOut, IsFileAt, bytes_at};
 ghost use Rattle.ps_world.specs.Places.{NamesFileIn};
 ghost use Rattle.ps_world.specs.TreeState.{OnlyLent};
 ghost use Rattle.pash.specs.Words.{command_of, texts};
+ghost use Rattle.pash.specs.declared.command.TheConstants.{MOST_WIDTH};
 ghost use Rattle.pash.specs.Answers.{IsOfScript};
-ghost use Rattle.pash.specs.CatForm.{operands_from, operands_of};
-ghost use Rattle.pash.specs.Meaning.{only_line, usage as usage_lem, not_built, no_script as no_script_lem, file_of, reply_of_operands, reply_of_text, reply_of_file, reply_of_script, reply_of_command};
+ghost use Rattle.pash.specs.Forms.{as_form, form_from, form_of};
+ghost use Rattle.pash.specs.Meaning.{only_line, usage as usage_lem, not_built, no_script as no_script_lem, file_of, reply_of_form, reply_of_text, reply_of_file, reply_of_script, reply_of_command};
 ghost use Rattle.pash.specs.Runs.{Meets, GrewByPrefixes, Stops};
 
 use crate::answers::{Outcome, Refusal, Stop, Why, of_tree};
 use crate::cat::cat;
-use crate::cat_form::{MOST_BYTES, cat_operands, script_words};
+use crate::cat_form::{MOST_BYTES, script_words};
+use crate::counting::run_count;
+use crate::forms::{Form, read_form};
 use crate::lines::{NO_SUCH_FILE, diagnostic, say};
 use crate::words::read_command;
 use ps_lines::Text;
@@ -109,9 +112,11 @@ fn run_text<T: Tree, O: Sink, E: Sink>(
     tree: &mut T,
     out: &mut O,
     err: &mut E,
+    width: u32,
     text: &[u8],
 ) -> Result<Outcome, Stop>
-    requires { IfSome (T.state tree.old).held NoWriterOut }
+    requires spread { (1 ≤ width) × (width ≤ MOST_WIDTH) }
+    requires whole { IfSome (T.state tree.old).held NoWriterOut }
     ensures why { IfOk result (λ outcome. IsOfScript outcome.why) }
     ensures answer { IfOk result (λ outcome. IfSome (T.state tree.old).held (λ files.
         Meets (reply_of_text files (T.state tree.old).home text.now) outcome.status outcome.why
@@ -125,7 +130,7 @@ fn run_text<T: Tree, O: Sink, E: Sink>(
         (record { out = O.faults out.new; err = E.faults err.new; tree = T.faults tree.new }) result }
 {
     match script_words(alloc, text) {
-        Ok(words) => run_words(alloc, tree, out, err, words.as_slice()),
+        Ok(words) => run_words(alloc, tree, out, err, width, words.as_slice()),
         Err(_refused) => Err(Stop::Memory),
     }
 }
@@ -137,31 +142,68 @@ fn run_words<T: Tree, O: Sink, E: Sink>(
     tree: &mut T,
     out: &mut O,
     err: &mut E,
+    width: u32,
     words: &[&[u8]],
 ) -> Result<Outcome, Stop>
-    requires { IfSome (T.state tree.old).held NoWriterOut }
+    requires spread { (1 ≤ width) × (width ≤ MOST_WIDTH) }
+    requires whole { IfSome (T.state tree.old).held NoWriterOut }
     ensures why { IfOk result (λ outcome. IsOfScript outcome.why) }
     ensures answer { IfOk result (λ outcome. IfSome (T.state tree.old).held (λ files.
-        Meets (reply_of_operands files (T.state tree.old).home (operands_from (map (λ word. word.now) words.now))) outcome.status outcome.why
+        Meets (reply_of_form files (T.state tree.old).home (form_from (map (λ word. word.now) words.now))) outcome.status outcome.why
         (O.taken out.old) (O.taken out.new) (E.taken err.old) (E.taken err.new))) }
     ensures part { OnErr result (IfSome (T.state tree.old).held (λ files.
         GrewByPrefixes (O.taken out.old) (O.taken out.new) (E.taken err.old) (E.taken err.new)
-        (reply_of_operands files (T.state tree.old).home (operands_from (map (λ word. word.now) words.now))).output
-        (reply_of_operands files (T.state tree.old).home (operands_from (map (λ word. word.now) words.now))).errors)) }
+        (reply_of_form files (T.state tree.old).home (form_from (map (λ word. word.now) words.now))).output
+        (reply_of_form files (T.state tree.old).home (form_from (map (λ word. word.now) words.now))).errors)) }
     ensures lent { OnlyLent (T.state tree.old) (T.state tree.new) }
     ensures cause { Stops
         (record { out = O.faults out.old; err = E.faults err.old; tree = T.faults tree.old })
         (record { out = O.faults out.new; err = E.faults err.new; tree = T.faults tree.new }) result }
 {
-    match cat_operands(words) {
-        Some(operands) => match cat(alloc, tree, out, err, operands) {
+    match read_form(words, width) {
+        Some(form) => run_form(alloc, tree, out, err, &form),
+        None => refuse(err),
+    }
+}
+
+/// Runs a script of a form that is built.
+#[tactic(auto, using(ps_world::proofs::ToldLemmas::grew_by_nothing))]
+fn run_form<T: Tree, O: Sink, E: Sink>(
+    alloc: Global,
+    tree: &mut T,
+    out: &mut O,
+    err: &mut E,
+    form: &Form<'_>,
+) -> Result<Outcome, Stop>
+    requires { IfSome (T.state tree.old).held NoWriterOut }
+    ensures why { IfOk result (λ outcome. IsOfScript outcome.why) }
+    ensures answer { IfOk result (λ outcome. IfSome (T.state tree.old).held (λ files.
+        Meets (reply_of_form files (T.state tree.old).home (Some (as_form form.now))) outcome.status outcome.why
+        (O.taken out.old) (O.taken out.new) (E.taken err.old) (E.taken err.new))) }
+    ensures part { OnErr result (IfSome (T.state tree.old).held (λ files.
+        GrewByPrefixes (O.taken out.old) (O.taken out.new) (E.taken err.old) (E.taken err.new)
+        (reply_of_form files (T.state tree.old).home (Some (as_form form.now))).output
+        (reply_of_form files (T.state tree.old).home (Some (as_form form.now))).errors)) }
+    ensures lent { OnlyLent (T.state tree.old) (T.state tree.new) }
+    ensures cause { Stops
+        (record { out = O.faults out.old; err = E.faults err.old; tree = T.faults tree.old })
+        (record { out = O.faults out.new; err = E.faults err.new; tree = T.faults tree.new }) result }
+{
+    match form {
+        Form::Cat(operands) => match cat(alloc, tree, out, err, operands) {
             Ok(status) => Ok(Outcome {
                 status,
                 why: Why::Finished,
             }),
             Err(stop) => Err(stop),
         },
-        None => refuse(err),
+        Form::Count(count) => match run_count(alloc, tree, out, err, count) {
+            Ok(()) => Ok(Outcome {
+                status: 0,
+                why: Why::Finished,
+            }),
+            Err(stop) => Err(stop),
+        },
     }
 }
 
@@ -172,8 +214,10 @@ fn run_file<T: Tree, O: Sink, E: Sink>(
     tree: &mut T,
     out: &mut O,
     err: &mut E,
+    width: u32,
     path: &Path,
 ) -> Result<Outcome, Stop>
+    requires spread { (1 ≤ width) × (width ≤ MOST_WIDTH) }
     requires whole { IfSome (T.state tree.old).held NoWriterOut }
     requires file { IfSome (T.state tree.old).held (λ files. IsFileAt files path.now) }
     ensures why { IfOk result (λ outcome. IsOfScript outcome.why) }
@@ -190,7 +234,7 @@ fn run_file<T: Tree, O: Sink, E: Sink>(
         (record { out = O.faults out.new; err = E.faults err.new; tree = T.faults tree.new }) result }
 {
     match load_script(alloc, tree, path) {
-        Ok(text) => run_text(alloc, tree, out, err, text.as_slice()),
+        Ok(text) => run_text(alloc, tree, out, err, width, text.as_slice()),
         Err(stop) => Err(stop),
     }
 }
@@ -199,7 +243,7 @@ fn run_file<T: Tree, O: Sink, E: Sink>(
 fn load_script<T: Tree>(alloc: Global, tree: &mut T, path: &Path) -> Result<Vec<u8>, Stop>
     requires { IfSome (T.state tree.old).held (λ files. IsFileAt files path.now) }
     ensures text { IfOk result (λ text. IfSome (T.state tree.old).held (λ files.
-        operands_of text.items ≡ operands_of (bytes_at files path.now))) }
+        form_of text.items ≡ form_of (bytes_at files path.now))) }
     ensures lent { OnlyLent (T.state tree.old) (T.state tree.new) }
     ensures cause { Stops
         (record { out = 0; err = 0; tree = T.faults tree.old })
@@ -224,9 +268,11 @@ fn run_place<T: Tree, O: Sink, E: Sink>(
     tree: &mut T,
     out: &mut O,
     err: &mut E,
+    width: u32,
     script: &[u8],
     place: Place,
 ) -> Result<Outcome, Stop>
+    requires spread { (1 ≤ width) × (width ≤ MOST_WIDTH) }
     requires whole { IfSome (T.state tree.old).held NoWriterOut }
     requires file { IfSome (T.state tree.old).held (λ files. NamesFileIn files place) }
     ensures why { IfOk result (λ outcome. IsOfScript outcome.why) }
@@ -243,7 +289,7 @@ fn run_place<T: Tree, O: Sink, E: Sink>(
         (record { out = O.faults out.new; err = E.faults err.new; tree = T.faults tree.new }) result }
 {
     match script_path(place) {
-        Some(path) => run_file(alloc, tree, out, err, &path),
+        Some(path) => run_file(alloc, tree, out, err, width, &path),
         None => no_script(alloc, err, script),
     }
 }
@@ -265,8 +311,10 @@ fn run_script<T: Tree, O: Sink, E: Sink>(
     tree: &mut T,
     out: &mut O,
     err: &mut E,
+    width: u32,
     script: &[u8],
 ) -> Result<Outcome, Stop>
+    requires spread { (1 ≤ width) × (width ≤ MOST_WIDTH) }
     requires whole { IfSome (T.state tree.old).held NoWriterOut }
     ensures why { IfOk result (λ outcome. IsOfScript outcome.why) }
     ensures answer { IfOk result (λ outcome. IfSome (T.state tree.old).held (λ files.
@@ -282,7 +330,7 @@ fn run_script<T: Tree, O: Sink, E: Sink>(
         (record { out = O.faults out.new; err = E.faults err.new; tree = T.faults tree.new }) result }
 {
     match look(alloc, tree, script) {
-        Ok(place) => run_place(alloc, tree, out, err, script, place),
+        Ok(place) => run_place(alloc, tree, out, err, width, script, place),
         Err(error) => Err(of_tree(error)),
     }
 }
@@ -315,7 +363,7 @@ pub fn run_command<T: Tree, O: Sink, E: Sink>(
         (record { out = O.faults out.new; err = E.faults err.new; tree = T.faults tree.new }) result }
 {
     match read_command(words) {
-        Some(command) => run_script(alloc, tree, out, err, command.script),
+        Some(command) => run_script(alloc, tree, out, err, command.width, command.script),
         None => usage(err),
     }
 }

@@ -1,24 +1,14 @@
 //! The words of the command line.
-ghost use Rattle.std.specs.Prelude.{◌≡◌};
+ghost use Rattle.std.specs.Prelude.{◌≡◌, ◌≤◌, IfSome};
+ghost use Rattle.pash.specs.declared.command.TheConstants.{MOST_WIDTH};
 ghost use Rattle.std.specs.Option.{option_map};
 ghost use Rattle.pash.specs.Words.{command_of, texts, width_of, as_run};
 
+use crate::command::{MOST_WIDTH, RunCommand};
 use ps_lines::read_decimal;
-
-/// The largest width.
-const MOST_WIDTH: u64 = 16;
 
 /// The command's name.
 const RUN: &[u8] = b"run";
-
-/// A command to run a script at a width: `run W SCRIPT ARG*`. The arguments are accepted and not used so far.
-#[derive(Drop)]
-pub struct RunCommand<'a> {
-    /// How many parts the work is spread to, 1 to 16.
-    pub width: u64,
-    /// The script's path, as it was given.
-    pub script: &'a [u8],
-}
 
 /// Reads the words after the program's name; None where they are no command.
 pub fn read_command(words: &[String]) -> Option<RunCommand<'_>>
@@ -37,16 +27,17 @@ pub fn read_command(words: &[String]) -> Option<RunCommand<'_>>
 }
 
 /// Reads a width: a number from 1 to 16 in decimal, without a sign or a leading zero.
-fn read_width(text: &[u8]) -> Option<u64>
-    ensures { result ≡ width_of text.now }
+fn read_width(text: &[u8]) -> Option<u32>
+    ensures width { result ≡ width_of text.now }
+    ensures spread { IfSome result (λ width. (1 ≤ width) × (width ≤ MOST_WIDTH)) }
 {
     if text.first() == Some(&b'0') {
         return None;
     }
     let width = read_decimal(text)?;
-    if width > MOST_WIDTH {
-        None
+    if 1 <= width && width <= u64::from(MOST_WIDTH) {
+        Some(width as u32)
     } else {
-        Some(width)
+        None
     }
 }

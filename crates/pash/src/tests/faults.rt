@@ -7,17 +7,22 @@ use ps_fakes::MemTree;
 use std::process::Abort;
 use std::test::Fail;
 
-/// Copies a file whose reader gives at most `most` bytes a read, and fails at the read `fail_at`, counted from 0.
+/// Runs a script over a file whose reader gives at most `most` bytes a read, and fails at the read `fail_at`, counted from 0.
 fn stops_at_a_failed_read<R: Abort + AllocGlobal>(
     rt: &R,
+    script: &[u8],
     most: usize,
     fail_at: u64,
 ) -> Result<(), Fail>
     requires { 1 ≤ most }
 {
     let alloc = rt.alloc();
+    let script = Vec::from_slice(alloc, script)?;
     let text = repeated(alloc, b"0123456789\n", 20_000)?;
-    let entries: [Entry; 2] = [(b"/w/s", Some(b"cat a")), (b"/w/a", Some(text.as_slice()))];
+    let entries: [Entry; 2] = [
+        (b"/w/s", Some(script.as_slice())),
+        (b"/w/a", Some(text.as_slice())),
+    ];
     let tree = MemTree::of_table(alloc, b"/w", &entries, Vec::new(alloc))?;
     let mut tree = tree.expect(rt, "the entries make a tree");
     tree.plan(b"/w/a", most, Some(fail_at))?;
@@ -43,9 +48,32 @@ fn stops_at_a_failed_read<R: Abort + AllocGlobal>(
 #[test]
 fn a_failed_read_is_no_end(rt: HostRuntime) -> Result<(), Fail> {
     for fail_at in 0..3 {
-        stops_at_a_failed_read(&rt, 1, fail_at)?;
-        stops_at_a_failed_read(&rt, 3, fail_at)?;
-        stops_at_a_failed_read(&rt, 65_536, fail_at)?;
+        stops_at_a_failed_read(&rt, b"cat a", 1, fail_at)?;
+        stops_at_a_failed_read(&rt, b"cat a", 3, fail_at)?;
+        stops_at_a_failed_read(&rt, b"cat a", 65_536, fail_at)?;
+    }
+    for fail_at in 0..2 {
+        stops_at_a_failed_read(&rt, b"cat a | grep -F 7 | wc -l", 65_536, fail_at)?;
+    }
+    Ok(())
+}
+
+/// Nothing is written of a count that can't be written.
+#[test]
+fn a_failed_write_of_a_count_is_told(rt: HostRuntime) -> Result<(), Fail> {
+    let entries: [Entry; 2] = [
+        (b"/w/s", Some(b"cat a | grep -F x | wc -l")),
+        (b"/w/a", Some(b"x1\ny\nx2")),
+    ];
+    for width in ["1", "2", "16"] {
+        let ran = run(&rt, &["run", width, "s"], &entries, Failing::Output(0))?;
+        assert!(rt;
+            ran.ended_with(&Why::WriteFault, 121),
+            "{:?} at {width}",
+            ran.why
+        );
+        assert!(rt; ran.has_part_of(&finished(b"2\n")), "at {width}");
+        assert_eq!(rt; ran.tree.lent(), ran.tree.back(), "at {width}");
     }
     Ok(())
 }

@@ -172,3 +172,29 @@ fn a_script_has_at_most_1_048_576_bytes(rt: HostRuntime) -> Result<(), Fail> {
     tells_of_slashes(&rt, LONGEST - 8, &finished(b"x1\n"))?;
     tells_of_slashes(&rt, LONGEST - 7, &not_built())
 }
+
+/// The lines of the file that have the word are counted, however they are parted, and none of them where there is no file.
+#[test]
+fn a_pipeline_counts_lines(rt: HostRuntime) -> Result<(), Fail> {
+    tells_at_every_width(
+        &rt,
+        &[
+            (b"/w/s", Some(b"cat f | grep -F a | wc -l\n")),
+            (b"/w/f", Some(b"b a\nab\nc\nxa")),
+        ],
+        &finished(b"3\n"),
+    )?;
+    tells_at_every_width(
+        &rt,
+        &[
+            (b"/w/s", Some(b"cat none | grep -F a | wc -l")),
+            (b"/w/f", Some(b"b a\nab\nc\nxa")),
+        ],
+        &Reply {
+            output: b"0\n",
+            errors: b"cat: none: No such file or directory\n",
+            status: 0,
+            why: Why::Finished,
+        },
+    )
+}

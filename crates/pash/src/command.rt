@@ -1,0 +1,16 @@
+//! A command, as it was read.
+ghost use Rattle.std.specs.Prelude.{◌≤◌};
+ghost use Rattle.pash.specs.declared.command.TheConstants.{MOST_WIDTH};
+
+/// The largest width.
+pub const MOST_WIDTH: u32 = 16;
+
+/// A command to run a script at a width: `run W SCRIPT ARG*`. The arguments are accepted and not used so far.
+#[derive(Drop)]
+pub struct RunCommand<'a> {
+    /// How many parts the work is spread to, 1 to 16.
+    pub width: u32,
+    /// The script's path, as it was given.
+    pub script: &'a [u8],
+    ghost spread: { (1 ≤ width) × (width ≤ MOST_WIDTH) },
+}

@@ -1,8 +1,7 @@
 //! The calls that are timed.
-ghost use Rattle.std.specs.Prelude.{◌≡◌, ◌==◌, ◌≤◌, count_by, length};
+ghost use Rattle.std.specs.Prelude.{◌≡◌, ◌==◌, count_by};
 
-use ps_lines::{NEWLINE, cut_line, next_line};
-use ut_regex::Matcher;
+use ps_lines::{NEWLINE, next_line};
 
 /// A call that can be timed.
 #[derive(Clone, Copy, Debug, PartialEq, Eq)]
@@ -15,7 +14,7 @@ pub enum Call {
     ReadAll,
     /// `lex` of a whole script.
     Lex,
-    /// `Matcher::has` of each line of a text, with an expression.
+    /// `Matcher::first_having` of an expression from line to line, over the pieces of a file.
     Has,
     /// `arith` of a text, a million times over the same variables, of which `i` is 41 at first.
     Arith,
@@ -55,21 +54,6 @@ pub fn count_newlines(text: &[u8]) -> usize
     while let Some(next) = next_line(text, from) {
         count += 1;
         from = next;
-    }
-    count
-}
-
-/// The lines of the text that have what the matcher seeks.
-pub fn count_having(matcher: &mut Matcher, text: &[u8]) -> usize
-    ensures { result ≤ length text.now }
-{
-    let mut count = 0;
-    let mut left = text;
-    while let Some((line, rest)) = cut_line(left) {
-        if matcher.has(line) {
-            count += 1;
-        }
-        left = rest;
     }
     count
 }

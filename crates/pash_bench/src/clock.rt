@@ -1,6 +1,6 @@
 //! Calls between two looks at the clock.
 
-use crate::calls::{count_having, count_newlines};
+use crate::calls::count_newlines;
 use ps_lines::lines;
 use ps_real::Reading;
 use ps_world::{WorldErr, read_all};
@@ -11,7 +11,6 @@ use std::io;
 use std::io::{ErrorKind, Read};
 use std::rt::Clock;
 use std::time::Instant;
-use ut_regex::{compile, read_bre, read_ere};
 
 /// How often an arithmetic text is evaluated.
 const EVALUATIONS: usize = 1_000_000;
@@ -76,32 +75,6 @@ pub fn time_lex(rt: &(impl AllocGlobal + Clock), script: &[u8]) -> io::Result<Ti
         count: tokens.len(),
         nanoseconds,
     })
-}
-
-/// `Matcher::has` of each line, which finds lines; what `compile` takes counts too. The options are `E` for an extended
-/// expression and `i` for both cases.
-pub fn time_has(
-    rt: &(impl AllocGlobal + Clock),
-    options: &str,
-    expression: &str,
-    text: &[u8],
-) -> io::Result<Timed> {
-    let read = if options == "E" || options == "Ei" {
-        read_ere(rt.alloc(), expression.as_bytes())
-    } else {
-        read_bre(rt.alloc(), expression.as_bytes())
-    };
-    let Ok(re) = read else {
-        return Err(io::Error::from(ErrorKind::InvalidData));
-    };
-    let fold = options == "i" || options == "Ei";
-    let start = Instant::now(rt)?;
-    let Ok(mut matcher) = compile(rt.alloc(), &re, fold, false) else {
-        return Err(io::Error::from(ErrorKind::OutOfMemory));
-    };
-    let count = count_having(&mut matcher, text);
-    let nanoseconds = start.elapsed(rt)?.as_nanos();
-    Ok(Timed { count, nanoseconds })
 }
 
 /// `arith` of the text, again and again over the same variables, which finds its last value.

@@ -30,12 +30,8 @@ fn main(rt: HostRuntime) -> io::Result<()> {
             let (Some(options), Some(expression)) = (words.next(), words.next()) else {
                 return Err(io::Error::from(ErrorKind::InvalidInput));
             };
-            clock::time_has(
-                &rt,
-                options.as_str(),
-                expression.as_str(),
-                fs::read(&rt, path)?.as_slice(),
-            )?
+            let reader = fs::open(&rt, path)?;
+            streams::time_has(&rt, reader, options.as_str(), expression.as_str())?
         }
         Call::Arith => clock::time_arith(&rt, fs::read(&rt, path)?.as_slice())?,
         Call::Matches => clock::time_matches(&rt, fs::read(&rt, path)?.as_slice())?,

@@ -1,5 +1,5 @@
 //! Streams over the pieces of a file, between two looks at the clock.
-ghost use Rattle.std.specs.Prelude.{◌≡◌, false};
+ghost use Rattle.std.specs.Prelude.{◌≡◌, [], false};
 
 use crate::clock::Timed;
 use ps_lines::Memory;
@@ -11,7 +11,8 @@ use std::time::Instant;
 use ut_args::{ArgFault, Inv, is_known, read_inv};
 use ut_grep::Grep;
 use ut_groups::Wc;
-use ut_streams::Stream;
+use ut_regex::{Matcher, Regex, compile, read_bre, read_ere};
+use ut_streams::{LineStream, Lines, Stream};
 
 /// The bytes that are read at a time.
 const PIECE: usize = 65_536;
@@ -28,6 +29,86 @@ pub fn time_grep<R: Read + Drop>(
     match Grep::new(rt.alloc(), &inv, b"") {
         Ok(mut grep) => time_stream(rt, &mut reader, &mut grep),
         Err(Memory) => Err(io::Error::from(ErrorKind::OutOfMemory)),
+    }
+}
+
+/// The lines of a file that have an expression; what `compile` takes counts too. The options are `E` for an extended
+/// expression and `i` for both cases.
+pub fn time_has<R: Read + Drop>(
+    rt: &(impl AllocGlobal + Clock),
+    mut reader: R,
+    options: &str,
+    expression: &str,
+) -> io::Result<Timed> {
+    let re = read_expression(rt, options, expression)?;
+    let fold = options == "i" || options == "Ei";
+    let mut piece = vec![in rt.alloc(); 0; PIECE]?;
+    let mut out = Vec::new(rt.alloc());
+    let start = Instant::now(rt)?;
+    let Ok(matcher) = compile(rt.alloc(), &re, fold, false) else {
+        return Err(io::Error::from(ErrorKind::OutOfMemory));
+    };
+    let counting = Counting { matcher, count: 0 };
+    let mut lines = Lines::new(rt.alloc(), counting);
+    let Some(_) = feed(&mut reader, &mut lines, &mut piece, &mut out)? else {
+        return Err(io::Error::from(ErrorKind::OutOfMemory));
+    };
+    let nanoseconds = start.elapsed(rt)?.as_nanos();
+    Ok(Timed {
+        count: lines.each.count,
+        nanoseconds,
+    })
+}
+
+/// The expression that a text reads as.
+fn read_expression(rt: &impl AllocGlobal, options: &str, expression: &str) -> io::Result<Regex> {
+    let read = if options == "E" || options == "Ei" {
+        read_ere(rt.alloc(), expression.as_bytes())
+    } else {
+        read_bre(rt.alloc(), expression.as_bytes())
+    };
+    match read {
+        Ok(re) => Ok(re),
+        Err(_) => Err(io::Error::from(ErrorKind::InvalidData)),
+    }
+}
+
+/// Counts the lines that have what a matcher seeks, and writes nothing.
+#[derive(Drop)]
+struct Counting {
+    matcher: Matcher,
+    count: usize,
+}
+
+impl LineStream for Counting {
+    ghost line_due = { λ _ _. [] };
+
+    ghost line_selects = { λ _ _. false };
+
+    ghost line_selected = { λ _. false };
+
+    fn line(&mut self, line: &[u8], _out: &mut Vec<u8>) -> Result<(), Memory> {
+        if self.matcher.has(line) {
+            self.count = self.count.saturating_add(1);
+        }
+        Ok(())
+    }
+
+    fn whole_lines(&mut self, text: &[u8], _out: &mut Vec<u8>) -> Result<(), Memory> {
+        let mut left = text;
+        while let Some(cut) = self.matcher.first_having(left) {
+            self.count = self.count.saturating_add(1);
+            left = cut.rest;
+        }
+        Ok(())
+    }
+
+    fn end(&mut self, _out: &mut Vec<u8>) -> Result<(), Memory> {
+        Ok(())
+    }
+
+    fn has_selected(&self) -> bool {
+        false
     }
 }
 

@@ -222,6 +222,25 @@ fn gives_the_names_that_fit(rt: HostRuntime) -> Result<(), Fail> {
     )
 }
 
+/// `*` leaves out the names that a period begins, and a pattern that fits no name stays as it is written.
+#[test]
+fn star_txt_gives_the_names_without_a_leading_period_and_star_log_stays(
+    rt: HostRuntime,
+) -> Result<(), Fail> {
+    expands(
+        &rt,
+        &[
+            (b"/w/x1.txt", Some(b"")),
+            (b"/w/x2.txt", Some(b"")),
+            (b"/w/.x3.txt", Some(b"")),
+        ],
+        &[
+            (b"*.txt", b"uuuuu", b"x1.txt|x2.txt"),
+            (b"*.log", b"uuuuu", b"*.log"),
+        ],
+    )
+}
+
 /// A period that begins a component fits only a period; `.` and `..` are never found.
 #[test]
 fn a_leading_period_stands_for_itself(rt: HostRuntime) -> Result<(), Fail> {

@@ -1,8 +1,8 @@
 -- Path expansion: how the parts of the walk make the whole.
 use Rattle.std.proofs.Common.{◌≡◌, ◌↔◌, ◌⊎◌, ◌≢◌, ◌&&◌, ◌||◌, not, ℕ, ◌+◌, ◌-◌, ◌<◌, zero, suc, get_or, Bool, true, false, cond, Result, Ok, Err, OnOk, IfOk, List, [], ◌∷◌, ◌++◌, length, take, drop, map, Option, Some, None, refl, sym, ap, subst, ◌∙◌, inl, inr, arith}
 use Rattle.std.specs.Option.{IfSome}
-use Rattle.std.specs.List.{list_any, list_all, position, position_or_len, slice_split, onto_first, count_by}
-use Rattle.std.proofs.lemmas.List.{take_rest, take_more, take_all, append_assoc, append-nil}
+use Rattle.std.specs.List.{list_any, list_all, position, position_or_len, onto_first, count_by}
+use Rattle.std.proofs.lemmas.List.{take_rest, take_more, append_assoc, append-nil}
 use Rattle.std.proofs.lemmas.List.Splits.{slice_split_first}
 use Rattle.std.proofs.lemmas.Bool.{false≢true}
 use Rattle.std.proofs.lemmas.List.Sums.{sum_by-cons}
@@ -25,7 +25,7 @@ use Rattle.ps_lines.specs.Texts.{texts_of}
 use Rattle.std.specs.Global.{Vec}
 use Rattle.std.specs.FinMap as map
 use Rattle.std.specs.Str.{bytes_eq}
-use Rattle.ps_world.specs.Paths.{Components, slash, is_slash, has_slash, is_name, stays, goes_up, parent_of}
+use Rattle.ps_world.specs.Paths.{Components, slash, has_slash, is_name, stays, goes_up}
 use Rattle.ps_world.specs.Files.{Files, Node, Bytes, Directory, WriterOut, kind_of, kind_at, IsListing, IsDirAt}
 use Rattle.ps_world.specs.Places.{start_of}
 use Rattle.ps_world.specs.declared.tree.Kind.{Kind}
@@ -38,7 +38,7 @@ use Rattle.sh_pattern.specs.declared.expansion.Found.{Found}
 use Rattle.sh_pattern.specs.Fits.{Fits}
 use Rattle.sh_pattern.specs.Reading.{Reads}
 use Rattle.sh_pattern.specs.PathExpansion.{bytes_of, is_slash_mark, HasNoSlash, components_of, has_special, begins_with_period, existing, place_in, FitsComponent, LeadsAsWritten, LeadsByPattern, Leads, Names, IsAmong, AreNamed, Expands, unlooked, matched, unmatched}
-use Rattle.sh_pattern.specs.Finding.{IsFound, IsText, Adds, LeadsOn, OneLeadsOn, Follows, FollowsAll, OneFits, AddsFitting, GoesOn}
+use Rattle.sh_pattern.specs.Finding.{IsFound, IsText, Adds, LeadsOn, Follows, FollowsAll, AddsFitting, GoesOn}
 
 -- the first component of a text is what stands before its first slash
 pub first_part : (text : List Mark) (end : ℕ) → Some end ≡ position is_slash_mark text → end < length text

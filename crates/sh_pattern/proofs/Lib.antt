@@ -1,3 +1,4 @@
 mod FitLemmas
 pub mod ExpansionLemmas
 pub mod ReadingLemmas
+pub mod ClosingLemmas

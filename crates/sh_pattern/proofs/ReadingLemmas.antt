@@ -26,10 +26,10 @@ pub record SameReading {A : Type 0} (a b : A) (r s : List Mark) : Type 0 where
   pub what : a ≡ b
   pub rest : r ≡ s
 
--- equal answers of an item and what follows it have equal parts
-parts : {i j : Item} {m n : List Mark} → ◌≡◌ {A = Option (Item × List Mark)} (Some (i, m)) (Some (j, n)) → (i ≡ j) × (m ≡ n)
-parts {i} {j} {m} {n} e =
-    let pair : ◌≡◌ {A = Item × List Mark} (i, m) (j, n) = cc in (ap (λ (p : Item × List Mark). p.0) pair, ap (λ (p : Item × List Mark). p.1) pair)
+-- equal answers of something read and what follows it have equal parts
+pub parts : {A : Type 0} {i j : A} {m n : List Mark} → ◌≡◌ {A = Option (A × List Mark)} (Some (i, m)) (Some (j, n)) → (i ≡ j) × (m ≡ n)
+parts {A} {i} {j} {m} {n} e =
+    let pair : ◌≡◌ {A = A × List Mark} (i, m) (j, n) = cc in (ap (λ (p : A × List Mark). p.0) pair, ap (λ (p : A × List Mark). p.1) pair)
 
 one_more_same : {i j : Item} {is js : List Item} {m n r s : List Mark} → ◌≡◌ {A = Option (Item × List Mark)} (Some (i, m)) (Some (j, n)) → (m ≡ n → SameReading is js r s) → SameReading (i ∷ is) (j ∷ js) r s
 one_more_same e rest = let both = parts e in let tail = rest both.1 in let head = both.0 in let others = tail.what in record { what = cc; rest = tail.rest }

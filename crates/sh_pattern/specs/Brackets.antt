@@ -53,3 +53,7 @@ pub data IsItems : List Mark → List Item → List Mark → Type 0 where
 -- a list is a first item and further ones, and this follows its `]`
 pub data IsList : List Mark → List Item → List Mark → Type 0 where
   a_list : {text rest after : List Mark} {item : Item} {items : List Item} → first_item text ≡ Some (item, rest) → IsItems rest items after → IsList text (item ∷ items) after
+
+-- no list stands here
+abbrev pub HasNoList : List Mark → Type 0
+HasNoList text = (items : List Item) (after : List Mark) → IsList text items after → ⊥

@@ -1,6 +1,7 @@
 pub mod Marks
 pub mod Classes
 pub mod Brackets
+pub mod Closings
 pub mod Reading
 pub mod Fits
 pub mod Walks

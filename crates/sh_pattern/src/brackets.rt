@@ -4,9 +4,11 @@ ghost use Rattle.std.specs.Prelude.{◌≡◌, ◌<◌, ◌≤◌, [], List, len
 ghost use Rattle.sh_pattern.specs.declared.elements.Item.{Item};
 ghost use Rattle.sh_pattern.specs.declared.marks.Mark.{Mark};
 ghost use Rattle.sh_pattern.specs.Marks.{is_unquoted, past};
-ghost use Rattle.sh_pattern.specs.Brackets.{begins_symbol, range_end, byte_or_range, first_item, next_item, IsList};
+ghost use Rattle.sh_pattern.specs.Brackets.{begins_symbol, range_end, byte_or_range, first_item, next_item, IsList, HasNoList};
+ghost use Rattle.sh_pattern.specs.Closings.{Knows};
 
 use crate::classes::class_at;
+use crate::closings::is_unclosed;
 use crate::elements::Item;
 use crate::marks::{Mark, front, is_unquoted, past};
 use ps_lines::Memory;
@@ -76,7 +78,7 @@ fn first_item(text: &[Mark]) -> Option<(Item, &[Mark])>
 }
 
 /// A further item, and what follows it. There is none at the `]` that ends the list.
-fn next_item(text: &[Mark]) -> Option<(Item, &[Mark])>
+pub(crate) fn next_item(text: &[Mark]) -> Option<(Item, &[Mark])>
     ensures item { MatchOption result
         (next_item text.now ≡ None)
         (λ r. next_item text.now ≡ Some (r.0, r.1.now)) }
@@ -90,20 +92,40 @@ fn next_item(text: &[Mark]) -> Option<(Item, &[Mark])>
     }
 }
 
+/// The first item of a list, unless the table has it that the list isn't closed, and what follows it.
+#[tactic(auto, using(crate::proofs::ClosingLemmas::lists))]
+fn begin_list<'a>(text: &'a [Mark], closes: &[bool]) -> Option<(Item, &'a [Mark])>
+    requires { Knows closes.now text.now }
+    ensures item { MatchOption result
+        (HasNoList text.now)
+        (λ r. first_item text.now ≡ Some (r.0, r.1.now)) }
+    ensures shorter { IfSome result (λ r. length r.1.now < length text.now) }
+{
+    let (first, rest) = first_item(text)?;
+    if is_unclosed(closes, rest) {
+        None
+    } else {
+        Some((first, rest))
+    }
+}
+
 /// Reads the list of a bracket expression into `items`, which is empty, and gives what follows its `]`.
 ///
-/// Without a list there is no bracket expression here, and what `items` holds then says nothing.
+/// Without a list there is no bracket expression here, and what `items` holds then says nothing. `closes` has what is
+/// known of the ends of the text.
 pub(crate) fn read_list<'a>(
     text: &'a [Mark],
+    closes: &[bool],
     items: &mut Vec<Item>,
 ) -> Result<Option<&'a [Mark]>, Memory>
-    requires { items.old.items ≡ [] }
+    requires empty { items.old.items ≡ [] }
+    requires knows { Knows closes.now text.now }
     ensures list { IfOk result (λ rest. MatchOption rest
-        ((list : List Item) (after : List Mark) → IsList text.now list after → ⊥)
+        (HasNoList text.now)
         (λ after. IsList text.now items.new.items after.now)) }
     ensures shorter { IfOk result (λ rest. IfSome rest (λ after. length after.now ≤ length text.now)) }
 {
-    let Some((first, mut rest)) = first_item(text) else {
+    let Some((first, mut rest)) = begin_list(text, closes) else {
         return Ok(None);
     };
     items.push(first)?;

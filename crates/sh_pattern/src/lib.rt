@@ -1,7 +1,7 @@
 //! Patterns of the shell (XCU 2.13): read from a word whose quotes are known, matched against a text, and expanded to paths.
 //!
-//! A text is a list of bytes, in the C locale: one byte is one character. Reading takes memory for the pattern alone;
-//! matching takes none, and costs the text's length times the pattern's at worst.
+//! A text is a list of bytes, in the C locale: one byte is one character. Reading takes time and memory that grow as the
+//! text does; matching takes no memory, and costs the text's length times the pattern's at worst.
 //!
 //! Path expansion asks a tree for the names in its directories, and keeps what it has found so far.
 //!
@@ -11,6 +11,7 @@
 
 mod brackets;
 mod classes;
+mod closings;
 mod elements;
 mod expansion;
 mod laws;

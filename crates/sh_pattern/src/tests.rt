@@ -26,7 +26,7 @@ fn fits(alloc: Global, pattern: &str, marks: &str, text: &str) -> Result<bool, F
 }
 
 /// Pattern, its marks (`q` quoted, `u` unquoted), text, and whether it fits.
-static CASES: [(&str, &str, &str, bool); 271] = [
+static CASES: [(&str, &str, &str, bool); 282] = [
     ("", "", "", true),
     ("", "", "a", false),
     ("a", "u", "a", true),
@@ -298,6 +298,22 @@ static CASES: [(&str, &str, &str, bool); 271] = [
     ("[a[.]", "uuuuu", "[a.", true),
     ("[a-[.]", "uuuuuu", "[a-.", true),
     ("[[.]", "uquu", ".", true),
+    ("[[[a", "uuuu", "[[[a", true),
+    ("[[[a", "uuuu", "[a", false),
+    ("[[a]", "uuuq", "[[a]", true),
+    ("[[[:alpha:]", "uuuuuuuuuuu", "[[p", true),
+    ("[[[:alpha:]", "uuuuuuuuuuu", "[[z", false),
+    ("[-[-x[:alpha:]", "uuuuuuuuuuuuuu", "[-[-xp", true),
+    ("[-[-x[:alpha:]", "uuuuuuuuuuuuuu", "y", false),
+    ("[[:alpha:][[:alpha:]", "uuuuuuuuuuuuuuuuuuuu", "[p[p", true),
+    (
+        "[[:alpha:][[:alpha:]",
+        "uuuuuuuuuuuuuuuuuuuu",
+        "[p[z",
+        false,
+    ),
+    ("[a[.[b]", "uuuuuuu", "[a.", true),
+    ("[a[.[b]", "uuuuuuu", "a", false),
 ];
 
 #[test]

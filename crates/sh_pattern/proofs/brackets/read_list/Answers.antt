@@ -4,7 +4,7 @@ use Rattle.sh_pattern.proofs.brackets.read_list.Goals as goal
 
 pub loop-item-init : goal.loop-item-init
 loop-item-init c = record {
-  read = begin_list (c.in_ok-push.ensures.items ∙ ap (λ items. items ++ c.in-Some.first ∷ []) c.requires) c.in-Some.ensures.item;
+  read = begin_list (c.in_ok-push.ensures.items ∙ ap (λ items. items ++ c.in-Some.first ∷ []) c.requires.empty) c.in-Some.ensures.item;
   back = λ items after h. rest_of_list c.in-Some.ensures.item h;
   shorter = omega (arith, c.in-Some.ensures.shorter);
 }

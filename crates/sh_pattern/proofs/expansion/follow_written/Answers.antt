@@ -1,4 +1,4 @@
-use Rattle.std.proofs.Common.{ap, sym, ◌∙◌}
+use Rattle.std.proofs.Common.{ap, ◌∙◌}
 use Rattle.ps_world.specs.Paths.{has_slash}
 use Rattle.sh_pattern.proofs.ExpansionLemmas.{same_slashes}
 use Rattle.sh_pattern.proofs.expansion.follow_written.Goals as goal

@@ -1,7 +1,7 @@
 -- Machines that have stopped.
-use Rattle.std.proofs.Common.{◌≡◌, ℕ, zero, suc, List, [], ◌∷◌, Bool, true, slice_get, Some, drop, ◌+◌, ◌<◌, inl, inr, arith, refl, ap, sym, subst, ◌∙◌}
+use Rattle.std.proofs.Common.{◌≡◌, ℕ, zero, suc, List, [], ◌∷◌, Bool, true, ◌&&◌, slice_get, Some, drop, ◌+◌, ◌<◌, inl, inr, arith, refl, ap, sym, subst, ◌∙◌}
 use Rattle.std.specs.List.{list_all}
-use Rattle.std.proofs.lemmas.Bool.{and_parts, and_from, cases_lt, true≢false}
+use Rattle.std.proofs.lemmas.Bool.{and_parts, cases_lt, true≢false}
 use Rattle.fl_graph.specs.declared.pieces.Act.{Act}
 use Rattle.fl_graph.specs.declared.pieces.Act.TheVariants as act
 use Rattle.fl_graph.specs.declared.pieces.Piece.{Piece}
@@ -48,14 +48,14 @@ one_more_holds holds items place item at here before other found within at_other
     ]
 
 next_passes : {X : Type 0} (test : X → Bool) (items : List X) (place : ℕ) (item : X) → slice_get items place ≡ Some item → test item ≡ true
-    → list_all test (drop (suc place) items) ≡ true → list_all test (drop place items) ≡ true
-next_passes test [] place item at passes behind = absurd (cc)
-next_passes test (first ∷ items) zero item at passes behind =
-    and_from (test first) (list_all test items) (ap test (some_is first item at) ∙ passes) behind
-next_passes test (first ∷ items) (suc place) item at passes behind = next_passes test items place item at passes behind
+    → list_all test (drop (suc place) items) ≡ list_all test (drop place items)
+next_passes test [] place item at passes = absurd (cc)
+next_passes test (first ∷ items) zero item at passes =
+    ap (λ (it : Bool). it && list_all test items) (sym passes ∙ ap test (some_is item first (sym at)))
+next_passes test (first ∷ items) (suc place) item at passes = next_passes test items place item at passes
 
 pub one_more_passes : {X : Type 0} (test : X → Bool) (items : List X) (place : ℕ) (item : X) → slice_get items place ≡ Some item → test item ≡ true
-    → list_all test (drop (place + 1) items) ≡ true → list_all test (drop place items) ≡ true
-one_more_passes test items place item at passes behind =
+    → list_all test (drop (place + 1) items) ≡ list_all test (drop place items)
+one_more_passes test items place item at passes =
     let next : place + 1 ≡ suc place = omega arith in
-    next_passes test items place item at passes (subst (λ (it : ℕ). list_all test (drop it items) ≡ true) next behind)
+    ap (λ (it : ℕ). list_all test (drop it items)) next ∙ next_passes test items place item at passes

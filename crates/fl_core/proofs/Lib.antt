@@ -14,5 +14,6 @@ pub mod FinishLemmas
 pub mod PointLemmas
 pub mod EndLemmas
 pub mod StartLemmas
+pub mod RoomLemmas
 pub mod GraphNetLemmas
 pub mod EngineLemmas

@@ -7,7 +7,7 @@ use Rattle.std.proofs.Math.Dec.{eqb-suc-suc}
 use Rattle.ps_lines.specs.declared.memory.Memory.{Memory}
 use Rattle.fl_graph.specs.Runs.{State}
 use Rattle.fl_graph.specs.declared.pieces.Piece.{Piece}
-use Rattle.fl_core.specs.Steps.{is_plain, waiting_on, ArePlain, Fits, Took, Gave, Starves}
+use Rattle.fl_core.specs.Steps.{is_plain, waiting_on, has_moved, ArePlain, Fits, Took, Gave, Starves}
 use Rattle.fl_core.specs.Runs.{Reached, Leads, Goes}
 use Rattle.fl_core.specs.declared.nets.Ports.{Ports}
 use Rattle.fl_core.specs.declared.steps.Progress.{Progress}
@@ -51,7 +51,7 @@ module _ {Machine : Type 0} (state : Machine → State) (ports : List Ports) whe
       → slice_get machines node ≡ Some machine → slice_get ports node ≡ Some own → machines' ≡ slice_set machines node machine'
       → (result ≡ Ok progress.Took → Took (state machine) (state machine') own.ins.items wires wires')
       → (result ≡ Ok progress.Gave → Gave (state machine) (state machine') own.outs.items wires wires')
-      → IfOk result (λ step. (step ≡ progress.Took → ⊥) → (step ≡ progress.Gave → ⊥) → (machine' ≡ machine) × (wires' ≡ wires))
+      → IfOk result (λ step. has_moved step ≡ false → (machine' ≡ machine) × (wires' ≡ wires))
       → IfOk result (λ _. (left taken : ℕ → Option (List ℕ)) → Leads state ports machines machines' wires wires' left left taken taken)
   step_leads machines machines' wires wires' node machine machine' own (Ok progress.Took) at at_own set took gave same = λ left taken plan wired follows reached.
       reached_took state plan wired machines machines' wires wires' left taken node machine machine' (replaced_by machines machines' node machine machine' at set)
@@ -60,13 +60,13 @@ module _ {Machine : Type 0} (state : Machine → State) (ports : List Ports) whe
       reached_gave state plan wired machines machines' wires wires' left taken node machine machine' (replaced_by machines machines' node machine machine' at set)
       (subst (λ (outs : List ℕ). Gave (state machine) (state machine') outs wires wires') (sym (follows.outs node own at_own)) (gave refl)) reached
   step_leads machines machines' wires wires' node machine machine' own (Ok progress.Starves) at at_own set took gave same = λ left taken.
-      let as_before = same (λ is. absurd (cc)) (λ is. absurd (cc)) in
+      let as_before = same refl in
       stays machines machines' wires wires' left taken (set ∙ ap (slice_set machines node) as_before.0 ∙ set_same machines node machine at) as_before.1
   step_leads machines machines' wires wires' node machine machine' own (Ok progress.Waits) at at_own set took gave same = λ left taken.
-      let as_before = same (λ is. absurd (cc)) (λ is. absurd (cc)) in
+      let as_before = same refl in
       stays machines machines' wires wires' left taken (set ∙ ap (slice_set machines node) as_before.0 ∙ set_same machines node machine at) as_before.1
   step_leads machines machines' wires wires' node machine machine' own (Ok progress.Ended) at at_own set took gave same = λ left taken.
-      let as_before = same (λ is. absurd (cc)) (λ is. absurd (cc)) in
+      let as_before = same refl in
       stays machines machines' wires wires' left taken (set ∙ ap (slice_set machines node) as_before.0 ∙ set_same machines node machine at) as_before.1
   step_leads machines machines' wires wires' node machine machine' own (Err memory) at at_own set took gave same = tt
 
@@ -87,12 +87,22 @@ module _ {Machine : Type 0} (state : Machine → State) (ports : List Ports) whe
       → slice_get machines node ≡ Some machine → slice_get ports node ≡ Some own → machines' ≡ slice_set machines node machine' → given ≡ wires → wires' ≡ new
       → (result ≡ Ok progress.Took → Took (state machine) (state machine') own.ins.items given new)
       → (result ≡ Ok progress.Gave → Gave (state machine) (state machine') own.outs.items given new)
-      → IfOk result (λ step. (step ≡ progress.Took → ⊥) → (step ≡ progress.Gave → ⊥) → (machine' ≡ machine) × (new ≡ given))
+      → IfOk result (λ step. has_moved step ≡ false → (machine' ≡ machine) × (new ≡ given))
       → IfOk result (λ _. (left taken : ℕ → Option (List ℕ)) → Leads state ports machines machines' wires wires' left left taken taken)
   slice_step_leads machines machines' wires wires' given new node machine machine' own result at at_own set old_is new_is took gave same =
       subst (λ (it : List (List Piece)). IfOk result (λ _. (left taken : ℕ → Option (List ℕ)) → Leads state ports machines machines' wires it left left taken taken)) (sym new_is)
       (subst (λ (it : List (List Piece)). IfOk result (λ _. (left taken : ℕ → Option (List ℕ)) → Leads state ports machines machines' it new left left taken taken)) old_is
       (step_leads machines machines' given new node machine machine' own result at at_own set took gave same))
+
+-- a step in which nothing moved has changed nothing
+pub slice_same : {Machine : Type 0} (machines : List Machine) (wires wires' given new : List (List Piece)) (node : ℕ) (machine machine' : Machine) (result : Result Progress Memory)
+    → slice_get machines node ≡ Some machine → given ≡ wires → wires' ≡ new
+    → IfOk result (λ step. has_moved step ≡ false → (machine' ≡ machine) × (new ≡ given))
+    → IfOk result (λ step. has_moved step ≡ false → (slice_set machines node machine' ≡ machines) × (wires' ≡ wires))
+slice_same machines wires wires' given new node machine machine' (Ok step) at old_is new_is same = λ rests.
+    let as_before = same rests in
+    (ap (slice_set machines node) as_before.0 ∙ set_same machines node machine at, new_is ∙ as_before.1 ∙ old_is)
+slice_same machines wires wires' given new node machine machine' (Err memory) at old_is new_is same = tt
 
 -- a slice of all of a list, written back
 module _ {X : Type 0} where

@@ -1,5 +1,6 @@
 -- The plan of a graph (own): the edges with which each node runs, and how its machine begins.
-use Rattle.std.specs.Prelude.{◌≡◌, ℕ, ◌+◌, List, [], ◌∷◌, true, false, if◌then◌else◌, length, slice_get, get_or, Option, Some, None}
+use Rattle.std.specs.Prelude.{◌≡◌, ℕ, ◌+◌, List, [], ◌∷◌, Bool, true, false, ◌==◌, if◌then◌else◌, length, slice_get, get_or, Option, Some, None}
+use Rattle.std.specs.List.{list_any}
 use Rattle.fl_graph.specs.Net.{Cell, gives}
 use Rattle.fl_graph.specs.declared.kinds.NodeKind.{NodeKind}
 use Rattle.fl_classes.specs.Flow.{Placed, placed, is_source}
@@ -8,7 +9,7 @@ use Rattle.fl_core.specs.Kinds.{is_sink, run_kind, run_ins, run_outs}
 use Rattle.fl_graph.specs.Runs.{State}
 use Rattle.fl_graph.specs.declared.pieces.Piece.{Piece}
 use Rattle.fl_core.specs.Runs.{Plan}
-use Rattle.fl_core.specs.Steps.{waiting_on}
+use Rattle.fl_core.specs.Steps.{room_on, waiting_on}
 use Rattle.fl_core.specs.declared.nets.Ports.{Ports}
 
 -- the edge from outside to a source, or to the outside from a sink: numbered behind the graph's edges
@@ -20,6 +21,20 @@ edges_in cells node cell = if is_source cell.kind then outer_edge cells node ∷
 
 abbrev pub edges_out : List (Cell NodeKind) → ℕ → Cell NodeKind → List ℕ
 edges_out cells node cell = if is_sink cell.kind then outer_edge cells node ∷ [] else cell.outs
+
+-- the edge is the only one in the list
+abbrev pub is_sole : ℕ → List ℕ → Bool
+is_sole edge [] = false
+is_sole edge (other ∷ []) = other == edge
+is_sole edge (other ∷ next ∷ others) = false
+
+-- how many pieces may wait on an edge of these nodes: so many where it leads into a node of one in, and else there is no bound
+abbrev pub room_of : List (Cell NodeKind) → Option ℕ → ℕ → Option ℕ
+room_of cells cap edge = if list_any (λ cell. is_sole edge cell.ins) cells then cap else None
+
+-- a network of these nodes has this room on its edges
+abbrev pub HasRooms : List (Cell NodeKind) → Option ℕ → List (Option ℕ) → Type 0
+HasRooms cells cap rooms = (edge : ℕ) → room_on rooms edge ≡ room_of cells cap edge
 
 -- the plan is that of these nodes
 pub record IsPlanOf (cells : List (Cell NodeKind)) (plan : Plan) : Type 0 where

@@ -1,9 +1,13 @@
 -- A step of a node's machine in a network (own): which piece went over which edge.
-use Rattle.std.specs.Prelude.{◌≡◌, ℕ, List, [], ◌∷◌, ◌++◌, Bool, true, false, not, ◌||◌, ◌==◌, ◌<◌, get_or, length, Some}
+use Rattle.std.specs.Prelude.{◌≡◌, ℕ, List, [], ◌∷◌, ◌++◌, Bool, true, false, not, ◌||◌, ◌==◌, ◌<◌, if◌then◌else◌, get_or, length, nat_le, Option, Some, None}
 use Rattle.std.specs.List.{slice_get, list_all}
 use Rattle.fl_graph.specs.Machines.{is_broken, is_mark}
 use Rattle.fl_graph.specs.Runs.{add, State, Run}
+use Rattle.fl_graph.specs.declared.pieces.Act.{Act}
+use Rattle.fl_graph.specs.declared.pieces.Act.TheVariants as act
 use Rattle.fl_graph.specs.declared.pieces.Piece.{Piece}
+use Rattle.fl_core.specs.declared.steps.Progress.{Progress}
+use Rattle.fl_core.specs.declared.steps.Progress.TheVariants as progress
 
 -- bytes or an end
 abbrev pub is_plain : Piece → Bool
@@ -31,6 +35,31 @@ pub record GaveLast (was now : State) (port : ℕ) (wire wire' : List Piece) : T
 -- the pieces that wait on an edge, where these wait on all in order
 abbrev pub waiting_on : List (List Piece) → ℕ → List Piece
 waiting_on wires edge = get_or wires edge []
+
+-- as many pieces wait as there is room for; where there is no bound, never
+abbrev pub is_full : Option ℕ → List Piece → Bool
+is_full None pieces = false
+is_full (Some room) pieces = nat_le room (length pieces)
+
+-- how many pieces may wait on an edge: one that isn't in the list has no bound
+abbrev pub room_on : List (Option ℕ) → ℕ → Option ℕ
+room_on rooms edge = get_or rooms edge None
+
+-- a piece has moved
+abbrev pub has_moved : Progress → Bool
+has_moved progress.Took = true
+has_moved progress.Gave = true
+has_moved progress.Starves = false
+has_moved progress.Waits = false
+has_moved progress.Ended = false
+
+-- what comes of a step by what the machine does next, unless memory is refused: a take from an edge on which nothing waits starves, a put
+-- to an edge that is full waits, and a stop has ended
+abbrev pub progress_at : Act → List ℕ → List ℕ → List (Option ℕ) → List (List Piece) → Progress
+progress_at (act.Take port) ins outs rooms wires = if is_empty (waiting_on wires (get_or ins port 0)) then progress.Starves else progress.Took
+progress_at (act.Put port) ins outs rooms wires =
+    if is_full (room_on rooms (get_or outs port 0)) (waiting_on wires (get_or outs port 0)) then progress.Waits else progress.Gave
+progress_at act.Stop ins outs rooms wires = progress.Ended
 
 -- no other edge has changed
 abbrev pub SameBut : ℕ → List (List Piece) → List (List Piece) → Type 0

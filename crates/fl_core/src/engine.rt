@@ -13,7 +13,7 @@ ghost use Rattle.fl_core.specs.Kinds.{are_run, is_sink};
 ghost use Rattle.fl_core.specs.Plans.{AreTold};
 
 use crate::ends::NodeEnds;
-use crate::graph_nets::net_of;
+use crate::graph_nets::{ROOM, net_of};
 use crate::outside::Halt;
 use fl_graph::{Graph, MAX_PIECE};
 use ps_lines::Memory;
@@ -59,7 +59,7 @@ pub fn run_in_turn<E: NodeEnds>(alloc: Global, graph: &Graph, ends: &mut E) -> R
     if graph.nodes.len() > u32::MAX as usize {
         return Ran::Memory;
     }
-    let mut net = match net_of(alloc, graph) {
+    let mut net = match net_of(alloc, graph, Some(ROOM)) {
         Ok(net) => net,
         Err(_refused) => return Ran::Memory,
     };

@@ -16,6 +16,7 @@ impl<M: Machine> Net<M> {
         ensures shut { result ≡ true → (node : ℕ) (machine : M) → slice_get self.now.machines.items node ≡ Some machine →
             ((port : ℕ) → M.takes machine port ≡ false) × ((port : ℕ) → M.puts machine port ≡ false) }
         ensures drained { result ≡ true → list_all is_empty self.now.wires.items ≡ true }
+        ensures finished { list_all (λ machine. is_stop (M.act machine)) self.now.machines.items ≡ true → list_all is_empty self.now.wires.items ≡ true → result ≡ true }
     {
         have_stopped(self.machines.as_slice()) && are_empty(self.wires.as_slice())
     }
@@ -42,7 +43,7 @@ impl<M: Machine> Net<M> {
 
 /// Whether each machine has stopped.
 fn have_stopped<M: Machine>(machines: &[M]) -> bool
-    ensures acts { result ≡ true → list_all (λ machine. is_stop (M.act machine)) machines.now ≡ true }
+    ensures acts { result ≡ list_all (λ machine. is_stop (M.act machine)) machines.now }
     ensures shut { result ≡ true → (node : ℕ) (machine : M) → slice_get machines.now node ≡ Some machine →
         ((port : ℕ) → M.takes machine port ≡ false) × ((port : ℕ) → M.puts machine port ≡ false) }
 {

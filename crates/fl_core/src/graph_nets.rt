@@ -1,5 +1,5 @@
 //! Networks of graphs.
-ghost use Rattle.std.specs.Prelude.{◌≡◌, ◌<◌, ◌+◌, ◌^◌, ◌∷◌, [], ℕ, true, if◌then◌else◌, length, IfOk};
+ghost use Rattle.std.specs.Prelude.{◌≡◌, ◌<◌, ◌+◌, ◌^◌, ◌∷◌, [], ℕ, true, if◌then◌else◌, length, None, IfOk};
 ghost use Rattle.std.specs.List.{list_all};
 ghost use Rattle.fl_graph.specs.Cells.{cell, cells};
 ghost use Rattle.fl_graph.specs.Kinds.{has_its_ports, reads_one_input};
@@ -7,9 +7,9 @@ ghost use Rattle.fl_graph.specs.Net.{gives};
 ghost use Rattle.fl_graph.specs.Valid.{Valid};
 ghost use Rattle.fl_classes.specs.Flow.{is_source as is_source_lem};
 ghost use Rattle.fl_core.specs.Kinds.{are_run, is_run, is_sink as is_sink_lem};
-ghost use Rattle.fl_core.specs.Plans.{IsNetOf};
+ghost use Rattle.fl_core.specs.Plans.{HasRooms, IsNetOf, is_sole, room_of};
 ghost use Rattle.fl_core.specs.Starts.{BeginsAs, HasPorts, NodesHave};
-ghost use Rattle.fl_core.specs.Steps.{waiting_on};
+ghost use Rattle.fl_core.specs.Steps.{room_on, waiting_on};
 
 use crate::machines::{NodeMachine, node_machine};
 use crate::nets::{Net, Ports};
@@ -18,15 +18,15 @@ use fl_graph::{Graph, Machine, Node, NodeKind};
 use ps_lines::Memory;
 use std::alloc::Global;
 
-/// How many pieces may wait on an edge that is bounded.
-const ROOM: usize = 8;
+/// How many pieces the engine lets wait on an edge that is bounded.
+pub(crate) const ROOM: u32 = 8;
 
 /// The network of a graph, before anything has moved.
 ///
-/// A wire is bounded where its edge leads into a node of one in, to the outside or from there. A node of many ins reads them in an order
-/// of its own, so what comes at a later one may not hold up its giver, on which an earlier one may wait. On Memory nothing is left; it is
-/// also the answer where edges and nodes together are too many for numbers of 32 bits.
-pub fn net_of(alloc: Global, graph: &Graph) -> Result<Net<NodeMachine>, Memory>
+/// An edge that leads into a node of one in has room for `cap` pieces, and no other has a bound: a node of many ins reads them in an order
+/// of its own, so what comes at a later one may not hold up its giver, on which an earlier one may wait; and what goes to the outside is
+/// held up by no node. On Memory nothing is left; it is also the answer where edges and nodes together are too many for numbers of 32 bits.
+pub fn net_of(alloc: Global, graph: &Graph, cap: Option<u32>) -> Result<Net<NodeMachine>, Memory>
     requires valid { Valid (cells graph.now.nodes.items) graph.now.status }
     requires kinds { are_run (cells graph.now.nodes.items) ≡ true }
     ensures net { IfOk result (λ net. IsNetOf (λ machine. record {
@@ -36,6 +36,7 @@ pub fn net_of(alloc: Global, graph: &Graph) -> Result<Net<NodeMachine>, Memory>
       due = ⟦<NodeMachine as Machine>⟧.due machine;
       selects = ⟦<NodeMachine as Machine>⟧.selects machine;
     }) (cells graph.now.nodes.items) net.ports.items net.machines.items net.wires.items) }
+    ensures rooms { IfOk result (λ net. HasRooms (cells graph.now.nodes.items) cap net.rooms.items) }
     ensures few { IfOk result (λ net. length net.machines.items < 2 ^ 32) }
 {
     let nodes = graph.nodes.as_slice();
@@ -43,11 +44,13 @@ pub fn net_of(alloc: Global, graph: &Graph) -> Result<Net<NodeMachine>, Memory>
     let count = wire_count(nodes, edges)?;
     let ports = ports_of(alloc, nodes, edges)?;
     let machines = machines_of(alloc, nodes)?;
-    let wires = wires_of(alloc, nodes, count)?;
+    let wires = wires_of(alloc, count)?;
+    let rooms = rooms_of(alloc, nodes, edges, cap)?;
     Ok(Net {
         ports,
         machines,
         wires,
+        rooms,
     })
 }
 
@@ -189,46 +192,55 @@ fn port_count(edges: &[u32]) -> Result<u32, Memory>
     Ok(edges.len() as u32)
 }
 
-/// So many wires on which nothing waits, those into nodes of many ins without a bound.
-fn wires_of(alloc: Global, nodes: &[Node], count: usize) -> Result<Vec<Wire>, Memory>
-    ensures all { IfOk result (λ wires. length wires.items ≡ count) }
-    ensures none { IfOk result (λ wires. (edge : ℕ) → waiting_on wires.items edge ≡ []) }
-{
-    let mut wires = bounded_wires(alloc, count)?;
-    for node in nodes {
-        if node.ins.len() > 1 {
-            lift_bounds(wires.as_mut_slice(), node.ins.as_slice());
-        }
-    }
-    Ok(wires)
-}
-
-/// So many wires on which nothing waits, each with a bound.
-fn bounded_wires(alloc: Global, count: usize) -> Result<Vec<Wire>, Memory>
+/// So many wires on which nothing waits.
+fn wires_of(alloc: Global, count: usize) -> Result<Vec<Wire>, Memory>
     ensures all { IfOk result (λ wires. length wires.items ≡ count) }
     ensures none { IfOk result (λ wires. (edge : ℕ) → waiting_on wires.items edge ≡ []) }
 {
     let mut wires = Vec::new(alloc);
     for _ in 0..count {
-        wires.push(Wire::new(alloc, ROOM))?;
+        wires.push(Wire::new(alloc))?;
     }
     Ok(wires)
 }
 
-/// Takes the bound from the wires of these edges.
-fn lift_bounds(wires: &mut [Wire], edges: &[u32])
-    ensures { wires.new ≡ wires.old }
+/// The rooms on the edges of a graph, of which there are so many.
+fn rooms_of(
+    alloc: Global,
+    nodes: &[Node],
+    edges: usize,
+    cap: Option<u32>,
+) -> Result<Vec<Option<u32>>, Memory>
+    ensures all { IfOk result (λ rooms. length rooms.items ≡ edges) }
+    ensures each { IfOk result (λ rooms. (edge : ℕ) → edge < edges → room_on rooms.items edge ≡ room_of (cells nodes.now) cap edge) }
 {
-    for edge in edges {
-        lift_bound(wires, *edge);
+    let mut rooms = unbounded(alloc, edges)?;
+    for node in nodes {
+        bound_sole(rooms.as_mut_slice(), node.ins.as_slice(), cap);
     }
+    Ok(rooms)
 }
 
-/// Takes the bound from the wire of an edge.
-fn lift_bound(wires: &mut [Wire], edge: u32)
-    ensures { wires.new ≡ wires.old }
+/// So many rooms without a bound.
+fn unbounded(alloc: Global, edges: usize) -> Result<Vec<Option<u32>>, Memory>
+    ensures all { IfOk result (λ rooms. length rooms.items ≡ edges) }
+    ensures each { IfOk result (λ rooms. (edge : ℕ) → room_on rooms.items edge ≡ None) }
 {
-    if (edge as usize) < wires.len() {
-        wires[edge as usize].lift_bound();
+    let mut rooms = Vec::new(alloc);
+    for _ in 0..edges {
+        rooms.push(None)?;
+    }
+    Ok(rooms)
+}
+
+/// Gives the edge of a node of one in its room.
+fn bound_sole(rooms: &mut [Option<u32>], ins: &[u32], cap: Option<u32>)
+    ensures all { length rooms.new ≡ length rooms.old }
+    ensures each { (edge : ℕ) → edge < length rooms.old → room_on rooms.new edge ≡ (if is_sole edge ins.now then cap else room_on rooms.old edge) }
+{
+    if let [edge] = ins {
+        if (*edge as usize) < rooms.len() {
+            rooms[*edge as usize] = cap;
+        }
     }
 }

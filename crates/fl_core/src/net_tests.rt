@@ -1,7 +1,6 @@
-//! The wires of a small graph's network.
-use crate::{Wire, are_run, net_of};
-use fl_graph::{From, Graph, Node, NodeKind, Piece, StatusRule, To, validate};
-use ps_lines::Memory;
+//! The network of a small graph.
+use crate::{are_run, net_of};
+use fl_graph::{From, Graph, Node, NodeKind, StatusRule, To, validate};
 use std::alloc::{AllocError, Global};
 use std::test::Fail;
 
@@ -13,17 +12,6 @@ fn node(alloc: Global, kind: NodeKind, ins: &[u32], outs: &[u32]) -> Result<Node
         outs: Vec::from_slice(alloc, outs)?,
         stage: 0,
     })
-}
-
-/// How many pieces an edge takes before its giver has to wait, counted up to 20.
-fn room(wire: &mut Wire) -> Result<u32, Memory> {
-    for pieces in 0..20 {
-        if wire.is_full() {
-            return Ok(pieces);
-        }
-        wire.push(Piece::Mark)?;
-    }
-    Ok(20)
 }
 
 #[test]
@@ -42,14 +30,10 @@ fn edges_into_nodes_of_many_ins_have_no_bound(rt: HostRuntime) -> Result<(), Fai
     };
     assert!(rt; validate(&graph));
     assert!(rt; are_run(graph.nodes.as_slice()));
-    let mut net = net_of(alloc, &graph)?;
-    let mut rooms = Vec::new(alloc);
-    for wire in &mut net.wires {
-        rooms.push(room(wire)?)?;
-    }
+    let net = net_of(alloc, &graph, Some(8))?;
     assert_eq!(rt;
-        rooms.as_slice(),
-        [8, 8, 8, 20, 20, 8, 8, 8, 8, 8, 8, 8].as_slice()
+        net.rooms.as_slice(),
+        [Some(8), Some(8), Some(8), None, None, Some(8)].as_slice()
     );
     Ok(())
 }

@@ -33,15 +33,18 @@ pub struct Net<M: Machine> {
     pub ports: Vec<Ports>,
     pub machines: Vec<M>,
     pub wires: Vec<Wire>,
+    /// How many pieces may wait on each edge before a giver has to: None, or no entry, where that has no bound.
+    pub rooms: Vec<Option<u32>>,
 }
 
 impl<M: Machine> Net<M> {
     ghost use Rattle.std.specs.Prelude.{ℕ, List, Option};
     ghost use Rattle.fl_graph.specs.Runs.{State};
-    ghost use Rattle.fl_core.specs.Steps.{ArePlain, Fits, Starves};
+    ghost use Rattle.fl_core.specs.Steps.{has_moved, progress_at, ArePlain, Fits, Starves};
     ghost use Rattle.fl_core.specs.declared.nets.Ports.{Ports as Port};
 
-    /// Does what the machine of a node does next, where it can. On Memory no step follows.
+    /// Does what the machine of a node does next, where it can: it starves, waits or has ended exactly where `progress_at` says so, and then
+    /// nothing changes. Memory comes only where a piece was to move, and no step follows it.
     pub fn step(&mut self, node: u32) -> Result<Progress, Memory>
         requires node { (node < length self.old.machines.items) × (node < length self.old.ports.items) }
         requires whole { (machine : M) → slice_get self.old.machines.items node ≡ Some machine → M.broken machine ≡ false }
@@ -55,9 +58,15 @@ impl<M: Machine> Net<M> {
         ensures starves { let state : M → State = λ machine. record { takes = M.takes machine; puts = M.puts machine; broken = M.broken machine; due = M.due machine; selects = M.selects machine } in
             result ≡ Ok Progress.Starves → (machine : M) (own : Port) → slice_get self.new.machines.items node ≡ Some machine → slice_get self.new.ports.items node ≡ Some own →
             Starves (state machine) own.ins.items self.new.wires.items }
+        ensures answer { (machine : M) (own : Port) → slice_get self.old.machines.items node ≡ Some machine → slice_get self.old.ports.items node ≡ Some own →
+            IfOk result (λ step. step ≡ progress_at (M.act machine) own.ins.items own.outs.items self.old.rooms.items self.old.wires.items) }
+        ensures memory { (machine : M) (own : Port) → slice_get self.old.machines.items node ≡ Some machine → slice_get self.old.ports.items node ≡ Some own →
+            OnErr result (has_moved (progress_at (M.act machine) own.ins.items own.outs.items self.old.rooms.items self.old.wires.items) ≡ true) }
+        ensures same { IfOk result (λ step. has_moved step ≡ false → (self.new.machines.items ≡ self.old.machines.items) × (self.new.wires.items ≡ self.old.wires.items)) }
         ensures ports { self.new.ports ≡ self.old.ports }
         ensures machines { length self.new.machines.items ≡ length self.old.machines.items }
         ensures wires { length self.new.wires.items ≡ length self.old.wires.items }
+        ensures rooms { self.new.rooms ≡ self.old.rooms }
     {
         let ports = &self.ports[node as usize];
         step(
@@ -65,6 +74,7 @@ impl<M: Machine> Net<M> {
             ports.ins.as_slice(),
             ports.outs.as_slice(),
             self.wires.as_mut_slice(),
+            self.rooms.as_slice(),
         )
     }
 
@@ -90,6 +100,7 @@ impl<M: Machine> Net<M> {
         ensures ports { self.new.ports ≡ self.old.ports }
         ensures machines { self.new.machines ≡ self.old.machines }
         ensures wires { length self.new.wires.items ≡ length self.old.wires.items }
+        ensures rooms { self.new.rooms ≡ self.old.rooms }
         ensures reads_same { (other : ℕ) → E.reads ends.new other ≡ E.reads ends.old other }
         ensures writes_same { (other : ℕ) → E.writes ends.new other ≡ E.writes ends.old other }
         ensures borrows { E.borrows ends.new ≡ E.borrows ends.old }
@@ -122,6 +133,7 @@ impl<M: Machine> Net<M> {
         ensures ports { self.new.ports ≡ self.old.ports }
         ensures machines { self.new.machines ≡ self.old.machines }
         ensures wires { length self.new.wires.items ≡ length self.old.wires.items }
+        ensures rooms { self.new.rooms ≡ self.old.rooms }
         ensures reads_same { (other : ℕ) → E.reads ends.new other ≡ E.reads ends.old other }
         ensures writes_same { (other : ℕ) → E.writes ends.new other ≡ E.writes ends.old other }
         ensures borrows { E.borrows ends.new ≡ E.borrows ends.old }
@@ -134,7 +146,7 @@ impl<M: Machine> Net<M> {
         write_piece(node, ends, &piece)
     }
 
-    /// Does one step of a node, and what it asks of the outside; answers whether a piece has moved.
+    /// Does one step of a node, and what it asks of the outside; answers whether a piece has moved, and where none has, nothing has changed.
     pub fn turn<E: NodeEnds>(
         &mut self,
         alloc: Global,
@@ -152,9 +164,11 @@ impl<M: Machine> Net<M> {
             (E.left ends.old) (E.left ends.new) (E.taken ends.old) (E.taken ends.new)) }
         ensures halts { let state : M → State = λ machine. record { takes = M.takes machine; puts = M.puts machine; broken = M.broken machine; due = M.due machine; selects = M.selects machine } in
             OnErr result (Halts state self.old.ports.items self.old.machines.items self.old.wires.items (E.left ends.old) (E.taken ends.old) (E.taken ends.new)) }
+        ensures same { result ≡ Ok false → (self.new.machines.items ≡ self.old.machines.items) × (self.new.wires.items ≡ self.old.wires.items) × (ends.new ≡ ends.old) }
         ensures ports { self.new.ports ≡ self.old.ports }
         ensures machines { length self.new.machines.items ≡ length self.old.machines.items }
         ensures wires { length self.new.wires.items ≡ length self.old.wires.items }
+        ensures rooms { self.new.rooms ≡ self.old.rooms }
         ensures buffer { length buffer.new ≡ length buffer.old }
         ensures reads_same { (other : ℕ) → E.reads ends.new other ≡ E.reads ends.old other }
         ensures writes_same { (other : ℕ) → E.writes ends.new other ≡ E.writes ends.old other }
@@ -178,7 +192,8 @@ impl<M: Machine> Net<M> {
         }
     }
 
-    /// Lets a node go on for so many steps at most, as long as it can; answers whether a piece has moved.
+    /// Lets a node go on for so many steps at most, as long as it can; answers whether a piece has moved, and where none has, nothing has
+    /// changed.
     fn run_node<E: NodeEnds>(
         &mut self,
         alloc: Global,
@@ -195,6 +210,8 @@ impl<M: Machine> Net<M> {
             (record { ports = self.new.ports.items; machines = self.new.machines.items; wires = self.new.wires.items; left = E.left ends.new; taken = E.taken ends.new; reads = E.reads ends.new; writes = E.writes ends.new; faults = E.faults ends.new })) }
         ensures err { let state : M → State = λ machine. record { takes = M.takes machine; puts = M.puts machine; broken = M.broken machine; due = M.due machine; selects = M.selects machine } in
             OnErr result (HaltsFrom state (record { ports = self.old.ports.items; machines = self.old.machines.items; wires = self.old.wires.items; left = E.left ends.old; taken = E.taken ends.old; reads = E.reads ends.old; writes = E.writes ends.old; faults = E.faults ends.old }) (E.taken ends.new)) }
+        ensures rooms { self.new.rooms ≡ self.old.rooms }
+        ensures same { result ≡ Ok false → (self.new.machines.items ≡ self.old.machines.items) × (self.new.wires.items ≡ self.old.wires.items) × (ends.new ≡ ends.old) }
         ensures buffer { length buffer.new ≡ length buffer.old }
         ensures borrows { E.borrows ends.new ≡ E.borrows ends.old }
         ensures cause { Causes (E.faults ends.old) (E.faults ends.new) result }
@@ -210,7 +227,7 @@ impl<M: Machine> Net<M> {
         Ok(moved)
     }
 
-    /// Gives each node its turn, in order; answers whether a piece has moved.
+    /// Gives each node its turn, in order; answers whether a piece has moved, and where none has, nothing has changed.
     fn sweep<E: NodeEnds>(
         &mut self,
         alloc: Global,
@@ -226,6 +243,8 @@ impl<M: Machine> Net<M> {
             (record { ports = self.new.ports.items; machines = self.new.machines.items; wires = self.new.wires.items; left = E.left ends.new; taken = E.taken ends.new; reads = E.reads ends.new; writes = E.writes ends.new; faults = E.faults ends.new })) }
         ensures err { let state : M → State = λ machine. record { takes = M.takes machine; puts = M.puts machine; broken = M.broken machine; due = M.due machine; selects = M.selects machine } in
             OnErr result (HaltsFrom state (record { ports = self.old.ports.items; machines = self.old.machines.items; wires = self.old.wires.items; left = E.left ends.old; taken = E.taken ends.old; reads = E.reads ends.old; writes = E.writes ends.old; faults = E.faults ends.old }) (E.taken ends.new)) }
+        ensures rooms { self.new.rooms ≡ self.old.rooms }
+        ensures same { result ≡ Ok false → (self.new.machines.items ≡ self.old.machines.items) × (self.new.wires.items ≡ self.old.wires.items) × (ends.new ≡ ends.old) }
         ensures buffer { length buffer.new ≡ length buffer.old }
         ensures borrows { E.borrows ends.new ≡ E.borrows ends.old }
         ensures cause { Causes (E.faults ends.old) (E.faults ends.new) result }
@@ -256,6 +275,7 @@ impl<M: Machine> Net<M> {
             (record { ports = self.new.ports.items; machines = self.new.machines.items; wires = self.new.wires.items; left = E.left ends.new; taken = E.taken ends.new; reads = E.reads ends.new; writes = E.writes ends.new; faults = E.faults ends.new })) }
         ensures err { let state : M → State = λ machine. record { takes = M.takes machine; puts = M.puts machine; broken = M.broken machine; due = M.due machine; selects = M.selects machine } in
             OnErr result (HaltsFrom state (record { ports = self.old.ports.items; machines = self.old.machines.items; wires = self.old.wires.items; left = E.left ends.old; taken = E.taken ends.old; reads = E.reads ends.old; writes = E.writes ends.old; faults = E.faults ends.old }) (E.taken ends.new)) }
+        ensures rooms { self.new.rooms ≡ self.old.rooms }
         ensures buffer { length buffer.new ≡ length buffer.old }
         ensures borrows { E.borrows ends.new ≡ E.borrows ends.old }
         ensures cause { Causes (E.faults ends.old) (E.faults ends.new) result }

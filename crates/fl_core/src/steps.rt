@@ -1,9 +1,9 @@
 //! A step of a node's machine.
-ghost use Rattle.std.specs.Prelude.{◌≡◌, true, false, [], length, Ok, IfOk};
+ghost use Rattle.std.specs.Prelude.{◌≡◌, true, false, [], if◌then◌else◌, length, Ok, IfOk, OnErr};
 ghost use Rattle.std.specs.List.{list_all};
 ghost use Rattle.fl_graph.specs.Machines.{MayDo};
 ghost use Rattle.fl_graph.specs.Runs.{State};
-ghost use Rattle.fl_core.specs.Steps.{is_plain, ArePlain, Fits, Gave, GaveLast, Starves, Took, TookFirst};
+ghost use Rattle.fl_core.specs.Steps.{is_empty, is_full, is_plain, progress_at, room_on as room_on_lem, has_moved as has_moved_lem, ArePlain, Fits, Gave, GaveLast, Starves, Took, TookFirst};
 
 use crate::wires::Wire;
 use fl_graph::{Act, Machine};
@@ -26,19 +26,23 @@ pub enum Progress {
 
 impl Progress {
     /// Whether a piece has moved.
-    pub fn has_moved(self) -> bool {
+    pub fn has_moved(self) -> bool
+        ensures { result ≡ has_moved_lem self }
+    {
         self == Progress::Took || self == Progress::Gave
     }
 }
 
 /// Does what a node's machine does next, where it can, over the wires of the node's edges.
 ///
-/// On Memory the machine is broken, or the piece that it put is dropped: no step follows.
+/// `rooms` tells of each edge how many pieces may wait there before a giver has to. On Memory the machine is broken, or the piece that it
+/// put is dropped: no step follows.
 pub fn step<M: Machine>(
     machine: &mut M,
     ins: &[u32],
     outs: &[u32],
     wires: &mut [Wire],
+    rooms: &[Option<u32>],
 ) -> Result<Progress, Memory>
     requires whole { M.broken machine.old ≡ false }
     requires plain { ArePlain wires.old }
@@ -55,13 +59,22 @@ pub fn step<M: Machine>(
     ensures starves { result ≡ Ok Progress.Starves → Starves
         (record { takes = M.takes machine.new; puts = M.puts machine.new; broken = M.broken machine.new; due = M.due machine.new; selects = M.selects machine.new })
         ins.now wires.new }
-    ensures same { IfOk result (λ step. (step ≡ Progress.Took → ⊥) → (step ≡ Progress.Gave → ⊥) → (machine.new ≡ machine.old) × (wires.new ≡ wires.old)) }
-    ensures ended { result ≡ Ok Progress.Ended → M.act machine.new ≡ Act.Stop }
+    ensures same { IfOk result (λ step. has_moved_lem step ≡ false → (machine.new ≡ machine.old) × (wires.new ≡ wires.old)) }
+    ensures answer { IfOk result (λ step. step ≡ progress_at (M.act machine.old) ins.now outs.now rooms.now wires.old) }
+    ensures memory { OnErr result (has_moved_lem (progress_at (M.act machine.old) ins.now outs.now rooms.now wires.old) ≡ true) }
     ensures width { length wires.new ≡ length wires.old }
 {
     match machine.next() {
         Act::Take(port) => take_first(machine, port, &mut wires[ins[port as usize] as usize]),
-        Act::Put(port) => give_last(machine, port, &mut wires[outs[port as usize] as usize]),
+        Act::Put(port) => {
+            let edge = outs[port as usize];
+            give_last(
+                machine,
+                port,
+                &mut wires[edge as usize],
+                room_on(rooms, edge),
+            )
+        }
         Act::Stop => Ok(Progress::Ended),
     }
 }
@@ -77,7 +90,8 @@ fn take_first<M: Machine>(machine: &mut M, port: u32, wire: &mut Wire) -> Result
         (record { takes = M.takes machine.new; puts = M.puts machine.new; broken = M.broken machine.new; due = M.due machine.new; selects = M.selects machine.new })
         port wire.old wire.new }
     ensures starves { result ≡ Ok Progress.Starves → (wire.old ≡ []) × (wire.new ≡ []) × (machine.new ≡ machine.old) }
-    ensures answers { IfOk result (λ step. (step ≡ Progress.Took → ⊥) → step ≡ Progress.Starves) }
+    ensures answer { IfOk result (λ step. step ≡ (if is_empty wire.old then Progress.Starves else Progress.Took)) }
+    ensures memory { OnErr result (is_empty wire.old ≡ false) }
 {
     let Some(piece) = wire.pop() else {
         return Ok(Progress::Starves);
@@ -88,9 +102,25 @@ fn take_first<M: Machine>(machine: &mut M, port: u32, wire: &mut Wire) -> Result
     }
 }
 
-/// Puts a piece behind those that wait on the wire, where it isn't full.
+/// How many pieces may wait on an edge, where that is bounded.
+fn room_on(rooms: &[Option<u32>], edge: u32) -> Option<u32>
+    ensures { result ≡ room_on_lem rooms.now edge }
+{
+    if (edge as usize) < rooms.len() {
+        rooms[edge as usize]
+    } else {
+        None
+    }
+}
+
+/// Puts a piece behind those that wait on the wire, where there is room for it.
 #[tactic(auto, using(crate::proofs::StepLemmas::gave_last))]
-fn give_last<M: Machine>(machine: &mut M, port: u32, wire: &mut Wire) -> Result<Progress, Memory>
+fn give_last<M: Machine>(
+    machine: &mut M,
+    port: u32,
+    wire: &mut Wire,
+    room: Option<u32>,
+) -> Result<Progress, Memory>
     requires turn { M.act machine.old ≡ Act.Put port }
     requires whole { M.broken machine.old ≡ false }
     requires may { MayDo (M.takes machine.old) (M.puts machine.old) (M.act machine.old) }
@@ -99,9 +129,10 @@ fn give_last<M: Machine>(machine: &mut M, port: u32, wire: &mut Wire) -> Result<
         (record { takes = M.takes machine.new; puts = M.puts machine.new; broken = M.broken machine.new; due = M.due machine.new; selects = M.selects machine.new })
         port wire.old wire.new }
     ensures waits { result ≡ Ok Progress.Waits → (wire.new ≡ wire.old) × (machine.new ≡ machine.old) }
-    ensures answers { IfOk result (λ step. (step ≡ Progress.Gave → ⊥) → step ≡ Progress.Waits) }
+    ensures answer { IfOk result (λ step. step ≡ (if is_full room wire.old then Progress.Waits else Progress.Gave)) }
+    ensures memory { OnErr result (is_full room wire.old ≡ false) }
 {
-    if wire.is_full() {
+    if wire.is_full(room) {
         return Ok(Progress::Waits);
     }
     let piece = match machine.put() {

@@ -11,8 +11,6 @@ use std::marker::Model;
 #[derive(Drop)]
 pub struct Wire {
     pieces: VecDeque<Piece>,
-    /// How many pieces may wait before a giver has to.
-    room: usize,
 }
 
 impl Model for Wire {
@@ -26,15 +24,14 @@ impl Model for Wire {
 
 impl Wire {
     ghost use Rattle.std.specs.Prelude.{◌≡◌, ◌∷◌, ◌++◌, [], IfSome, IfNone, OnOk, OnErr};
-    ghost use Rattle.fl_core.specs.Steps.{is_empty};
+    ghost use Rattle.fl_core.specs.Steps.{is_empty, is_full};
 
-    /// An edge on which nothing waits, and on which so many pieces may.
-    pub fn new(alloc: Global, room: usize) -> Wire
+    /// An edge on which nothing waits.
+    pub fn new(alloc: Global) -> Wire
         ensures { result ≡ [] }
     {
         Wire {
             pieces: VecDeque::new(alloc),
-            room,
         }
     }
 
@@ -45,16 +42,14 @@ impl Wire {
         self.pieces.is_empty()
     }
 
-    /// Whether as many pieces wait as may, so that a giver has to wait. It is a bound on memory alone, and `push` takes more.
-    pub fn is_full(&self) -> bool {
-        self.pieces.len() >= self.room
-    }
-
-    /// Lets any number of pieces wait.
-    pub fn lift_bound(&mut self)
-        ensures { self.new ≡ self.old }
+    /// Whether as many pieces wait as there is room for. It is a bound on memory alone, and `push` takes more.
+    pub fn is_full(&self, room: Option<u32>) -> bool
+        ensures { result ≡ is_full room self.now }
     {
-        self.room = usize::MAX;
+        match room {
+            Some(room) => self.pieces.len() >= room as usize,
+            None => false,
+        }
     }
 
     /// Puts a piece behind those that wait. On Memory the piece is dropped, and nothing changes.

@@ -2,5 +2,5 @@ use Rattle.std.proofs.Common.{◌≡◌, ℕ, [], length}
 use Rattle.fl_core.specs.Steps.{waiting_on}
 use Rattle.fl_core.proofs.graph_nets.wires_of.Given as goal
 
-abbrev pub invariant-loop-node : goal.invariant-loop-node
-invariant-loop-node l = (length l.wires.items ≡ l.count) × ((edge : ℕ) → waiting_on l.wires.items edge ≡ [])
+abbrev pub invariant-loop : goal.invariant-loop
+invariant-loop l = (length l.wires.items ≡ l.counter) × ((edge : ℕ) → waiting_on l.wires.items edge ≡ [])

@@ -9,3 +9,4 @@ invariant-loop g l =
     (record { ports = l.self.ports.items; machines = l.self.machines.items; wires = l.self.wires.items; left = g.E.NodeEnds.left l.ends; taken = g.E.NodeEnds.taken l.ends; reads = g.E.NodeEnds.reads l.ends; writes = g.E.NodeEnds.writes l.ends; faults = g.E.NodeEnds.faults l.ends })
     × (length l.buffer ≡ length l.fn.buffer)
     × (g.E.NodeEnds.borrows l.ends ≡ g.E.NodeEnds.borrows l.fn.ends)
+    × (l.self.rooms ≡ l.fn.self.rooms)

@@ -1,6 +1,6 @@
 use Rattle.std.proofs.Common.{rules, refl, length}
 use Rattle.std.proofs.lemmas.Option.{slice_get_read}
-use Rattle.fl_core.proofs.NetLemmas.{slice_step_leads, slice_starves, written_back}
+use Rattle.fl_core.proofs.NetLemmas.{slice_same, slice_step_leads, slice_starves, written_back}
 use Rattle.fl_core.proofs.nets.Net.step.Goals as goal
 
 pub returns-clause-leads : goal.returns-clause-leads
@@ -17,5 +17,13 @@ pub returns-clause-starves : goal.returns-clause-starves
 returns-clause-starves g c =
     slice_starves _ c.args.self.now.ports.items c.args.self.now.machines.items _ c.step.new.wires c.args.node c.step.new.machine c.index-ports.result.now c.step.result
     (slice_get_read c.args.self.now.ports.items (length c.args.self.now.ports.items) c.args.node c.index-ports.result.now refl c.requires.node.1 (search rules))
+    (written_back c.args.self.now.wires.items c.step.new.wires c.args.self.now.wires.len (search rules) (search rules))
+    (search rules)
+
+pub returns-clause-same : goal.returns-clause-same
+returns-clause-same g c =
+    slice_same c.args.self.now.machines.items c.args.self.now.wires.items _ c.as_mut_slice.result.now c.step.new.wires c.args.node c.index_mut.result.now c.step.new.machine c.step.result
+    (slice_get_read c.args.self.now.machines.items (length c.args.self.now.machines.items) c.args.node c.index_mut.result.now refl c.requires.node.0 (search rules))
+    c.as_mut_slice.ensures.value
     (written_back c.args.self.now.wires.items c.step.new.wires c.args.self.now.wires.len (search rules) (search rules))
     (search rules)

@@ -1,4 +1,4 @@
-use Rattle.std.proofs.Common.{◌≡◌, length}
+use Rattle.std.proofs.Common.{◌≡◌, false, length}
 use Rattle.fl_core.specs.Points.{Advances}
 use Rattle.fl_core.proofs.nets.Net.sweep.Given as goal
 
@@ -9,3 +9,5 @@ invariant-loop-node g l =
     (record { ports = l.self.ports.items; machines = l.self.machines.items; wires = l.self.wires.items; left = g.E.NodeEnds.left l.ends; taken = g.E.NodeEnds.taken l.ends; reads = g.E.NodeEnds.reads l.ends; writes = g.E.NodeEnds.writes l.ends; faults = g.E.NodeEnds.faults l.ends })
     × (length l.buffer ≡ length l.fn.buffer)
     × (g.E.NodeEnds.borrows l.ends ≡ g.E.NodeEnds.borrows l.fn.ends)
+    × (l.self.rooms ≡ l.fn.self.rooms)
+    × (l.moved ≡ false → (l.self.machines.items ≡ l.fn.self.machines.items) × (l.self.wires.items ≡ l.fn.self.wires.items) × (l.ends ≡ l.fn.ends))

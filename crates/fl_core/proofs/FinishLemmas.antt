@@ -111,24 +111,28 @@ module _ {Machine : Type 0} (state : Machine → State) (cells : List (Cell Node
         reached.ended node (outer_edge cells node) (planned.reads node cell at_node ∙ source) outer
         (ap has_end (reached.queued (outer_edge cells node)) ∙ has_end-front (reached.took (outer_edge cells node)) (waiting_on wires (outer_edge cells node)) ended)
 
+    -- a sink has put the end of its text
+    pub sink_ended : (node : ℕ) (cell : Cell NodeKind) → slice_get cells node ≡ Some cell → is_sink cell.kind ≡ true → has_end (reached.put (outer_edge cells node)) ≡ true
+    sink_ended node cell at_node sink =
+        let found = its_machine node cell at_node in
+        let outs = sink_edge cells status plan valid planned node cell at_node sink in
+        let begins = planned.begins node cell at_node in
+        let stop = its_stop node found.0 found.1 in
+        let opened : (plan.starts node).puts 0 ≡ true = begins.puts_all 0 ∙ ap (λ (test : Bool). nat_lt 0 (if test then 1 else length cell.outs)) sink in
+        ap has_end (sym (at_ports-stands (plan.outs node) reached.put 0 (outer_edge cells node) (ap (λ (edges : List ℕ). slice_get edges 0) outs)))
+        ∙ stop.ended (reached.whole node found.0 found.1) 0 opened
+
     module _ (sources : List (List ℕ)) (told : AreTold sources cells plan.left) where
       pub finished_writes : ((edge : ℕ) → waiting_on wires edge ≡ []) → (node : ℕ) (cell : Cell NodeKind) → slice_get cells node ≡ Some cell → is_sink cell.kind ≡ true
           → taken node ≡ then_bytes (plan.taken node) (only (map (flow cells sources) cell.ins))
       finished_writes drained node cell at_node sink =
-          let found = its_machine node cell at_node in
           let outer : ℕ = outer_edge cells node in
           let outs = sink_edge cells status plan valid planned node cell at_node sink in
-          let begins = planned.begins node cell at_node in
-          let stop = its_stop node found.0 found.1 in
-          let opened : (plan.starts node).puts 0 ≡ true = begins.puts_all 0 ∙ ap (λ (test : Bool). nat_lt 0 (if test then 1 else length cell.outs)) sink in
-          let ended : has_end (reached.put outer) ≡ true =
-          ap has_end (sym (at_ports-stands (plan.outs node) reached.put 0 outer (ap (λ (edges : List ℕ). slice_get edges 0) outs)))
-          ∙ stop.ended (reached.whole node found.0 found.1) 0 opened in
           let carries = sink_carries cells status plan valid planned taken (reached_halts state plan machines wires left taken reached (length cells) counted) sources told node cell at_node sink in
           let all_taken : reached.put outer ≡ reached.took outer =
           reached.queued outer ∙ ap (λ (rest : List Piece). reached.took outer ++ rest) (drained outer) ∙ append-nil (reached.took outer) in
           reached.written node outer (planned.writes node cell at_node ∙ sink) outs
-          ∙ ap (λ (text : List ℕ). then_bytes (plan.taken node) text) (ap text_of (sym all_taken) ∙ sym (carries.whole ended))
+          ∙ ap (λ (text : List ℕ). then_bytes (plan.taken node) text) (ap text_of (sym all_taken) ∙ sym (carries.whole (sink_ended node cell at_node sink)))
 
       -- the ins of a node that is no source come to their flow, whatever is said to follow
       ins_come : (node : ℕ) (cell : Cell NodeKind) (machine : Machine) → slice_get cells node ≡ Some cell → slice_get machines node ≡ Some machine → is_source cell.kind ≡ false

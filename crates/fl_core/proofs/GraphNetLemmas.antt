@@ -36,7 +36,7 @@ pushed_at (first ∷ items) last (suc place) item is = behind (pushed_at items l
     behind (Last at same) = Last (ap (λ (it : ℕ). suc it) at) same
 
 -- the cell of a node
-cell_at : (nodes : List Node) (node : ℕ) (it : Node) → slice_get nodes node ≡ Some it → slice_get (cells nodes) node ≡ Some (cell it)
+pub cell_at : (nodes : List Node) (node : ℕ) (it : Node) → slice_get nodes node ≡ Some it → slice_get (cells nodes) node ≡ Some (cell it)
 cell_at nodes node it is = slice_get-map cell nodes node ∙ ap (option_map cell) is
 
 pub node_holds : (test : Cell NodeKind → Bool) (nodes : List Node) (node : ℕ) (it : Node) → list_all test (cells nodes) ≡ true → node < length nodes → it ≡ get_or nodes node it

@@ -15,5 +15,8 @@ pub mod PointLemmas
 pub mod EndLemmas
 pub mod StartLemmas
 pub mod RoomLemmas
+pub mod LoadLemmas
+pub mod RunLemmas
+pub mod OuterLemmas
 pub mod GraphNetLemmas
 pub mod EngineLemmas

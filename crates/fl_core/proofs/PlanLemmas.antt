@@ -144,10 +144,10 @@ module _ (cells : List (Cell NodeKind)) (status : StatusRule) (plan : Plan) (val
   outs_side = record { known = planned.outs; unknown = planned.no_outs; below = given_below; once = valid.edges.once }
 
   -- a node whose in comes from outside is a source, and one whose out goes there a sink
-  record IsEndAt (ends : NodeKind → Bool) (node : ℕ) : Type 0 where
-    cell : Cell NodeKind
-    at_node : slice_get cells node ≡ Some cell
-    is : ends cell.kind ≡ true
+  pub record IsEndAt (ends : NodeKind → Bool) (node : ℕ) : Type 0 where
+    pub cell : Cell NodeKind
+    pub at_node : slice_get cells node ≡ Some cell
+    pub is : ends cell.kind ≡ true
 
   end_at : (ends : NodeKind → Bool) (tells : ℕ → Bool) → ((node : ℕ) (cell : Cell NodeKind) → slice_get cells node ≡ Some cell → tells node ≡ ends cell.kind)
       → ((node : ℕ) → slice_get cells node ≡ None → tells node ≡ false) → (node : ℕ) → tells node ≡ true → IsEndAt ends node
@@ -157,7 +157,7 @@ module _ (cells : List (Cell NodeKind)) (status : StatusRule) (plan : Plan) (val
       by_cell (Some cell) at_node = record { cell = cell; at_node = at_node; is = sym (known node cell at_node) ∙ told }
       by_cell None at_node = absurd (true≢false (sym told ∙ unknown node at_node))
 
-  source_at : (node : ℕ) → plan.reads node ≡ true → IsEndAt is_source node
+  pub source_at : (node : ℕ) → plan.reads node ≡ true → IsEndAt is_source node
   source_at = end_at is_source plan.reads planned.reads planned.no_reads
 
   sink_at : (node : ℕ) → plan.writes node ≡ true → IsEndAt is_sink node

@@ -17,7 +17,7 @@ use Rattle.fl_core.proofs.PieceLemmas.{text_of-append}
 use Rattle.fl_core.proofs.PortLemmas.{stands-has, at_ports-stands, at_ports-add, at_ports-elsewhere}
 
 -- a piece behind pieces that aren't closed closes them at their end at most
-clean-more : (pieces : List Piece) (last : Piece) → are_closed pieces ≡ false → is_clean (pieces ++ last ∷ []) ≡ true
+pub clean-more : (pieces : List Piece) (last : Piece) → are_closed pieces ≡ false → is_clean (pieces ++ last ∷ []) ≡ true
 clean-more [] last unclosed = refl
 clean-more (first ∷ []) last unclosed = by_test (closes first) (or_parts (closes first) false unclosed).0
   where
@@ -28,7 +28,7 @@ clean-more (first ∷ next ∷ pieces) last unclosed =
     let parts = or_parts (closes first) (are_closed (next ∷ pieces)) unclosed in
     ap (λ (test : Bool). not test && is_clean (next ∷ pieces ++ last ∷ [])) parts.0 ∙ clean-more (next ∷ pieces) last parts.1
 
-plain-more : (pieces : List Piece) (last : Piece) → list_all is_plain pieces ≡ true → is_plain last ≡ true → list_all is_plain (pieces ++ last ∷ []) ≡ true
+pub plain-more : (pieces : List Piece) (last : Piece) → list_all is_plain pieces ≡ true → is_plain last ≡ true → list_all is_plain (pieces ++ last ∷ []) ≡ true
 plain-more pieces last plain is =
     list_all-append is_plain pieces (last ∷ [])
     ∙ and_from (list_all is_plain pieces) (is_plain last && true) plain (and_from (is_plain last) true is refl)

@@ -167,8 +167,19 @@ module _ {Machine : Type 0} (state : Machine → State) (cells : List (Cell Node
         (λ cell machine port at_node at_machine. (net.begins node cell machine at_node at_machine).puts_all port);
   }
 
-  start_whole : (node : ℕ) (machine : Machine) → slice_get machines node ≡ Some machine → (state machine).broken ≡ false
+  pub start_whole : (node : ℕ) (machine : Machine) → slice_get machines node ≡ Some machine → (state machine).broken ≡ false
   start_whole node machine at_machine = let its = machine_node node machine at_machine in (net.begins node its.0 machine its.1 at_machine).is_whole
+
+  -- no machine has taken or put anything
+  pub start_runs : (node : ℕ) (machine : Machine) → slice_get machines node ≡ Some machine
+      → Run (start_plan.starts node) (state machine) (at_ports (start_plan.ins node) (λ (_ : ℕ). [])) (at_ports (start_plan.outs node) (λ (_ : ℕ). []))
+  start_runs node machine at_machine =
+      let nothing : (edges : List ℕ) → (λ (_ : ℕ). []) ≡ at_ports edges (λ (_ : ℕ). []) = λ edges. fun_ext (λ (port : ℕ). sym (at_ports-nothing edges port)) in
+      subst (λ (start : State). Run start (state machine) (at_ports (start_plan.ins node) (λ (_ : ℕ). [])) (at_ports (start_plan.outs node) (λ (_ : ℕ). [])))
+      (sym (start_of node machine at_machine))
+      (subst (λ (put : ℕ → List Piece). Run (state machine) (state machine) (at_ports (start_plan.ins node) (λ (_ : ℕ). [])) put) (nothing (start_plan.outs node))
+      (subst (λ (took : ℕ → List Piece). Run (state machine) (state machine) took (λ (_ : ℕ). [])) (nothing (start_plan.ins node))
+      (Run-start (state machine) (start_whole node machine at_machine))))
 
   -- before anything has moved
   pub start_is_reached : Reached state start_plan machines wires left taken
@@ -178,13 +189,7 @@ module _ {Machine : Type 0} (state : Machine → State) (cells : List (Cell Node
     queued = λ edge. sym (net.none_waits edge);
     clean = λ edge. refl;
     plain = λ edge. refl;
-    runs = λ node machine at_machine.
-        let nothing : (edges : List ℕ) → (λ (_ : ℕ). []) ≡ at_ports edges (λ (_ : ℕ). []) = λ edges. fun_ext (λ (port : ℕ). sym (at_ports-nothing edges port)) in
-        subst (λ (start : State). Run start (state machine) (at_ports (start_plan.ins node) (λ (_ : ℕ). [])) (at_ports (start_plan.outs node) (λ (_ : ℕ). [])))
-        (sym (start_of node machine at_machine))
-        (subst (λ (put : ℕ → List Piece). Run (state machine) (state machine) (at_ports (start_plan.ins node) (λ (_ : ℕ). [])) put) (nothing (start_plan.outs node))
-        (subst (λ (took : ℕ → List Piece). Run (state machine) (state machine) took (λ (_ : ℕ). [])) (nothing (start_plan.ins node))
-        (Run-start (state machine) (start_whole node machine at_machine))));
+    runs = start_runs;
     whole = start_whole;
     read = λ node edge reads is. sym (bytes_then-nil (left node));
     ended = λ node edge reads is ended. absurd (true≢false (sym ended));

@@ -7,3 +7,4 @@ pub mod Causes
 pub mod Points
 pub mod Ends
 pub mod Starts
+pub mod Inputs

@@ -55,7 +55,7 @@ pub fn net_of(alloc: Global, graph: &Graph, cap: Option<u32>) -> Result<Net<Node
 }
 
 /// The number of edges, which is that of outs.
-fn edge_count(nodes: &[Node]) -> Result<usize, Memory>
+pub(crate) fn edge_count(nodes: &[Node]) -> Result<usize, Memory>
     ensures { IfOk result (λ count. count ≡ length (gives (cells nodes.now))) }
 {
     let mut count: usize = 0;
@@ -124,7 +124,7 @@ fn edges_of(alloc: Global, is_end: bool, own: &[u32], outer: u32) -> Result<Vec<
 }
 
 /// Whether the node is a source.
-fn is_source(kind: &NodeKind) -> bool
+pub(crate) fn is_source(kind: &NodeKind) -> bool
     ensures { result ≡ is_source_lem kind.now }
 {
     match kind {

@@ -1,17 +1,23 @@
 //! What the pieces on a graph's edges carry, in laws: each is the contract of a function that does nothing.
 #![tactic(auto, using(crate::proofs::LawLemmas::core_laws))]
 
-ghost use Rattle.std.specs.Prelude.{◌≡◌, ◌<◌, ℕ, List, length, map, true};
+ghost use Rattle.std.specs.Prelude.{◌≡◌, ◌<◌, ℕ, List, length, map, slice_get, Some, true, false};
 ghost use Rattle.std.specs.List.{flat_map};
 ghost use Rattle.fl_graph.specs.Cells.{cells};
-ghost use Rattle.fl_graph.specs.Net.{gives};
-ghost use Rattle.fl_graph.specs.Runs.{BeginsWith, text_of, has_end, completed};
+ghost use Rattle.fl_graph.specs.Net.{Cell, gives};
+ghost use Rattle.fl_graph.specs.Runs.{BeginsWith, State, text_of, has_end, completed};
 ghost use Rattle.fl_graph.specs.Valid.{Valid};
+ghost use Rattle.fl_graph.specs.declared.kinds.NodeKind.{NodeKind};
 ghost use Rattle.fl_graph.specs.declared.pieces.Piece.{Piece};
-ghost use Rattle.fl_classes.specs.Flow.{flow, writes, writes_of, selections, selects};
+ghost use Rattle.fl_classes.specs.Flow.{flow, only, writes, writes_of, selections, selects};
+ghost use Rattle.fl_core.specs.Inputs.{RunsOver};
+ghost use Rattle.fl_core.specs.Kinds.{is_sink};
 ghost use Rattle.fl_core.specs.Laws.{Carries, NetKeeps};
+ghost use Rattle.fl_core.specs.Plans.{outer_edge, AreTold};
+ghost use Rattle.fl_core.specs.Steps.{waiting_on};
 
-use fl_graph::Graph;
+use crate::nets::Net;
+use fl_graph::{Graph, Machine};
 
 /// Where what each node of a valid graph took and put meets its equation, each edge carries its flow: what was put on it, or taken from
 /// it, is a front of the flow's text, and all of it once the end is there.
@@ -40,4 +46,21 @@ pub fn what_a_graph_leaves_is_of_the_flow(graph: &Graph)
         flat_map (λ cell. writes_of cell.kind (map (flow (cells graph.now.nodes.items) sources) cell.ins)) (cells graph.now.nodes.items) }
     ensures selections { (sources : List (List ℕ)) → selections (cells graph.now.nodes.items) sources ≡
         map (λ cell. selects cell.kind (map (flow (cells graph.now.nodes.items) sources) cell.ins)) (cells graph.now.nodes.items) }
+{}
+
+/// In a network over texts that are there from the beginning, what waits for the outside behind a sink is of the flow at any time: a front
+/// of its text, all of it where its end waits too, and all of it once each machine has stopped.
+pub fn what_waits_for_the_outside_is_of_the_flow<M: Machine>(graph: &Graph, net: &Net<M>)
+    requires { Valid (cells graph.now.nodes.items) graph.now.status }
+    ensures carries { let state : M → State = λ machine. record { takes = M.takes machine; puts = M.puts machine; broken = M.broken machine; due = M.due machine; selects = M.selects machine } in
+        (inputs : ℕ → List ℕ) → RunsOver state (cells graph.now.nodes.items) inputs net.now.ports.items net.now.machines.items net.now.wires.items →
+        (sources : List (List ℕ)) → AreTold sources (cells graph.now.nodes.items) (λ node. Some (inputs node)) →
+        (node : ℕ) (cell : Cell NodeKind) → slice_get (cells graph.now.nodes.items) node ≡ Some cell → is_sink cell.kind ≡ true →
+        Carries (waiting_on net.now.wires.items (outer_edge (cells graph.now.nodes.items) node)) (only (map (flow (cells graph.now.nodes.items) sources) cell.ins)) }
+    ensures whole { let state : M → State = λ machine. record { takes = M.takes machine; puts = M.puts machine; broken = M.broken machine; due = M.due machine; selects = M.selects machine } in
+        (inputs : ℕ → List ℕ) → RunsOver state (cells graph.now.nodes.items) inputs net.now.ports.items net.now.machines.items net.now.wires.items →
+        ((number : ℕ) (machine : M) → slice_get net.now.machines.items number ≡ Some machine → ((port : ℕ) → M.takes machine port ≡ false) × ((port : ℕ) → M.puts machine port ≡ false)) →
+        (sources : List (List ℕ)) → AreTold sources (cells graph.now.nodes.items) (λ node. Some (inputs node)) →
+        (node : ℕ) (cell : Cell NodeKind) → slice_get (cells graph.now.nodes.items) node ≡ Some cell → is_sink cell.kind ≡ true →
+        only (map (flow (cells graph.now.nodes.items) sources) cell.ins) ≡ text_of (waiting_on net.now.wires.items (outer_edge (cells graph.now.nodes.items) node)) }
 {}

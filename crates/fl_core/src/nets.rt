@@ -39,7 +39,10 @@ pub struct Net<M: Machine> {
 
 impl<M: Machine> Net<M> {
     ghost use Rattle.std.specs.Prelude.{ℕ, List, Option};
+    ghost use Rattle.fl_graph.specs.Net.{Cell};
     ghost use Rattle.fl_graph.specs.Runs.{State};
+    ghost use Rattle.fl_graph.specs.declared.kinds.NodeKind.{NodeKind};
+    ghost use Rattle.fl_core.specs.Inputs.{RunsOver};
     ghost use Rattle.fl_core.specs.Steps.{has_moved, progress_at, ArePlain, Fits, Starves};
     ghost use Rattle.fl_core.specs.declared.nets.Ports.{Ports as Port};
 
@@ -58,6 +61,11 @@ impl<M: Machine> Net<M> {
         ensures starves { let state : M → State = λ machine. record { takes = M.takes machine; puts = M.puts machine; broken = M.broken machine; due = M.due machine; selects = M.selects machine } in
             result ≡ Ok Progress.Starves → (machine : M) (own : Port) → slice_get self.new.machines.items node ≡ Some machine → slice_get self.new.ports.items node ≡ Some own →
             Starves (state machine) own.ins.items self.new.wires.items }
+        ensures over { let state : M → State = λ machine. record { takes = M.takes machine; puts = M.puts machine; broken = M.broken machine; due = M.due machine; selects = M.selects machine } in
+            (cells : List (Cell NodeKind)) (inputs : ℕ → List ℕ) → RunsOver state cells inputs self.old.ports.items self.old.machines.items self.old.wires.items →
+            IfOk result (λ _. RunsOver state cells inputs self.new.ports.items self.new.machines.items self.new.wires.items) }
+        ensures shut { result ≡ Ok Progress.Ended → (machine : M) → slice_get self.new.machines.items node ≡ Some machine →
+            ((port : ℕ) → M.takes machine port ≡ false) × ((port : ℕ) → M.puts machine port ≡ false) }
         ensures answer { (machine : M) (own : Port) → slice_get self.old.machines.items node ≡ Some machine → slice_get self.old.ports.items node ≡ Some own →
             IfOk result (λ step. step ≡ progress_at (M.act machine) own.ins.items own.outs.items self.old.rooms.items self.old.wires.items) }
         ensures memory { (machine : M) (own : Port) → slice_get self.old.machines.items node ≡ Some machine → slice_get self.old.ports.items node ≡ Some own →

@@ -1,5 +1,5 @@
 //! A step of a node's machine.
-ghost use Rattle.std.specs.Prelude.{◌≡◌, true, false, [], if◌then◌else◌, length, Ok, IfOk, OnErr};
+ghost use Rattle.std.specs.Prelude.{◌≡◌, ℕ, true, false, [], if◌then◌else◌, length, Ok, IfOk, OnErr};
 ghost use Rattle.std.specs.List.{list_all};
 ghost use Rattle.fl_graph.specs.Machines.{MayDo};
 ghost use Rattle.fl_graph.specs.Runs.{State};
@@ -60,6 +60,7 @@ pub fn step<M: Machine>(
         (record { takes = M.takes machine.new; puts = M.puts machine.new; broken = M.broken machine.new; due = M.due machine.new; selects = M.selects machine.new })
         ins.now wires.new }
     ensures same { IfOk result (λ step. has_moved_lem step ≡ false → (machine.new ≡ machine.old) × (wires.new ≡ wires.old)) }
+    ensures shut { result ≡ Ok Progress.Ended → ((port : ℕ) → M.takes machine.new port ≡ false) × ((port : ℕ) → M.puts machine.new port ≡ false) }
     ensures answer { IfOk result (λ step. step ≡ progress_at (M.act machine.old) ins.now outs.now rooms.now wires.old) }
     ensures memory { OnErr result (has_moved_lem (progress_at (M.act machine.old) ins.now outs.now rooms.now wires.old) ≡ true) }
     ensures width { length wires.new ≡ length wires.old }

@@ -1,6 +1,8 @@
-use Rattle.std.proofs.Common.{rules, refl, length}
+use Rattle.std.proofs.Common.{rules, ap, ◌∙◌, refl, List, length}
 use Rattle.std.proofs.lemmas.Option.{slice_get_read}
+use Rattle.fl_graph.specs.declared.pieces.Piece.{Piece}
 use Rattle.fl_core.proofs.NetLemmas.{slice_same, slice_step_leads, slice_starves, written_back}
+use Rattle.fl_core.proofs.OuterLemmas.{steps_over}
 use Rattle.fl_core.proofs.nets.Net.step.Goals as goal
 
 pub returns-clause-leads : goal.returns-clause-leads
@@ -27,3 +29,8 @@ returns-clause-same g c =
     c.as_mut_slice.ensures.value
     (written_back c.args.self.now.wires.items c.step.new.wires c.args.self.now.wires.len (search rules) (search rules))
     (search rules)
+
+pub returns-clause-over : goal.returns-clause-over
+returns-clause-over g c = λ cells inputs.
+    steps_over _ cells inputs c.args.self.now.ports.items c.args.self.now.machines.items _ c.args.self.now.wires.items _ c.step.result (returns-clause-leads g c) (search rules)
+    (ap (λ (wires : List (List Piece)). length wires) (written_back c.args.self.now.wires.items c.step.new.wires c.args.self.now.wires.len (search rules) (search rules)) ∙ (search rules))

@@ -1,0 +1,126 @@
+//! Networks over texts that are there from the beginning.
+ghost use Rattle.std.specs.Prelude.{◌≡◌, ◌<◌, ◌≤◌, ◌+◌, ◌^◌, [], ℕ, true, false, length, IfOk, IfSome, OnOk};
+ghost use Rattle.fl_graph.specs.Cells.{cells};
+ghost use Rattle.fl_graph.specs.Net.{gives};
+ghost use Rattle.fl_graph.specs.Valid.{Valid};
+ghost use Rattle.fl_classes.specs.Flow.{is_source as is_source_lem};
+ghost use Rattle.fl_core.specs.Inputs.{input_of as input_of_lem, AreWhole, BeginsOver, IsLoaded, RunsOver};
+ghost use Rattle.fl_core.specs.Kinds.{are_run};
+ghost use Rattle.fl_core.specs.Plans.{HasRooms};
+ghost use Rattle.fl_core.specs.Steps.{waiting_on};
+
+use crate::graph_nets::{edge_count, is_source, net_of};
+use crate::machines::NodeMachine;
+use crate::nets::Net;
+use crate::wires::Wire;
+use fl_graph::{Bytes, Graph, MAX_PIECE, Machine, Node, NodeKind, Piece};
+use ps_lines::Memory;
+use std::alloc::Global;
+
+impl Net<NodeMachine> {
+    /// The network of a graph over the texts of its sources, by node number: the first of a number counts, and a source that has none
+    /// reads the empty text.
+    ///
+    /// Each text waits on its source's edge from outside, in pieces, and its end behind it; what the sinks give will wait on theirs. So
+    /// `step` needs no ends. An edge that leads into a node of one in has room for `cap` pieces, and no other has a bound.
+    pub fn new(
+        alloc: Global,
+        graph: &Graph,
+        inputs: Vec<(u32, Vec<u8>)>,
+        cap: Option<u32>,
+    ) -> Result<Net<NodeMachine>, Memory>
+        requires valid { Valid (cells graph.now.nodes.items) graph.now.status }
+        requires kinds { are_run (cells graph.now.nodes.items) ≡ true }
+        requires some { IfSome cap (λ room. 1 ≤ room) }
+        ensures begins { IfOk result (λ net. BeginsOver (λ machine. record {
+          takes = ⟦<NodeMachine as Machine>⟧.takes machine;
+          puts = ⟦<NodeMachine as Machine>⟧.puts machine;
+          broken = ⟦<NodeMachine as Machine>⟧.broken machine;
+          due = ⟦<NodeMachine as Machine>⟧.due machine;
+          selects = ⟦<NodeMachine as Machine>⟧.selects machine;
+        }) (cells graph.now.nodes.items) (input_of_lem inputs.items) net.ports.items net.machines.items net.wires.items) }
+        ensures runs { IfOk result (λ net. RunsOver (λ machine. record {
+          takes = ⟦<NodeMachine as Machine>⟧.takes machine;
+          puts = ⟦<NodeMachine as Machine>⟧.puts machine;
+          broken = ⟦<NodeMachine as Machine>⟧.broken machine;
+          due = ⟦<NodeMachine as Machine>⟧.due machine;
+          selects = ⟦<NodeMachine as Machine>⟧.selects machine;
+        }) (cells graph.now.nodes.items) (input_of_lem inputs.items) net.ports.items net.machines.items net.wires.items) }
+        ensures rooms { IfOk result (λ net. HasRooms (cells graph.now.nodes.items) cap net.rooms.items) }
+        ensures few { IfOk result (λ net. length net.machines.items < 2 ^ 32) }
+    {
+        let mut net = net_of(alloc, graph, cap)?;
+        let nodes = graph.nodes.as_slice();
+        let edges = edge_count(nodes)?;
+        load(
+            alloc,
+            net.wires.as_mut_slice(),
+            nodes,
+            edges,
+            inputs.as_slice(),
+        )?;
+        Ok(net)
+    }
+}
+
+/// Puts the sources' texts on their edges from outside, which are numbered behind the graph's own, of which there are so many.
+fn load(
+    alloc: Global,
+    wires: &mut [Wire],
+    nodes: &[Node],
+    edges: usize,
+    inputs: &[(u32, Vec<u8>)],
+) -> Result<(), Memory>
+    requires counted { edges ≡ length (gives (cells nodes.now)) }
+    requires wired { length wires.old ≡ edges + length nodes.now }
+    requires few { length nodes.now < 2 ^ 32 }
+    requires none { (edge : ℕ) → waiting_on wires.old edge ≡ [] }
+    ensures width { length wires.new ≡ length wires.old }
+    ensures loaded { OnOk result (IsLoaded (cells nodes.now) (input_of_lem inputs.now) wires.new) }
+{
+    for node in 0..nodes.len() {
+        let text = input_of(inputs, node as u32);
+        load_node(alloc, &mut wires[edges + node], &nodes[node].kind, text)?;
+    }
+    Ok(())
+}
+
+/// Puts a node's text on its edge from outside, where it is a source.
+fn load_node(alloc: Global, wire: &mut Wire, kind: &NodeKind, text: &[u8]) -> Result<(), Memory>
+    requires empty { wire.old ≡ [] }
+    ensures source { OnOk result (is_source_lem kind.now ≡ true → AreWhole wire.new text.now) }
+    ensures other { is_source_lem kind.now ≡ false → wire.new ≡ wire.old }
+{
+    if is_source(kind) {
+        fill(alloc, wire, text)
+    } else {
+        Ok(())
+    }
+}
+
+/// Puts a text on an edge on which nothing waits, in pieces, and its end behind it.
+fn fill(alloc: Global, wire: &mut Wire, text: &[u8]) -> Result<(), Memory>
+    requires empty { wire.old ≡ [] }
+    ensures { OnOk result (AreWhole wire.new text.now) }
+{
+    let mut left = text;
+    while !left.is_empty() {
+        let count = left.len().min(MAX_PIECE);
+        let bytes = Vec::from_slice(alloc, &left[..count])?;
+        wire.push(Piece::Bytes(Bytes::new(bytes)))?;
+        left = &left[count..];
+    }
+    wire.push(Piece::End)
+}
+
+/// The text of a node among texts by node number: the first of that number, and where there is none the empty text.
+fn input_of(inputs: &[(u32, Vec<u8>)], node: u32) -> &[u8]
+    ensures { result.now ≡ input_of_lem inputs.now node }
+{
+    for (other, text) in inputs {
+        if *other == node {
+            return text.as_slice();
+        }
+    }
+    &[]
+}

@@ -1,17 +1,39 @@
 -- What a network is at its end (own).
-use Rattle.std.specs.Prelude.{ℕ, Bool, true, false}
+use Rattle.std.specs.Prelude.{◌≡◌, ℕ, List, Bool, true, false, map, slice_get, Option, Some}
+use Rattle.ps_world.specs.Told.{then_bytes, GrewByPrefix, IsEnded}
+use Rattle.fl_graph.specs.Net.{Cell}
+use Rattle.fl_graph.specs.declared.kinds.NodeKind.{NodeKind}
 use Rattle.fl_graph.specs.declared.pieces.Act.{Act}
 use Rattle.fl_graph.specs.declared.pieces.Act.TheVariants as act
-use Rattle.fl_core.specs.declared.engine.Ran.{Ran}
-use Rattle.fl_core.specs.declared.engine.Ran.TheVariants as ran
+use Rattle.fl_classes.specs.Flow.{flow, is_source, only}
+use Rattle.fl_core.specs.Kinds.{is_sink}
+use Rattle.fl_core.specs.Plans.{AreTold}
+use Rattle.fl_core.specs.declared.engine.Ending.{Ending}
+use Rattle.fl_core.specs.declared.engine.Ending.TheVariants as ending
 
 abbrev pub is_stop : Act → Bool
 is_stop (act.Take port) = false
 is_stop (act.Put port) = false
 is_stop act.Stop = true
 
+-- each sink's end has grown by its text of the flow, where the ends of the sources tell theirs
+abbrev pub HasWritten : List (Cell NodeKind) → (ℕ → Option (List ℕ)) → (ℕ → Option (List ℕ)) → (ℕ → Option (List ℕ)) → Type 0
+HasWritten cells left taken taken' =
+    (sources : List (List ℕ)) → AreTold sources cells left → (node : ℕ) (cell : Cell NodeKind) → slice_get cells node ≡ Some cell → is_sink cell.kind ≡ true
+    → taken' node ≡ then_bytes (taken node) (only (map (flow cells sources) cell.ins))
+
+-- likewise by a front of it
+abbrev pub HasWrittenFronts : List (Cell NodeKind) → (ℕ → Option (List ℕ)) → (ℕ → Option (List ℕ)) → (ℕ → Option (List ℕ)) → Type 0
+HasWrittenFronts cells left taken taken' =
+    (sources : List (List ℕ)) → AreTold sources cells left → (node : ℕ) (cell : Cell NodeKind) → slice_get cells node ≡ Some cell → is_sink cell.kind ≡ true
+    → GrewByPrefix (taken node) (taken' node) (only (map (flow cells sources) cell.ins))
+
+-- nothing is left at the end of a source
+abbrev pub HasRead : List (Cell NodeKind) → (ℕ → Option (List ℕ)) → Type 0
+HasRead cells left = (node : ℕ) (cell : Cell NodeKind) → slice_get cells node ≡ Some cell → is_source cell.kind ≡ true → IsEnded (left node)
+
 -- what holds where a run is done, of its status
-abbrev pub OnDone : Ran → (ℕ → Type 0) → Type 0
-OnDone (ran.Done status) holds = holds status
-OnDone (ran.Fault node) holds = Unit {0}
-OnDone ran.Memory holds = Unit {0}
+abbrev pub OnDone : Ending → (ℕ → Type 0) → Type 0
+OnDone (ending.Done status) holds = holds status
+OnDone (ending.Fault node) holds = Unit {0}
+OnDone ending.Memory holds = Unit {0}

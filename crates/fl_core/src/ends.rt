@@ -19,8 +19,10 @@ pub trait NodeEnds {
     ghost reads: { Self → ℕ → Bool };
     /// The nodes that have an end to write.
     ghost writes: { Self → ℕ → Bool };
+    /// The type of what no call changes.
+    ghost Kept: { Type 0 };
     /// What no call changes: the borrows that it holds, by their ghost names, and which ends there are.
-    ghost borrows: { Self → List ℕ };
+    ghost borrows: { Self → Kept };
 
     /// Reads into the front of `buffer` from a source's end, as `Source::read` does.
     fn read(&mut self, node: u32, buffer: &mut [u8]) -> Result<usize, WorldErr>

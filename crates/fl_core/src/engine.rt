@@ -1,14 +1,13 @@
 //! The engine of one thread.
-ghost use Rattle.std.specs.Prelude.{◌≡◌, ◌<◌, ◌≤◌, ◌^◌, ◌∷◌, [], ℕ, List, true, length, map, slice_get, Some, IfOk};
+ghost use Rattle.std.specs.Prelude.{◌≡◌, ◌<◌, ◌≤◌, ℕ, List, true, length, slice_get, Some, IfOk};
 ghost use Rattle.ps_world.specs.Counts.{Rose};
-ghost use Rattle.ps_world.specs.Told.{then_bytes, GrewByPrefix, IsEnded};
 ghost use Rattle.fl_graph.specs.Cells.{cells};
 ghost use Rattle.fl_graph.specs.Net.{Cell};
 ghost use Rattle.fl_graph.specs.Valid.{Valid};
 ghost use Rattle.fl_graph.specs.declared.kinds.NodeKind.{NodeKind};
 ghost use Rattle.fl_graph.specs.declared.pieces.TheConstants.{MAX_PIECE};
-ghost use Rattle.fl_classes.specs.Flow.{flow, is_source, only, outcome};
-ghost use Rattle.fl_core.specs.Ends.{OnDone};
+ghost use Rattle.fl_classes.specs.Flow.{is_source, outcome};
+ghost use Rattle.fl_core.specs.Ends.{HasRead, HasWritten, HasWrittenFronts, OnDone};
 ghost use Rattle.fl_core.specs.Kinds.{are_run, is_sink};
 ghost use Rattle.fl_core.specs.Plans.{AreTold};
 
@@ -21,7 +20,7 @@ use std::alloc::Global;
 
 /// What came of a run.
 #[derive(Clone, Copy, Debug, PartialEq, Eq)]
-pub enum Ran {
+pub enum Ending {
     /// The graph has run to its end, with this exit status.
     Done(u8),
     /// The end of this node failed.
@@ -35,48 +34,43 @@ pub enum Ran {
 /// Done comes where each node has stopped: each sink's end has grown by its text of the graph's flow, each source's end is read to its
 /// end, and the status is the graph's. A node's end that fails ends the run at once, so no other has failed then. After a fault and after
 /// Memory each sink's end has grown by a front of its text. A graph of 2^32 nodes or more wants memory.
-pub fn run_in_turn<E: NodeEnds>(alloc: Global, graph: &Graph, ends: &mut E) -> Ran
+pub fn run_over_ends<E: NodeEnds>(alloc: Global, graph: &Graph, ends: &mut E) -> Ending
     requires valid { Valid (cells graph.now.nodes.items) graph.now.status }
     requires kinds { are_run (cells graph.now.nodes.items) ≡ true }
     requires reads { (node : ℕ) (cell : Cell NodeKind) → slice_get (cells graph.now.nodes.items) node ≡ Some cell → is_source cell.kind ≡ true → E.reads ends.old node ≡ true }
     requires writes { (node : ℕ) (cell : Cell NodeKind) → slice_get (cells graph.now.nodes.items) node ≡ Some cell → is_sink cell.kind ≡ true → E.writes ends.old node ≡ true }
-    ensures written { OnDone result (λ _. (sources : List (List ℕ)) → AreTold sources (cells graph.now.nodes.items) (E.left ends.old) →
-        (node : ℕ) (cell : Cell NodeKind) → slice_get (cells graph.now.nodes.items) node ≡ Some cell → is_sink cell.kind ≡ true →
-        E.taken ends.new node ≡ then_bytes (E.taken ends.old node) (only (map (flow (cells graph.now.nodes.items) sources) cell.ins))) }
-    ensures read { OnDone result (λ _. (node : ℕ) (cell : Cell NodeKind) → slice_get (cells graph.now.nodes.items) node ≡ Some cell → is_source cell.kind ≡ true →
-        IsEnded (E.left ends.new node)) }
+    ensures written { OnDone result (λ _. HasWritten (cells graph.now.nodes.items) (E.left ends.old) (E.taken ends.old) (E.taken ends.new)) }
+    ensures read { OnDone result (λ _. HasRead (cells graph.now.nodes.items) (E.left ends.new)) }
     ensures status { OnDone result (λ status. (sources : List (List ℕ)) → AreTold sources (cells graph.now.nodes.items) (E.left ends.old) →
         status ≡ (outcome graph.now sources).status) }
-    ensures front { (sources : List (List ℕ)) → AreTold sources (cells graph.now.nodes.items) (E.left ends.old) →
-        (node : ℕ) (cell : Cell NodeKind) → slice_get (cells graph.now.nodes.items) node ≡ Some cell → is_sink cell.kind ≡ true →
-        GrewByPrefix (E.taken ends.old node) (E.taken ends.new node) (only (map (flow (cells graph.now.nodes.items) sources) cell.ins)) }
-    ensures fault { (node : ℕ) → result ≡ Ran.Fault node → Rose (E.faults ends.old node) (E.faults ends.new node) }
-    ensures others { (node : ℕ) → (result ≡ Ran.Fault node → ⊥) → E.faults ends.new node ≡ E.faults ends.old node }
+    ensures front { HasWrittenFronts (cells graph.now.nodes.items) (E.left ends.old) (E.taken ends.old) (E.taken ends.new) }
+    ensures fault { (node : ℕ) → result ≡ Ending.Fault node → Rose (E.faults ends.old node) (E.faults ends.new node) }
+    ensures others { (node : ℕ) → (result ≡ Ending.Fault node → ⊥) → E.faults ends.new node ≡ E.faults ends.old node }
     ensures later { (node : ℕ) → E.faults ends.old node ≤ E.faults ends.new node }
     ensures borrows { E.borrows ends.new ≡ E.borrows ends.old }
 {
     // A node's number has 32 bits.
     if graph.nodes.len() > u32::MAX as usize {
-        return Ran::Memory;
+        return Ending::Memory;
     }
     let mut net = match net_of(alloc, graph, Some(ROOM)) {
         Ok(net) => net,
-        Err(_refused) => return Ran::Memory,
+        Err(_refused) => return Ending::Memory,
     };
     let mut buffer = match piece_buffer(alloc) {
         Ok(buffer) => buffer,
-        Err(_refused) => return Ran::Memory,
+        Err(_refused) => return Ending::Memory,
     };
     match net.run(alloc, ends, buffer.as_mut_slice()) {
         Ok(()) => {}
-        Err(Halt::Fault(node)) => return Ran::Fault(node),
-        Err(Halt::Memory) => return Ran::Memory,
+        Err(Halt::Fault(node)) => return Ending::Fault(node),
+        Err(Halt::Memory) => return Ending::Memory,
     }
     // A valid graph is never stuck, so that each machine has stopped here. It isn't proved, and no other answer is true.
     if !net.has_finished() {
-        return Ran::Memory;
+        return Ending::Memory;
     }
-    Ran::Done(net.status(&graph.status))
+    Ending::Done(net.status(&graph.status))
 }
 
 /// Room for one piece.

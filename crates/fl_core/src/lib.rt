@@ -1,6 +1,6 @@
 //! The engine of one thread.
 //!
-//! `run_in_turn` runs a graph over the ends of its nodes: each node is a machine, each edge a queue of pieces, and the nodes have their
+//! `run_over_ends` runs a graph over the ends of its nodes: each node is a machine, each edge a queue of pieces, and the nodes have their
 //! turns in order until no piece moves. What is said of it holds of any order of steps, so an engine of threads can stand on the same
 //! laws. `Net::new` and `Net::step` run a graph over texts, one step at a time, in an order of the caller's own.
 //!
@@ -25,7 +25,7 @@ mod steps;
 mod wires;
 
 pub use ends::NodeEnds;
-pub use engine::{Ran, run_in_turn};
+pub use engine::{Ending, run_over_ends};
 pub use graph_nets::net_of;
 pub use kinds::{are_run, is_run};
 pub use machines::{NodeMachine, node_machine};

@@ -13,7 +13,7 @@ ghost use Rattle.pash.specs.Runs.{CopyStops, Stops};
 use crate::answers::{Stop, of_tree};
 use crate::count::Count;
 use crate::first_graph::first_graph;
-use fl_core::{NodeEnds, Ran, run_in_turn};
+use fl_core::{Ending, NodeEnds, run_over_ends};
 use fl_graph::Graph;
 use ps_world::{Path, Sink, Source, Tree, WorldErr, write_all};
 use std::alloc::Global;
@@ -38,6 +38,8 @@ impl<'a, 'b, R: Source, O: Sink> NodeEnds for FirstEnds<'a, 'b, R, O> {
     ghost reads = { λ ends node. (node == 0) && is_some ends.reader.now };
 
     ghost writes = { λ ends node. node == ends.sink };
+
+    ghost Kept = { List ℕ };
 
     ghost borrows = { λ ends. ends.reader.ghost_name ∷ ends.out.ghost_name ∷ ends.sink ∷ (if is_some ends.reader.now then 1 else 0) ∷ [] };
 
@@ -196,10 +198,10 @@ fn run_ends<R: Source, O: Sink>(
     ensures cause { CopyStops (option_map_or R.faults ends.old.reader.now 0) (option_map_or R.faults ends.new.reader.now 0)
         (O.faults ends.old.out.now) (O.faults ends.new.out.now) result }
 {
-    match run_in_turn(alloc, graph, ends) {
-        Ran::Done(_) => Ok(()),
-        Ran::Fault(0) => Err(Stop::Tree),
-        Ran::Fault(_) => Err(Stop::Write),
-        Ran::Memory => Err(Stop::Memory),
+    match run_over_ends(alloc, graph, ends) {
+        Ending::Done(_) => Ok(()),
+        Ending::Fault(0) => Err(Stop::Tree),
+        Ending::Fault(_) => Err(Stop::Write),
+        Ending::Memory => Err(Stop::Memory),
     }
 }

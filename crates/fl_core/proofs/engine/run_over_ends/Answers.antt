@@ -4,7 +4,7 @@ use Rattle.fl_classes.specs.Flow.{selections}
 use Rattle.fl_core.proofs.EndLemmas.{drained_at}
 use Rattle.fl_core.proofs.EngineLemmas.{halted_front, reached_front, reached_whole, done_reads, done_writes, done_selects, done_counted}
 use Rattle.fl_core.proofs.StartLemmas.{net_under_way}
-use Rattle.fl_core.proofs.engine.run_in_turn.Goals as goal
+use Rattle.fl_core.proofs.engine.run_over_ends.Goals as goal
 
 pub returns-then-len-clause-front : goal.returns-then-len-clause-front
 returns-then-len-clause-front g c = λ sources told node cell at sink. grew_by_nothing _ _

@@ -20,3 +20,6 @@ pub mod RunLemmas
 pub mod OuterLemmas
 pub mod GraphNetLemmas
 pub mod EngineLemmas
+pub mod RoleLemmas
+pub mod EndListLemmas
+pub mod OutputLemmas

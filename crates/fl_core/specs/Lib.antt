@@ -8,3 +8,5 @@ pub mod Points
 pub mod Ends
 pub mod Starts
 pub mod Inputs
+pub mod EndLists
+pub mod Roles

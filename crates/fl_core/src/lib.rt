@@ -1,14 +1,18 @@
 //! The engine of one thread.
 //!
-//! `run_over_ends` runs a graph over the ends of its nodes: each node is a machine, each edge a queue of pieces, and the nodes have their
-//! turns in order until no piece moves. What is said of it holds of any order of steps, so an engine of threads can stand on the same
-//! laws. `Net::new` and `Net::step` run a graph over texts, one step at a time, in an order of the caller's own.
+//! `run_in_turn` runs a graph over lists of its nodes' ends, and `run_over_ends` over whatever reads and writes by the number of a node.
+//! Each node is a machine, each edge a queue of pieces, and the nodes have their turns in order until no piece moves. What is said of it
+//! holds of any order of steps, so an engine of threads can stand on the same laws. `Net::new` and `Net::step` run a graph over texts, one
+//! step at a time, in an order of the caller's own.
 //!
 //! `specs/Laws.antt` says what the pieces on a graph's edges carry, `specs/Steps.antt` what comes of a step, `specs/Runs.antt` and
 //! `specs/Points.antt` how far a network has run, `specs/Inputs.antt` what a network over texts is, and `specs/Kinds.antt` which nodes the
 //! engine runs.
 #![tactic(auto)]
 
+#[cfg(test)]
+mod end_list_tests;
+mod end_lists;
 mod ends;
 mod engine;
 mod finish;
@@ -20,10 +24,13 @@ mod machines;
 #[cfg(test)]
 mod net_tests;
 mod nets;
+mod numbered_ends;
 mod outside;
+mod roles;
 mod steps;
 mod wires;
 
+pub use end_lists::{Ends, Ran, run_in_turn};
 pub use ends::NodeEnds;
 pub use engine::{Ending, run_over_ends};
 pub use graph_nets::net_of;
@@ -31,5 +38,6 @@ pub use kinds::{are_run, is_run};
 pub use machines::{NodeMachine, node_machine};
 pub use nets::{Net, Ports};
 pub use outside::Halt;
+pub use roles::have_ends;
 pub use steps::Progress;
 pub use wires::Wire;

@@ -5,3 +5,4 @@ pub mod ValueLemmas
 pub mod WordLemmas
 pub mod FieldLemmas
 pub mod LawLemmas
+pub mod UniqueLemmas

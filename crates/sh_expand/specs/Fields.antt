@@ -54,6 +54,14 @@ pub data PatternIn (given : Given) : Variables → List WordTree → Bool → Va
 abbrev pub IsOutside : ExpandFault → Type 0
 IsOutside why = (why ≡ fault.Memory) ⊎ (why ≡ fault.Failed)
 
+-- the fault is one that the words mean: a parameter that is unset, or an expression without a value
+abbrev pub IsMeant : ExpandFault → Type 0
+IsMeant (fault.Unset name text) = Unit {0}
+IsMeant (fault.Arith why) = Unit {0}
+IsMeant fault.ArgsTooMany = ⊥
+IsMeant fault.Failed = ⊥
+IsMeant fault.Memory = ⊥
+
 -- the fault comes from the words alone
 abbrev pub IsOfWords : ExpandFault → Type 0
 IsOfWords (fault.Unset name text) = Unit {0}

@@ -35,12 +35,11 @@ has_end-behind (first ∷ front) back ended = by_test (is_end first) (has_end-be
     by_test false is = is
 
 -- a step goes on with a run over texts
-pub steps_over : {Machine : Type 0} (state : Machine → State) (cells : List (Cell NodeKind)) (inputs : ℕ → List ℕ) (ports : List Ports) (machines machines' : List Machine)
-    (wires wires' : List (List Piece)) (result : Result Progress Memory)
+pub steps_over : {Machine : Type 0} (state : Machine → State) (ports : List Ports) (machines machines' : List Machine) (wires wires' : List (List Piece)) (result : Result Progress Memory)
     → IfOk result (λ _. (left taken : ℕ → Option (List ℕ)) → Leads state ports machines machines' wires wires' left left taken taken)
     → length machines' ≡ length machines → length wires' ≡ length wires
-    → RunsOver state cells inputs ports machines wires → IfOk result (λ _. RunsOver state cells inputs ports machines' wires')
-steps_over state cells inputs ports machines machines' wires wires' (Ok step) leads counted width runs = record {
+    → IfOk result (λ _. (cells : List (Cell NodeKind)) (inputs : ℕ → List ℕ) → RunsOver state cells inputs ports machines wires → RunsOver state cells inputs ports machines' wires')
+steps_over state ports machines machines' wires wires' (Ok step) leads counted width = λ cells inputs runs. record {
   goes = record {
     plan = runs.goes.plan;
     wired = runs.goes.wired;
@@ -52,7 +51,7 @@ steps_over state cells inputs ports machines machines' wires wires' (Ok step) le
   told = runs.told;
   untaken = runs.untaken;
 }
-steps_over state cells inputs ports machines machines' wires wires' (Err memory) leads counted width runs = tt
+steps_over state ports machines machines' wires wires' (Err memory) leads counted width = tt
 
 module _ {Machine : Type 0} (state : Machine → State) (cells : List (Cell NodeKind)) (status : StatusRule) (valid : Valid cells status) (inputs : ℕ → List ℕ)
     (ports : List Ports) (machines : List Machine) (wires : List (List Piece)) (runs : RunsOver state cells inputs ports machines wires)

@@ -47,3 +47,10 @@ module _ {Machine : Type 0} (state : Machine → State) (cells : List (Cell Node
     pub counted : length machines ≡ length cells
     pub told : (node : ℕ) → goes.plan.left node ≡ Some (inputs node)
     pub untaken : (node : ℕ) → goes.plan.taken node ≡ Some []
+
+-- it runs over the texts of some graph: all that a step asks of any node
+pub record CanStep {Machine : Type 0} (state : Machine → State) (ports : List Ports) (machines : List Machine) (wires : List (List Piece)) : Type 0 where
+  pub cells : List (Cell NodeKind)
+  pub inputs : ℕ → List ℕ
+  pub over : RunsOver state cells inputs ports machines wires
+  pub all_ports : length ports ≡ length machines

@@ -62,14 +62,15 @@ impl<M: Machine> Net<M> {
             result ≡ Ok Progress.Starves → (machine : M) (own : Port) → slice_get self.new.machines.items node ≡ Some machine → slice_get self.new.ports.items node ≡ Some own →
             Starves (state machine) own.ins.items self.new.wires.items }
         ensures over { let state : M → State = λ machine. record { takes = M.takes machine; puts = M.puts machine; broken = M.broken machine; due = M.due machine; selects = M.selects machine } in
-            (cells : List (Cell NodeKind)) (inputs : ℕ → List ℕ) → RunsOver state cells inputs self.old.ports.items self.old.machines.items self.old.wires.items →
-            IfOk result (λ _. RunsOver state cells inputs self.new.ports.items self.new.machines.items self.new.wires.items) }
+            IfOk result (λ _. (cells : List (Cell NodeKind)) (inputs : ℕ → List ℕ) →
+            RunsOver state cells inputs self.old.ports.items self.old.machines.items self.old.wires.items →
+            RunsOver state cells inputs self.new.ports.items self.new.machines.items self.new.wires.items) }
         ensures shut { result ≡ Ok Progress.Ended → (machine : M) → slice_get self.new.machines.items node ≡ Some machine →
             ((port : ℕ) → M.takes machine port ≡ false) × ((port : ℕ) → M.puts machine port ≡ false) }
-        ensures answer { (machine : M) (own : Port) → slice_get self.old.machines.items node ≡ Some machine → slice_get self.old.ports.items node ≡ Some own →
-            IfOk result (λ step. step ≡ progress_at (M.act machine) own.ins.items own.outs.items self.old.rooms.items self.old.wires.items) }
-        ensures memory { (machine : M) (own : Port) → slice_get self.old.machines.items node ≡ Some machine → slice_get self.old.ports.items node ≡ Some own →
-            OnErr result (has_moved (progress_at (M.act machine) own.ins.items own.outs.items self.old.rooms.items self.old.wires.items) ≡ true) }
+        ensures answer { IfOk result (λ step. (machine : M) (own : Port) → slice_get self.old.machines.items node ≡ Some machine → slice_get self.old.ports.items node ≡ Some own →
+            step ≡ progress_at (M.act machine) own.ins.items own.outs.items self.old.rooms.items self.old.wires.items) }
+        ensures memory { OnErr result ((machine : M) (own : Port) → slice_get self.old.machines.items node ≡ Some machine → slice_get self.old.ports.items node ≡ Some own →
+            has_moved (progress_at (M.act machine) own.ins.items own.outs.items self.old.rooms.items self.old.wires.items) ≡ true) }
         ensures same { IfOk result (λ step. has_moved step ≡ false → (self.new.machines.items ≡ self.old.machines.items) × (self.new.wires.items ≡ self.old.wires.items)) }
         ensures ports { self.new.ports ≡ self.old.ports }
         ensures machines { length self.new.machines.items ≡ length self.old.machines.items }

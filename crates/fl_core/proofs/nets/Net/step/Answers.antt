@@ -31,6 +31,6 @@ returns-clause-same g c =
     (search rules)
 
 pub returns-clause-over : goal.returns-clause-over
-returns-clause-over g c = λ cells inputs.
-    steps_over _ cells inputs c.args.self.now.ports.items c.args.self.now.machines.items _ c.args.self.now.wires.items _ c.step.result (returns-clause-leads g c) (search rules)
+returns-clause-over g c =
+    steps_over _ c.args.self.now.ports.items c.args.self.now.machines.items _ c.args.self.now.wires.items _ c.step.result (returns-clause-leads g c) (search rules)
     (ap (λ (wires : List (List Piece)). length wires) (written_back c.args.self.now.wires.items c.step.new.wires c.args.self.now.wires.len (search rules) (search rules)) ∙ (search rules))

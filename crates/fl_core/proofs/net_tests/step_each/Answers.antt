@@ -1,0 +1,30 @@
+use Rattle.std.proofs.Common.{ap, sym, ◌∙◌, [], Some, length}
+use Rattle.std.specs.Global.{Vec}
+use Rattle.fl_core.specs.declared.nets.Ports.{Ports}
+use Rattle.fl_core.proofs.GraphNetLemmas.{state_of}
+use Rattle.fl_core.proofs.NetLemmas.{goes_whole, goes_plain, goes_fits}
+use Rattle.fl_core.proofs.net_tests.step_each.Goals as goal
+
+pub step-requires-clause-whole : goal.step-requires-clause-whole
+step-requires-clause-whole c =
+    goes_whole state_of c.loop-node.net.ports.items c.loop-node.net.machines.items c.loop-node.net.wires.items (λ node. Some []) (λ node. Some []) c.loop-node.invariant.1.over.goes c.loop-node.node
+
+pub step-requires-clause-plain : goal.step-requires-clause-plain
+step-requires-clause-plain c =
+    goes_plain state_of c.loop-node.net.ports.items c.loop-node.net.machines.items c.loop-node.net.wires.items (λ node. Some []) (λ node. Some []) c.loop-node.invariant.1.over.goes
+
+pub step-requires-clause-fits : goal.step-requires-clause-fits
+step-requires-clause-fits c =
+    goes_fits state_of c.loop-node.net.ports.items c.loop-node.net.machines.items c.loop-node.net.wires.items (λ node. Some []) (λ node. Some []) c.loop-node.invariant.1.over.goes c.loop-node.node
+
+pub loop-node-preserved : goal.loop-node-preserved
+loop-node-preserved c =
+    let before = c.loop-node.invariant.1 in (
+      c.step.ensures.machines ∙ c.loop-node.invariant.0,
+      record {
+        cells = before.cells;
+        inputs = before.inputs;
+        over = c.in-Ok.ensures.over before.cells before.inputs before.over;
+        all_ports = ap (λ (ports : Vec Ports). length ports.items) c.step.ensures.ports ∙ before.all_ports ∙ sym c.step.ensures.machines;
+      },
+    )

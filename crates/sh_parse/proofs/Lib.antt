@@ -10,3 +10,5 @@ pub mod Lists
 pub mod Arounds
 pub mod Walks
 pub mod Spellings
+pub mod Behinds
+pub mod OneList

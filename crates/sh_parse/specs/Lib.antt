@@ -8,3 +8,5 @@ pub mod Building
 pub mod Trees
 pub mod Built
 pub mod Kinds
+pub mod Texts
+pub mod Behind

@@ -1,9 +1,11 @@
 //! Laws of the definitions that belong to no single call.
-ghost use Rattle.std.specs.Prelude.{◌≡◌, ℕ};
+ghost use Rattle.std.specs.Prelude.{◌≡◌, ℕ, List};
 ghost use Rattle.sh_tree.specs.Trees.{ScriptTree};
 ghost use Rattle.sh_parse.specs.Grammar.{Reads};
 ghost use Rattle.sh_parse.specs.Pieces.{WordViews};
 ghost use Rattle.sh_parse.specs.Stops.{HasOneOutcome};
+ghost use Rattle.sh_parse.specs.Texts.{HasItems};
+ghost use Rattle.sh_parse.specs.declared.items.Item as item;
 
 use crate::items::Item;
 
@@ -20,4 +22,11 @@ pub fn one_outcome(items: &[Item])
     ensures { (views : WordViews) → HasOneOutcome views items.now }
 {
     let _ = items;
+}
+
+/// A text has at most one list of items.
+pub fn one_list_of_items(text: &[u8])
+    ensures { (one other : List item.Item) → HasItems text.now one → HasItems text.now other → one ≡ other }
+{
+    let _ = text;
 }

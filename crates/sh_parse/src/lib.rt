@@ -22,6 +22,7 @@ mod readers;
 mod refusals;
 #[cfg(test)]
 mod tests;
+mod texts;
 
 pub use checking::check;
 pub use items::{Item, MAX_LEVELS, Reserved, Span, WordKind};
@@ -29,3 +30,4 @@ pub use kinds::word_kind;
 pub use parsing::parse_items;
 pub use readers::WordReader;
 pub use refusals::{GrammarRefusal, Refusal};
+pub use texts::{items_of, read_items};

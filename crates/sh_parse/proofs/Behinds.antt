@@ -9,7 +9,6 @@ use Rattle.sh_lex.specs.declared.lexing.marks.Mark.{Mark}
 use Rattle.sh_lex.specs.declared.lexing.marks.Mark.TheVariants as mark
 use Rattle.sh_parse.specs.Texts.{word_item, word_end, items_of}
 use Rattle.sh_parse.specs.Behind.{open_ends, IsBehind}
-use Rattle.sh_parse.specs.declared.items.Item.{Item}
 use Rattle.sh_parse.specs.declared.texts.Behind.{Behind}
 
 -- a word inside which words are open has the next of the ends

@@ -3,6 +3,8 @@ ghost use Rattle.std.specs.Prelude.{◌≡◌, IfOk, false};
 ghost use Rattle.sh_tree.specs.Trees.{part, substitution, no_part};
 ghost use Rattle.sh_tree.specs.Views.{word_tree};
 
+mod texts;
+
 use crate::{
     GrammarRefusal, Item, Refusal, Reserved, Span, WordKind, WordReader, check, parse_items,
     word_kind,

@@ -1,4 +1,4 @@
-use Rattle.std.proofs.Common.{rules, ◌∷◌}
+use Rattle.std.proofs.Common.{rules}
 use Rattle.sh_parse.proofs.Behinds.{word_begun}
 use Rattle.sh_parse.proofs.texts.Behind.pass.Goals as goal
 

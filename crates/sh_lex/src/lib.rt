@@ -30,6 +30,8 @@ mod words;
 
 pub use bytes::{is_name_byte, is_name_start};
 pub use lexing::{MAX_SCRIPT, Mark, lex, read_marks};
+pub use parts::{Fault, Head, Nest, Part, Spelling, Spot};
+pub use reading::{Stop, past_construct};
 pub use refusals::{LexRefusal, Static};
 pub use texts::front;
 pub use tokens::{Op, Token, TokenKind};

@@ -1,0 +1,5 @@
+pub mod RunLemmas
+pub mod BuildingLemmas
+pub mod Shrinking
+pub mod ReadLemmas
+pub mod Readings

@@ -1,0 +1,14 @@
+use Rattle.std.proofs.Common.{◌≡◌, ℕ, List, ◌∷◌, ◌++◌, length}
+use Rattle.sh_lex.specs.Bytes.{is_digit}
+use Rattle.sh_words.specs.Parameters.{run, behind_run, place_value}
+use Rattle.sh_words.proofs.runs.place.Given as goal
+
+-- the digits so far, and those to come
+abbrev pub invariant-loop-byte : goal.invariant-loop-byte
+invariant-loop-byte l = record {
+  value : (digits : List ℕ) × ((l.value ≡ place_value digits) × (digits ++ run is_digit l.rest ≡ l.first ∷ run is_digit l.text));
+  behind : behind_run is_digit l.rest ≡ behind_run is_digit l.text;
+}
+
+abbrev pub decreases-loop-byte : goal.decreases-loop-byte
+decreases-loop-byte l = length l.rest

@@ -1,0 +1,5 @@
+pub mod Pieces
+pub mod Steps
+pub mod Parameters
+pub mod Words
+pub mod Built

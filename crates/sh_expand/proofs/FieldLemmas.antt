@@ -109,6 +109,20 @@ pub names_end : (held : Option Files) (home : Components) (whole fields : List (
 names_end None home whole fields start new over go = tt
 names_end (Some files) home whole fields start new over go = rw append-nil at (go [] (rw over no_field))
 
+-- where no field that is left has a pattern byte, neither the first has one nor the others
+pub neither : (one other : Bool) → (one || other) ≡ false → (one ≡ false) × (other ≡ false)
+neither true other e = absurd cc
+neither false other e = (refl, e)
+
+pub unasked_step : {Tree : Type 0} (was here now : Tree) (whole fields rest : List (List Marked)) (field : List Marked) → fields ≡ field ∷ rest
+    → (has_pattern field ≡ false → now ≡ here)
+    → (list_any has_pattern whole ≡ false → (here ≡ was) × (list_any has_pattern fields ≡ false))
+    → list_any has_pattern whole ≡ false → (now ≡ was) × (list_any has_pattern rest ≡ false)
+unasked_step was here now whole fields rest field front stays go plain =
+    let so = go plain in
+    let each = neither (has_pattern field) (list_any has_pattern rest) (subst (λ (all : List (List Marked)). list_any has_pattern all ≡ false) front so.1) in
+    (stays each.0 ∙ so.0, each.1)
+
 word_fields_held : (held : Option Files) (home : Components) (given : Given) (before after : Variables) (word : WordTree) (marks : List Marked) (old new : List (List ℕ)) → HasMarks given before word marks after
     → IfSome held (λ (files : Files). Appends (λ (names : List (List ℕ)). AreNames files home (split (ifs_of after) marks) names) old new)
     → IfSome held (λ (files : Files). Appends (λ (names : List (List ℕ)). WordFields files home given before word names after) old new)
@@ -173,7 +187,7 @@ or_joined : (found here more : Bool) → (found || (here || more)) ≡ ((found |
 or_joined true here more = refl
 or_joined false here more = refl
 
-or_nothing_more : (found : Bool) → (found || false) ≡ found
+pub or_nothing_more : (found : Bool) → (found || false) ≡ found
 or_nothing_more true = refl
 or_nothing_more false = refl
 

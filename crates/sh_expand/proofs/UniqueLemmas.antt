@@ -19,6 +19,7 @@ use Rattle.sh_pattern.specs.PathExpansion.{IsAmong, AreNamed, Expands, unlooked,
 use Rattle.sh_pattern.proofs.ReadingLemmas.{one_reading}
 use Rattle.sh_tree.specs.Trees.{WordTree, PartTree, plain, quoted, parameter, substitution, arithmetic, FormTree, bare as bare_form, length_of, default, assign, check_omitted, check, alternate, cut_suffix, cut_prefix}
 use Rattle.sh_tree.specs.declared.words.Param.{Param}
+use Rattle.sh_expand.proofs.FieldLemmas.{neither, or_nothing_more}
 use Rattle.sh_expand.specs.declared.faults.ExpandFault.{ExpandFault}
 use Rattle.sh_expand.specs.declared.faults.ExpandFault.TheVariants as fault
 use Rattle.sh_expand.specs.declared.faults.ValueFault.{ValueFault}
@@ -34,7 +35,7 @@ use Rattle.sh_expand.specs.Parameters.{ifs_of, or_nothing}
 use Rattle.sh_expand.specs.Splitting.{split}
 use Rattle.sh_expand.specs.Trims.{FitsAt, IsBest, left_of, Cuts, cut, whole}
 use Rattle.sh_expand.specs.Values.{Outcome, at_once, needs, Trims, trims, Computes, computes, fails, short, short_at_last, FormEnds, left_by, Ends, text_in, WordGives, no_more, one_more, first_stops, later_stops, PartGives, told_at_once, by_its_word, its_word_stops, no_memory, none_after_its_word}
-use Rattle.sh_expand.specs.Fields.{HasMarks, AreNames, no_field, next_field, AreFields, no_word, next_word, Pass, all_passed, passes, PatternIn, in_none, in_words, WordStops, word_stops, fails_behind, Stop, stops_here, stops_later, fails_here, too_many, IsOutside, IsMeant, TextGives, has_text, TextStops, text_stops, text_short}
+use Rattle.sh_expand.specs.Fields.{HasMarks, AreNames, no_field, next_field, AreFields, no_word, next_word, Pass, all_passed, passes, PatternIn, in_none, in_words, WordStops, word_stops, fails_behind, Stop, stops_here, stops_later, fails_here, too_many, HasSomeMarks, IsOutside, IsMeant, TextGives, has_text, TextStops, text_stops, text_short}
 
 -- Cuts
 
@@ -282,6 +283,43 @@ one_finding {given} {later = later} (in_words {words = words} x more) (in_words 
     let same = one_has x y in
     let tails = one_finding more (subst (λ v. PatternIn given v words next later) (sym same.left) rest) in
     (ap₂ (λ (a : Bool) (b : Bool). a || b) (ap₂ (λ (v : Variables) (m : List Marked). list_any has_pattern (split (ifs_of v) m)) same.left same.what) tails.0, tails.1)
+
+-- Words without a pattern byte
+
+-- the first word has none in the fields of its marks, whichever way it has them, nor have the others behind it
+pub first_plain : {given : Given} {before between after : Variables} {word : WordTree} {words : List WordTree} {marks : List Marked} {found : Bool} → HasMarks given before word marks between → PatternIn given before (word ∷ words) found after → found ≡ false
+    → (list_any has_pattern (split (ifs_of between) marks) ≡ false) × PatternIn given between words false after
+first_plain {given} {after = after} x (in_words {between = beyond} {words = words} {marks = others} {found = found} y rest) none =
+    let same = one_has x y in
+    let each = neither (list_any has_pattern (split (ifs_of beyond) others)) found none in
+    let here = ap₂ (λ (v : Variables) (m : List Marked). list_any has_pattern (split (ifs_of v) m)) same.left same.what in
+    let behind = subst (λ (b : Bool). PatternIn given beyond words b after) each.1 rest in
+    (here ∙ each.0, subst (λ (v : Variables). PatternIn given v words false after) (sym same.left) behind)
+
+-- the first word alone has none
+alone : {given : Given} {before after : Variables} {word : WordTree} {words : List WordTree} {found : Bool} → PatternIn given before (word ∷ words) found after → found ≡ false → (between : Variables) × PatternIn given before (word ∷ []) false between
+alone {given} {before} {word = word} (in_words {between = between} {marks = marks} {found = found} x rest) none =
+    let here = list_any has_pattern (split (ifs_of between) marks) in
+    let each = neither here found none in
+    (between, subst (λ (b : Bool). PatternIn given before (word ∷ []) b between) (or_nothing_more here ∙ each.0) (in_words x in_none))
+
+-- so a call that leaves a tree as it was at such a word does so behind others that did
+pub untouched_here : {Tree : Type 0} (was here now : Tree) (given : Given) (begin before : Variables) (all left words : List WordTree) (word : WordTree) → left ≡ word ∷ words
+    → ((after : Variables) → PatternIn given before (word ∷ []) false after → now ≡ here)
+    → ((after : Variables) → PatternIn given begin all false after → (here ≡ was) × PatternIn given before left false after)
+    → (after : Variables) → PatternIn given begin all false after → now ≡ was
+untouched_here was here now given begin before all left words word front stays go after none =
+    let so = go after none in
+    let one = alone (subst (λ (these : List WordTree). PatternIn given before these false after) front so.1) refl in
+    stays one.0 one.1 ∙ so.0
+
+pub untouched_step : {Tree : Type 0} (was here now : Tree) (given : Given) (begin before between : Variables) (all left words : List WordTree) (word : WordTree) → left ≡ word ∷ words → HasSomeMarks given before word between
+    → ((after : Variables) → PatternIn given before (word ∷ []) false after → now ≡ here)
+    → ((after : Variables) → PatternIn given begin all false after → (here ≡ was) × PatternIn given before left false after)
+    → (after : Variables) → PatternIn given begin all false after → (now ≡ was) × PatternIn given between words false after
+untouched_step was here now given begin before between all left words word front has stays go after none =
+    let these = subst (λ (these : List WordTree). PatternIn given before these false after) front (go after none).1 in
+    (untouched_here was here now given begin before all left words word front stays go after none, (first_plain has.1 these refl).1)
 
 pub fields_pass : {files : Files} {home : Components} {given : Given} {before after : Variables} {words : List WordTree} {fields : List (List ℕ)} → AreFields files home given before words fields after → Pass given before words after
 fields_pass no_word = all_passed

@@ -4,6 +4,7 @@ ghost use Rattle.std.specs.Prelude.{◌≡◌, ◌++◌, ◌∷◌, [], ◌<◌,
 ghost use Rattle.std.specs.List.{list_any};
 ghost use Rattle.ps_lines.specs.Texts.{texts_of};
 ghost use Rattle.ps_world.specs.Counts.{Counts};
+ghost use Rattle.sh_arith.specs.Variables.{Variables};
 ghost use Rattle.sh_pattern.specs.PathExpansion.{Expands};
 ghost use Rattle.sh_tree.specs.Views.{word_tree};
 ghost use Rattle.sh_expand.specs.Marks.{bare as bare_lem, has_pattern as has_pattern_lem, pattern_of as pattern_of_lem};
@@ -120,6 +121,8 @@ fn is_pattern_in(fields: &[Vec<Marked>]) -> bool
 ///
 /// Unset and Arith are told for the first part that has such a fault. ArgsTooMany is told where there are more than MAX_FIELDS fields,
 /// and neither of these faults. Failed is told where the tree failed. After a fault the variables have what was assigned before it.
+///
+/// Where `has_pattern` is false of the words, the tree stays as it was.
 pub fn expand<T: Tree>(
     alloc: Global,
     words: &[Word],
@@ -133,6 +136,7 @@ pub fn expand<T: Tree>(
     ensures many { IsErrOf result ExpandFault.ArgsTooMany → IfSome (T.state tree.old).held (λ files.
         TooMany MAX_FIELDS (λ fields. AreFields files (T.state tree.old).home (frame_given frame.old) frame.old.env.now (map word_tree words.now) fields frame.new.env.now)) }
     ensures fault { IfErr result (λ fault. Stop (frame_given frame.old) frame.old.env.now (map word_tree words.now) fault frame.new.env.now) }
+    ensures unasked { (after : Variables) → PatternIn (frame_given frame.old) frame.old.env.now (map word_tree words.now) false after → tree.new ≡ tree.old }
     ensures state { T.state tree.new ≡ T.state tree.old }
     ensures cause { Asks (T.faults tree.old) (T.faults tree.new) result }
     ensures same { frame_given frame.new ≡ frame_given frame.old }
@@ -158,6 +162,7 @@ fn few_fields<T: Tree>(
     ensures many { IsErrOf result ExpandFault.ArgsTooMany → IfSome (T.state tree.old).held (λ files.
         TooMany MAX_FIELDS (λ fields. AreFields files (T.state tree.old).home (given_of known.now) env.old (map word_tree words.now) fields env.new)) }
     ensures fault { IfErr result (λ fault. Stop (given_of known.now) env.old (map word_tree words.now) fault env.new) }
+    ensures unasked { (after : Variables) → PatternIn (given_of known.now) env.old (map word_tree words.now) false after → tree.new ≡ tree.old }
     ensures state { T.state tree.new ≡ T.state tree.old }
     ensures cause { Asks (T.faults tree.old) (T.faults tree.new) result }
 {
@@ -185,6 +190,7 @@ fn fields_of_words<T: Tree>(
     ensures passed { OnOk result (Pass (given_of known.now) env.old (map word_tree words.now) env.new) }
     ensures fault { IfErr result (λ fault. Stop (given_of known.now) env.old (map word_tree words.now) fault env.new) }
     ensures not_many { IfErr result IsOfWordsOrTree }
+    ensures unasked { (after : Variables) → PatternIn (given_of known.now) env.old (map word_tree words.now) false after → tree.new ≡ tree.old }
     ensures state { T.state tree.new ≡ T.state tree.old }
     ensures cause { Asks (T.faults tree.old) (T.faults tree.new) result }
 {
@@ -213,6 +219,7 @@ fn add_word_fields<T: Tree>(
     ensures passed { OnOk result (HasSomeMarks (given_of known.now) env.old (word_tree word.now) env.new) }
     ensures fault { IfErr result (λ fault. WordStops (given_of known.now) env.old (word_tree word.now) fault env.new) }
     ensures not_many { IfErr result IsOfWordsOrTree }
+    ensures unasked { (after : Variables) → PatternIn (given_of known.now) env.old (word_tree word.now ∷ []) false after → tree.new ≡ tree.old }
     ensures state { T.state tree.new ≡ T.state tree.old }
     ensures cause { Asks (T.faults tree.old) (T.faults tree.new) result }
 {
@@ -246,6 +253,7 @@ fn add_fields<T: Tree>(
 ) -> Result<(), WorldErr>
     ensures names { OnOk result (IfSome (T.state tree.old).held (λ files.
         Appends (λ names. AreNames files (T.state tree.old).home (split_lem (ifs_of_lem env.now) marks.now) names) (texts_of out.old.items) (texts_of out.new.items))) }
+    ensures unasked { list_any has_pattern_lem (split_lem (ifs_of_lem env.now) marks.now) ≡ false → tree.new ≡ tree.old }
     ensures state { T.state tree.new ≡ T.state tree.old }
     ensures cause { Counts (T.faults tree.old) (T.faults tree.new) result }
 {
@@ -262,6 +270,7 @@ fn add_all_names<T: Tree>(
 ) -> Result<(), WorldErr>
     ensures names { OnOk result (IfSome (T.state tree.old).held (λ files.
         Appends (λ names. AreNames files (T.state tree.old).home (fields_of fields.now) names) (texts_of out.old.items) (texts_of out.new.items))) }
+    ensures unasked { list_any has_pattern_lem (fields_of fields.now) ≡ false → tree.new ≡ tree.old }
     ensures state { T.state tree.new ≡ T.state tree.old }
     ensures cause { Counts (T.faults tree.old) (T.faults tree.new) result }
 {
@@ -294,7 +303,7 @@ fn add_names<T: Tree>(
 ) -> Result<(), WorldErr>
     ensures names { OnOk result (IfSome (T.state tree.old).held (λ files.
         Appends (λ names. Expands files (T.state tree.old).home (pattern_of_lem field.now) names) (texts_of out.old.items) (texts_of out.new.items))) }
-    ensures plain { has_pattern_lem field.now ≡ false → T.faults tree.new ≡ T.faults tree.old }
+    ensures unasked { has_pattern_lem field.now ≡ false → tree.new ≡ tree.old }
     ensures state { T.state tree.new ≡ T.state tree.old }
     ensures cause { Counts (T.faults tree.old) (T.faults tree.new) result }
 {

@@ -1,6 +1,8 @@
-use Rattle.std.proofs.Common.{◌≡◌, ◌++◌, ℕ, List, length, IfSome}
+use Rattle.std.proofs.Common.{◌≡◌, ◌++◌, ℕ, false, List, length, IfSome}
+use Rattle.std.specs.List.{list_any}
 use Rattle.ps_lines.specs.Texts.{texts_of}
 use Rattle.ps_world.specs.Files.{Files}
+use Rattle.sh_expand.specs.Marks.{has_pattern}
 use Rattle.sh_expand.specs.Splitting.{fields_of}
 use Rattle.sh_expand.specs.Fields.{AreNames, Appends}
 use Rattle.sh_expand.proofs.fields.add_all_names.Given as goal
@@ -10,6 +12,7 @@ abbrev pub invariant-loop-field : goal.invariant-loop-field
 invariant-loop-field g l = record {
   state : g.T.Tree.state l.tree ≡ g.T.Tree.state l.fn.tree;
   faults : g.T.Tree.faults l.tree ≡ g.T.Tree.faults l.fn.tree;
+  unasked : list_any has_pattern (fields_of l.fn.fields) ≡ false → (l.tree ≡ l.fn.tree) × (list_any has_pattern (fields_of l.left) ≡ false);
   go : IfSome (g.T.Tree.state l.fn.tree).held (λ (files : Files). (others : List (List ℕ)) → AreNames files (g.T.Tree.state l.fn.tree).home (fields_of l.left) others
       → Appends (λ (names : List (List ℕ)). AreNames files (g.T.Tree.state l.fn.tree).home (fields_of l.fn.fields) names) (texts_of l.fn.out.items) (texts_of l.out.items ++ others));
 }

@@ -10,3 +10,4 @@ pub mod Starts
 pub mod Inputs
 pub mod EndLists
 pub mod Roles
+pub mod Stuck

@@ -44,6 +44,7 @@ impl<M: Machine> Net<M> {
     ghost use Rattle.fl_graph.specs.declared.kinds.NodeKind.{NodeKind};
     ghost use Rattle.fl_core.specs.Inputs.{RunsOver};
     ghost use Rattle.fl_core.specs.Steps.{has_moved, progress_at, ArePlain, Fits, Starves};
+    ghost use Rattle.fl_core.specs.Stuck.{IsStuck, IsStuckAt};
     ghost use Rattle.fl_core.specs.declared.nets.Ports.{Ports as Port};
 
     /// Does what the machine of a node does next, where it can: it starves, waits or has ended exactly where `progress_at` says so, and then
@@ -174,6 +175,7 @@ impl<M: Machine> Net<M> {
         ensures halts { let state : M → State = λ machine. record { takes = M.takes machine; puts = M.puts machine; broken = M.broken machine; due = M.due machine; selects = M.selects machine } in
             OnErr result (Halts state self.old.ports.items self.old.machines.items self.old.wires.items (E.left ends.old) (E.taken ends.old) (E.taken ends.new)) }
         ensures same { result ≡ Ok false → (self.new.machines.items ≡ self.old.machines.items) × (self.new.wires.items ≡ self.old.wires.items) × (ends.new ≡ ends.old) }
+        ensures stuck { result ≡ Ok false → IsStuckAt (λ machine. M.act machine) self.old.ports.items self.old.machines.items self.old.rooms.items self.old.wires.items node }
         ensures ports { self.new.ports ≡ self.old.ports }
         ensures machines { length self.new.machines.items ≡ length self.old.machines.items }
         ensures wires { length self.new.wires.items ≡ length self.old.wires.items }
@@ -221,6 +223,7 @@ impl<M: Machine> Net<M> {
             OnErr result (HaltsFrom state (record { ports = self.old.ports.items; machines = self.old.machines.items; wires = self.old.wires.items; left = E.left ends.old; taken = E.taken ends.old; reads = E.reads ends.old; writes = E.writes ends.old; faults = E.faults ends.old }) (E.taken ends.new)) }
         ensures rooms { self.new.rooms ≡ self.old.rooms }
         ensures same { result ≡ Ok false → (self.new.machines.items ≡ self.old.machines.items) × (self.new.wires.items ≡ self.old.wires.items) × (ends.new ≡ ends.old) }
+        ensures stuck { result ≡ Ok false → IsStuckAt (λ machine. M.act machine) self.old.ports.items self.old.machines.items self.old.rooms.items self.old.wires.items node }
         ensures buffer { length buffer.new ≡ length buffer.old }
         ensures borrows { E.borrows ends.new ≡ E.borrows ends.old }
         ensures cause { Causes (E.faults ends.old) (E.faults ends.new) result }
@@ -233,7 +236,7 @@ impl<M: Machine> Net<M> {
                 Err(halt) => return Err(halt),
             }
         }
-        Ok(moved)
+        Ok(true)
     }
 
     /// Gives each node its turn, in order; answers whether a piece has moved, and where none has, nothing has changed.
@@ -254,6 +257,7 @@ impl<M: Machine> Net<M> {
             OnErr result (HaltsFrom state (record { ports = self.old.ports.items; machines = self.old.machines.items; wires = self.old.wires.items; left = E.left ends.old; taken = E.taken ends.old; reads = E.reads ends.old; writes = E.writes ends.old; faults = E.faults ends.old }) (E.taken ends.new)) }
         ensures rooms { self.new.rooms ≡ self.old.rooms }
         ensures same { result ≡ Ok false → (self.new.machines.items ≡ self.old.machines.items) × (self.new.wires.items ≡ self.old.wires.items) × (ends.new ≡ ends.old) }
+        ensures stuck { result ≡ Ok false → IsStuck (λ machine. M.act machine) self.old.ports.items self.old.machines.items self.old.rooms.items self.old.wires.items }
         ensures buffer { length buffer.new ≡ length buffer.old }
         ensures borrows { E.borrows ends.new ≡ E.borrows ends.old }
         ensures cause { Causes (E.faults ends.old) (E.faults ends.new) result }
@@ -268,7 +272,7 @@ impl<M: Machine> Net<M> {
         Ok(moved)
     }
 
-    /// Gives the nodes their turns until no piece moves any more.
+    /// Gives the nodes their turns until no piece moves any more. More than 2^64 turns want memory.
     pub fn run<E: NodeEnds>(
         &mut self,
         alloc: Global,
@@ -284,6 +288,7 @@ impl<M: Machine> Net<M> {
             (record { ports = self.new.ports.items; machines = self.new.machines.items; wires = self.new.wires.items; left = E.left ends.new; taken = E.taken ends.new; reads = E.reads ends.new; writes = E.writes ends.new; faults = E.faults ends.new })) }
         ensures err { let state : M → State = λ machine. record { takes = M.takes machine; puts = M.puts machine; broken = M.broken machine; due = M.due machine; selects = M.selects machine } in
             OnErr result (HaltsFrom state (record { ports = self.old.ports.items; machines = self.old.machines.items; wires = self.old.wires.items; left = E.left ends.old; taken = E.taken ends.old; reads = E.reads ends.old; writes = E.writes ends.old; faults = E.faults ends.old }) (E.taken ends.new)) }
+        ensures stuck { OnOk result (IsStuck (λ machine. M.act machine) self.new.ports.items self.new.machines.items self.new.rooms.items self.new.wires.items) }
         ensures rooms { self.new.rooms ≡ self.old.rooms }
         ensures buffer { length buffer.new ≡ length buffer.old }
         ensures borrows { E.borrows ends.new ≡ E.borrows ends.old }
@@ -296,7 +301,7 @@ impl<M: Machine> Net<M> {
                 Err(halt) => return Err(halt),
             }
         }
-        Ok(())
+        Err(Halt::Memory)
     }
 
     /// Whether a node reads from outside.

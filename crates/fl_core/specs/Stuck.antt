@@ -1,0 +1,25 @@
+-- Networks in which nothing moves any more (own), whatever node has its turn.
+use Rattle.std.specs.Prelude.{◌≡◌, ℕ, List, Bool, true, false, not, slice_get, Option, Some}
+use Rattle.fl_graph.specs.declared.pieces.Act.{Act}
+use Rattle.fl_graph.specs.declared.pieces.Piece.{Piece}
+use Rattle.fl_core.specs.Steps.{progress_at}
+use Rattle.fl_core.specs.declared.nets.Ports.{Ports}
+use Rattle.fl_core.specs.declared.steps.Progress.{Progress}
+use Rattle.fl_core.specs.declared.steps.Progress.TheVariants as progress
+
+-- a node of which this step comes can do nothing: it moves no piece, nor does it starve for what it could read from outside
+abbrev pub is_stuck : Progress → Bool → Bool
+is_stuck progress.Took reads = false
+is_stuck progress.Gave reads = false
+is_stuck progress.Starves reads = not reads
+is_stuck progress.Waits reads = true
+is_stuck progress.Ended reads = true
+
+module _ {Machine : Type 0} (act : Machine → Act) (ports : List Ports) (machines : List Machine) (rooms : List (Option ℕ)) (wires : List (List Piece)) where
+  abbrev pub IsStuckAt : ℕ → Type 0
+  IsStuckAt node =
+      (machine : Machine) (own : Ports) → slice_get machines node ≡ Some machine → slice_get ports node ≡ Some own
+      → is_stuck (progress_at (act machine) own.ins.items own.outs.items rooms wires) own.reads ≡ true
+
+  abbrev pub IsStuck : Type 0
+  IsStuck = (node : ℕ) → IsStuckAt node

@@ -1,7 +1,6 @@
 -- Pieces that are added at the end of a word.
-use Rattle.std.proofs.Common.{◌≡◌, ℕ, Bool, true, false, List, [], ◌∷◌, ◌++◌, map, Option, None, Some, length, refl, ◌∙◌, ap, append_assoc}
+use Rattle.std.proofs.Common.{◌≡◌, ℕ, Bool, true, false, List, [], ◌∷◌, ◌++◌, Option, None, Some, length, refl, ◌∙◌, ap, append_assoc}
 use Rattle.sh_tree.specs.Trees.{WordTree, no_part, part, PartTree, plain, quoted, parameter, substitution, arithmetic, check}
-use Rattle.sh_tree.specs.Views.{parts_onto}
 use Rattle.sh_words.specs.Pieces.{before, literal}
 use Rattle.sh_words.specs.Parameters.{check_form}
 use Rattle.sh_words.specs.Built.{part_tree, trees_onto, run_onto, run_ended, is_expansion}

@@ -1,12 +1,11 @@
 -- The cases of the definition, each with equations in place of its forms.
-use Rattle.std.proofs.Common.{◌≡◌, ℕ, zero, suc, Bool, true, false, not, ◌&&◌, ◌+◌, ◌-◌, ◌<◌, List, [], length, refl, sym, ◌∙◌, subst, arith, Result, IfErr}
+use Rattle.std.proofs.Common.{◌≡◌, ℕ, zero, suc, Bool, not, ◌&&◌, ◌+◌, ◌-◌, List, refl, sym, subst, arith, Result, IfErr}
 use Rattle.std.specs.Result.{IsErrAnd}
-use Rattle.sh_tree.specs.Trees.{WordTree, no_part, PartTree, parameter, substitution, arithmetic}
+use Rattle.sh_tree.specs.Trees.{WordTree, PartTree, parameter, substitution, arithmetic}
 use Rattle.sh_tree.specs.declared.words.Param.{Param}
-use Rattle.sh_words.specs.Pieces.{before}
-use Rattle.sh_words.specs.Steps.{Step, ends, passes, gives, expands, step}
-use Rattle.sh_words.specs.Parameters.{Expansion, whole, with_word, commands, arithmetic_text, no_form, expansion, trims, bare_form, form_of}
-use Rattle.sh_words.specs.Words.{Outcome, done, ill_formed, Made, made, none_made, onto, with_form, calculated, PassesCommands, word, no_word, ReadsBehind, ReadsPieces, has_ended, passes_on, gives_piece, expands_to, is_ill_formed, ReadsExpansion, is_parameter, is_substitution, has_word, has_arithmetic, has_no_form, word_too_deep, arithmetic_too_deep}
+use Rattle.sh_words.specs.Steps.{expands, step}
+use Rattle.sh_words.specs.Parameters.{whole, with_word, commands, arithmetic_text, no_form, expansion, trims, bare_form, form_of}
+use Rattle.sh_words.specs.Words.{done, ill_formed, made, none_made, PassesCommands, word, no_word, ReadsBehind, ReadsPieces, is_ill_formed, ReadsExpansion, is_parameter, is_substitution, has_word, has_arithmetic, has_no_form, word_too_deep, arithmetic_too_deep}
 use Rattle.sh_words.specs.declared.steps.Owner.TheVariants as owner
 use Rattle.sh_words.specs.declared.steps.Mode.{Mode}
 use Rattle.sh_words.specs.declared.steps.Mode.TheVariants as mode

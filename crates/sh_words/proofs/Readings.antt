@@ -1,12 +1,12 @@
 -- A word is read to one outcome, and to exactly one.
-use Rattle.std.proofs.Common.{◌≡◌, ℕ, zero, suc, Bool, true, false, not, ◌&&◌, Option, None, Some, List, [], ◌∷◌, ◌<◌, ◌≤◌, ◌+◌, length, refl, sym, ◌∙◌, ap, subst, arith, rules}
-use Rattle.sh_tree.specs.Trees.{WordTree, no_part, PartTree, parameter, substitution, arithmetic}
+use Rattle.std.proofs.Common.{◌≡◌, ℕ, zero, suc, Bool, not, ◌&&◌, List, ◌<◌, ◌≤◌, ◌+◌, length, refl, sym, ◌∙◌, ap, subst, arith}
+use Rattle.sh_tree.specs.Trees.{no_part, PartTree, parameter, substitution}
 use Rattle.sh_tree.specs.declared.words.Param.{Param}
 use Rattle.sh_lex.specs.Reads as lex
 use Rattle.sh_lex.proofs.Readings as lexed
 use Rattle.sh_words.specs.Built.{open_in}
 use Rattle.sh_words.specs.Steps.{Step, ends, passes, gives, expands, step}
-use Rattle.sh_words.specs.Parameters.{Expansion, whole, with_word, commands, arithmetic_text, no_form, expansion, trims, bare_form, form_of}
+use Rattle.sh_words.specs.Parameters.{Expansion, whole, with_word, commands, arithmetic_text, no_form, expansion, trims, bare_form}
 use Rattle.sh_words.specs.Words.{Outcome, done, ill_formed, Made, made, none_made, onto, with_form, calculated, in_commands, left_by, PassesCommands, ReadsPieces, has_ended, passes_on, gives_piece, expands_to, is_ill_formed, ReadsExpansion, is_parameter, is_substitution, has_word, has_arithmetic, has_no_form, word_too_deep, arithmetic_too_deep}
 use Rattle.sh_words.proofs.Shrinking.{Shrinks, at_end, at_quote, at_piece, at_dollar, step-Shrinks, Stays, in_whole, in_word, in_tokens, in_text, expansion-Stays}
 use Rattle.sh_words.specs.declared.steps.Owner.TheVariants as owner

@@ -1,6 +1,6 @@
 -- A step leaves less of the text unless what it stands in has ended, and an expansion leaves no more than it was given.
-use Rattle.std.proofs.Common.{◌≡◌, ℕ, Bool, true, false, Option, None, Some, ◌<◌, ◌≤◌, ◌+◌, ◌-◌, List, [], ◌∷◌, ◌==◌, ◌&&◌, if◌then◌else◌, length, refl, arith, rules}
-use Rattle.sh_lex.specs.Bytes.{is_digit, is_name_byte, is_name_start}
+use Rattle.std.proofs.Common.{ℕ, Bool, true, false, Option, None, Some, ◌<◌, ◌≤◌, ◌+◌, List, [], ◌∷◌, ◌==◌, ◌&&◌, if◌then◌else◌, length, arith, rules}
+use Rattle.sh_lex.specs.Bytes.{is_digit, is_name_byte}
 use Rattle.sh_lex.specs.Texts.{unspliced}
 use Rattle.sh_lex.proofs.Shorter.{length-unspliced}
 use Rattle.sh_lex.specs.declared.bytes.TheConstants.{BACKSLASH, NEWLINE}
@@ -8,7 +8,7 @@ use Rattle.sh_tree.specs.Trees.{PartTree}
 use Rattle.sh_tree.specs.declared.words.Param.{Param}
 use Rattle.sh_words.specs.Built.{open_in}
 use Rattle.sh_words.specs.Steps.{Step, ends, passes, gives, expands, dollar, opened, backslash, escape, unquoted_at, in_quotes_at, word_at, double_quotes_at, single_quotes_at, closing_at, parenthesis_closed, arithmetic_at, step}
-use Rattle.sh_words.specs.Parameters.{Expansion, whole, with_word, commands, arithmetic_text, no_form, run_end, behind_run, closing_brace, operator_at, colon_at, suffix_at, prefix_at, form_at, place_value, placed, parameter_at, measured_at, hash_at, formed_at, braces_at, parenthesis_at, expansion_at, expansion}
+use Rattle.sh_words.specs.Parameters.{Expansion, whole, with_word, commands, arithmetic_text, no_form, run_end, behind_run, closing_brace, operator_at, colon_at, suffix_at, prefix_at, form_at, placed, parameter_at, measured_at, hash_at, formed_at, braces_at, parenthesis_at, expansion_at, expansion}
 use Rattle.sh_words.specs.declared.expansions.Operator.{Operator}
 use Rattle.sh_words.specs.declared.steps.Owner.{Owner}
 use Rattle.sh_words.specs.declared.steps.Owner.TheVariants as owner

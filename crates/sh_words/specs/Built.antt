@@ -1,15 +1,13 @@
 -- What the code's values stand for: the trees of parts, the parts that are built, and why the code stopped.
-use Rattle.std.specs.Prelude.{◌≡◌, ℕ, ◌+◌, ◌≤◌, Bool, true, false, List, map, length}
+use Rattle.std.specs.Prelude.{ℕ, Bool, true, false, List, map}
 use Rattle.std.specs.declared.option.Option.{Option}
 use Rattle.std.specs.declared.option.Option.TheVariants.{None, Some}
-use Rattle.std.specs.Global.{Vec}
 use Rattle.sh_tree.specs.Trees.{WordTree, part, PartTree, plain, quoted, parameter, substitution, arithmetic, FormTree}
 use Rattle.sh_tree.specs.Views.{form_step, part_step, word_step, parts_onto}
 use Rattle.sh_tree.specs.declared.words.Part.{Part}
 use Rattle.sh_tree.specs.declared.words.Form.{Form}
 use Rattle.sh_tree.specs.declared.words.Form.TheFolds.{fold-Part, fold-Form}
 use Rattle.sh_words.specs.Pieces.{before, literal}
-use Rattle.sh_words.specs.Steps.{Step, ends, passes, gives, expands}
 use Rattle.sh_words.specs.Words.{ReadsPieces, ill_formed, ReadsExpansion, none_made, WordOutcome, no_word}
 use Rattle.sh_words.specs.declared.steps.Mode.{Mode}
 use Rattle.sh_words.specs.declared.steps.Mode.TheVariants as mode

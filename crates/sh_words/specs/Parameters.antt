@@ -1,6 +1,6 @@
 -- The forms of an expansion (XCU 2.5, 2.6.2, narrowed): what a text behind a `$` begins. Names and the digits of a place are as long as
 -- they can be; without braces only one digit belongs to the expansion.
-use Rattle.std.specs.Prelude.{ℕ, Bool, true, false, not, List, [], ◌∷◌, ◌-◌, ◌^◌, ◌==◌, ◌||◌, ◌&&◌, if◌then◌else◌, nat_lt}
+use Rattle.std.specs.Prelude.{ℕ, Bool, true, false, List, [], ◌∷◌, ◌-◌, ◌^◌, ◌==◌, ◌&&◌, if◌then◌else◌, nat_lt}
 use Rattle.std.specs.declared.option.Option.{Option}
 use Rattle.std.specs.declared.option.Option.TheVariants.{None, Some}
 use Rattle.std.specs.Str.Parse.{digits_value}

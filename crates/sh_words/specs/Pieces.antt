@@ -2,7 +2,7 @@
 -- Bytes that follow one another with the same quoting are one part, and an empty quoted string is a part only where no quoted part is
 -- beside it (XCU 2.2, 2.6.6). The code adds pieces at the end.
 use Rattle.std.specs.Prelude.{ℕ, Bool, true, false, List, ◌++◌}
-use Rattle.sh_tree.specs.Trees.{WordTree, no_part, part, PartTree, plain, quoted, parameter, substitution, arithmetic}
+use Rattle.sh_tree.specs.Trees.{WordTree, part, PartTree, plain, quoted}
 
 -- a piece in front of a word
 abbrev pub before : PartTree → WordTree → WordTree

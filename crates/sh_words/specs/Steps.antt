@@ -1,6 +1,6 @@
 -- Quoting (XCU 2.2): the next piece of a text, by what it stands in. Backslash-newlines are removed but in single quotes (XCU 2.2.1).
 -- A list is what is left of the text behind the piece.
-use Rattle.std.specs.Prelude.{ℕ, Bool, true, false, not, List, [], ◌∷◌, ◌+◌, ◌-◌, ◌==◌, ◌||◌, ◌&&◌, if◌then◌else◌, length}
+use Rattle.std.specs.Prelude.{ℕ, Bool, true, false, List, [], ◌∷◌, ◌+◌, ◌-◌, ◌==◌, ◌||◌, ◌&&◌, if◌then◌else◌, length}
 use Rattle.sh_tree.specs.Trees.{PartTree, plain, quoted}
 use Rattle.sh_lex.specs.Bytes.{is_name_start, is_parameter, is_quoted_escape}
 use Rattle.sh_lex.specs.Texts.{unspliced}

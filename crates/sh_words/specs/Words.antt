@@ -1,7 +1,7 @@
 -- What a word is: its tree and the number of its command substitutions, or the first `${` in it that has none of the forms of an
 -- expansion. A word inside a word is read as a whole, and then the outer one goes on. `most` is the number of levels that may still
 -- open: `${` with a word and `$((` open one each.
-use Rattle.std.specs.Prelude.{◌≡◌, ℕ, zero, suc, Bool, true, false, not, List, [], ◌∷◌, ◌+◌, ◌-◌, ◌&&◌, length, drop}
+use Rattle.std.specs.Prelude.{◌≡◌, ℕ, zero, suc, Bool, false, not, List, [], ◌+◌, ◌-◌, ◌&&◌, length, drop}
 use Rattle.std.specs.declared.option.Option.TheVariants.{Some}
 use Rattle.sh_tree.specs.Trees.{WordTree, no_part, PartTree, parameter, substitution, arithmetic}
 use Rattle.sh_lex.specs.Bytes.{is_name_byte}

@@ -1,4 +1,4 @@
-use Rattle.std.proofs.Common.{◌≡◌, Some, length, sym, ◌∙◌, ap, rules, arith}
+use Rattle.std.proofs.Common.{◌≡◌, Some, length, sym, ◌∙◌, ap, rules}
 use Rattle.sh_tree.specs.declared.words.Form.{the_lemmas}
 use Rattle.sh_tree.specs.declared.words.Form.TheVariants as form_is
 use Rattle.sh_tree.specs.Trees.{no_part, check}

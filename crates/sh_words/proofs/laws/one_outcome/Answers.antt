@@ -1,4 +1,4 @@
-use Rattle.std.proofs.Common.{length, refl, ◌∙◌, ap, sym}
+use Rattle.std.proofs.Common.{length, refl, ◌∙◌, ap}
 use Rattle.sh_words.specs.Words.{word_outcome}
 use Rattle.sh_words.specs.declared.reading.TheConstants.{MAX_LEVELS}
 use Rattle.sh_words.specs.declared.steps.Owner.TheVariants as owner

@@ -1,8 +1,8 @@
-use Rattle.std.proofs.Common.{◌≡◌, ◌<◌, ◌≤◌, ◌+◌, ℕ, List, [], ◌∷◌, length, sym, ◌∙◌, ap, subst, arith, rules}
+use Rattle.std.proofs.Common.{◌≡◌, ◌<◌, ℕ, List, [], ◌∷◌, length, sym, ◌∙◌, ap, subst, arith, rules}
 use Rattle.sh_tree.specs.Trees.{no_part, quoted, parameter}
 use Rattle.sh_words.specs.Pieces.{before, literal}
 use Rattle.sh_words.specs.Parameters as form
-use Rattle.sh_words.specs.Built.{part_tree, open_in, StopsPieces, StopsExpansion}
+use Rattle.sh_words.specs.Built.{part_tree, StopsPieces, StopsExpansion}
 use Rattle.sh_words.specs.Words.{done, ill_formed, ReadsPieces, has_ended, passes_on, gives_piece, expands_to}
 use Rattle.sh_words.proofs.ReadLemmas.{word_read, word_stops, word_deep, arithmetic_deep, pieces_stop, on_fault}
 use Rattle.sh_words.proofs.Readings.{passes-less, gives-less, expands-less, expansion-Leaves}

@@ -1,5 +1,5 @@
 -- The pieces so far stand in front of all that the rest gives. The levels that may still open decide which call is the smaller.
-use Rattle.std.proofs.Common.{◌≡◌, ℕ, ◌+◌, ◌*◌, ◌≤◌, List, length}
+use Rattle.std.proofs.Common.{ℕ, ◌+◌, ◌*◌, ◌≤◌, List, length}
 use Rattle.sh_tree.specs.Trees.{WordTree}
 use Rattle.sh_words.specs.Built.{built, open_in}
 use Rattle.sh_words.specs.Words.{done, ill_formed, ReadsPieces}

@@ -1,7 +1,6 @@
 use Rattle.std.proofs.Common.{rules}
 use Rattle.sh_tree.specs.declared.words.Form.{the_lemmas}
 use Rattle.sh_words.proofs.ReadLemmas.{substitution_read}
-use Rattle.sh_words.proofs.Readings.{pieces-Leaves}
 use Rattle.sh_words.proofs.reading.substitution.Goals as goal
 
 pub returns-clause-read : goal.returns-clause-read

@@ -1,6 +1,6 @@
 use Rattle.std.proofs.Common.{◌≡◌, ◌++◌, [], ◌∷◌, subst, refl, rules}
 use Rattle.sh_lex.specs.Bytes.{is_digit}
-use Rattle.sh_words.specs.Parameters.{run, place_value}
+use Rattle.sh_words.specs.Parameters.{place_value}
 use Rattle.sh_words.proofs.RunLemmas.{run_ends_none, run_ends_other, run_goes_on, place_value-one, runs}
 use Rattle.sh_words.proofs.runs.place.Goals as goal
 

@@ -13,7 +13,7 @@ use Rattle.fl_graph.specs.declared.kinds.NodeKind.{NodeKind}
 use Rattle.fl_graph.specs.declared.kinds.NodeKind.TheVariants as kind
 use Rattle.fl_graph.specs.declared.kinds.To.TheVariants as to
 use Rattle.fl_classes.specs.Flow.{Write, flow, only, outcome, to_output, writes_of}
-use Rattle.fl_core.specs.EndLists.{KeepsOthers, NodeEnd, Output, own_end, taken_at, taken_by}
+use Rattle.fl_core.specs.EndLists.{KeepsOthers, Output, own_end, taken_at, taken_by}
 use Rattle.fl_core.specs.Kinds.{is_sink}
 use Rattle.fl_core.specs.declared.end_lists.Ends.{Ends}
 use Rattle.fl_core.proofs.LawLemmas.{writes_of_the_flow}

@@ -1,5 +1,5 @@
 -- The roles of a graph's nodes: the end of a node is that of its role, and no two nodes have one.
-use Rattle.std.proofs.Common.{◌≡◌, ℕ, zero, suc, ◌+◌, ◌<◌, ◌≤◌, ◌==◌, List, [], ◌∷◌, Bool, true, false, if◌then◌else◌, cond, length, map, slice_get, get_or, slice_set, slice_index_or, Option, Some, None, is_some, refl, ap, sym, subst, ◌∙◌, arith, eq-eqb}
+use Rattle.std.proofs.Common.{◌≡◌, ℕ, zero, suc, ◌+◌, ◌<◌, ◌≤◌, ◌==◌, List, [], ◌∷◌, Bool, true, false, if◌then◌else◌, cond, length, slice_get, slice_set, slice_index_or, Option, Some, None, is_some, refl, ap, sym, subst, ◌∙◌, arith, eq-eqb}
 use Rattle.std.specs.List.{list_any, count_by, position, position_from}
 use Rattle.std.specs.Option.{option_map, option_map_or, option_and_then, unwrap_or}
 use Rattle.std.proofs.Math.Path.{fun_ext}
@@ -8,7 +8,7 @@ use Rattle.std.proofs.lemmas.Iterator.Adapters.{position_from-zero}
 use Rattle.std.proofs.lemmas.Bool.{true≢false, eqb-true}
 use Rattle.std.proofs.lemmas.List.{length-map}
 use Rattle.std.proofs.lemmas.List.Sums.{sum_by-cons}
-use Rattle.std.proofs.lemmas.Option.{slice_get-map, slice_get_within, slice_get_past, get_or_from_slice_get, unwrap_or-slice_get}
+use Rattle.std.proofs.lemmas.Option.{slice_get-map, slice_get_within, get_or_from_slice_get, unwrap_or-slice_get}
 use Rattle.fl_graph.specs.Cells.{cell, cells}
 use Rattle.fl_graph.specs.Net.{Cell}
 use Rattle.fl_graph.specs.Kinds.{is_input, is_output}

@@ -20,6 +20,8 @@ pub enum Call {
     Arith,
     /// `matches` of each line of a text against `*a*b*c*`.
     Matches,
+    /// `expand` of the word `$x`, of which a whole text is the value.
+    Expand,
     /// The stream of `grep -F` with a word, over the pieces of a file.
     Grep,
     /// The stream of `wc -l`, over the pieces of a file.
@@ -37,6 +39,7 @@ impl Call {
             "has" => Some(Call::Has),
             "arith" => Some(Call::Arith),
             "matches" => Some(Call::Matches),
+            "expand" => Some(Call::Expand),
             "grep" => Some(Call::Grep),
             "wc" => Some(Call::Wc),
             _ => None,

@@ -1,5 +1,5 @@
 //! Times one call of a crate on one file: `pash_bench CALL FILE`, where CALL is `next_line`, `lines`, `read_all`, `lex`, `arith`,
-//! `matches` or `wc`, or `pash_bench has FILE OPTIONS EXPRESSION`, or `pash_bench grep FILE WORD`.
+//! `matches`, `expand` or `wc`, or `pash_bench has FILE OPTIONS EXPRESSION`, or `pash_bench grep FILE WORD`.
 //!
 //! What the call finds, a count or a value, goes to the output, and the time of the call alone, in nanoseconds, to the error
 //! output: what a call takes is ready before the clock starts, and what it gives is dropped after the clock stopped.
@@ -35,6 +35,7 @@ fn main(rt: HostRuntime) -> io::Result<()> {
         }
         Call::Arith => clock::time_arith(&rt, fs::read(&rt, path)?.as_slice())?,
         Call::Matches => clock::time_matches(&rt, fs::read(&rt, path)?.as_slice())?,
+        Call::Expand => clock::time_expand(&rt, fs::read(&rt, path)?.as_slice())?,
         Call::Grep => {
             let Some(word) = words.next() else {
                 return Err(io::Error::from(ErrorKind::InvalidInput));

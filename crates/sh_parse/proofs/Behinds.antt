@@ -7,7 +7,7 @@ use Rattle.std.proofs.lemmas.Grind.{get_or_after_one}
 use Rattle.std.proofs.lemmas.List.{reverse-append, append-nil}
 use Rattle.sh_lex.specs.declared.lexing.marks.Mark.{Mark}
 use Rattle.sh_lex.specs.declared.lexing.marks.Mark.TheVariants as mark
-use Rattle.sh_parse.specs.Texts.{word_item, word_end, items_of}
+use Rattle.sh_parse.specs.Texts.{word_end}
 use Rattle.sh_parse.specs.Behind.{open_ends, IsBehind}
 use Rattle.sh_parse.specs.declared.texts.Behind.{Behind}
 
@@ -35,22 +35,13 @@ taken old new (Some last) count after e same cases =
 taken [] new None count after e same cases = (refl, ap reverse (sym (e ∙ append-nil new)))
 taken (first ∷ rest) new None count after e same cases = absurd (omega (arith, same, cases.0))
 
--- before the beginning of a word
-pub word_begun : (text : List ℕ) (marks : List Mark) (from to : ℕ) (old new : Behind) (last : Option ℕ) (count after : ℕ)
-    → old.ends.items ≡ new.ends.items ++ option_to_list last → count ≡ length old.ends.items
-    → MatchOption last ((count ≡ 0) × (after ≡ 0)) (λ _. after + 1 ≡ count) → to ≡ unwrap_or last 0
-    → new.items.items ≡ old.items.items ++ word_item text from to ∷ []
-    → IsBehind text marks old → IsBehind text (mark.WordBegin from ∷ marks) new
-word_begun text marks from to old new last count after e same cases taking grown known =
-    let took = taken old.ends.items new.ends.items last count after e same cases in
-    let at : to ≡ word_end marks 0 =
-    taking ∙ took.0 ∙ ap (λ ends. get_or ends 0 0) known.ends ∙ sym (word_end-open_ends marks 0) in
-    record {
-      ends = took.1 ∙ ap (λ ends. drop 1 ends) known.ends;
-      items = ap reverse grown ∙ reverse-append old.items.items (word_item text from to ∷ [])
-          ∙ ap (λ items. word_item text from to ∷ items) known.items
-          ∙ ap (λ to. word_item text from to ∷ items_of text marks) at;
-    }
+-- where the open words are those of these marks
+pub word_ended : (marks : List Mark) (old new : List ℕ) (last : Option ℕ) (count after : ℕ) → old ≡ new ++ option_to_list last
+    → count ≡ length old → MatchOption last ((count ≡ 0) × (after ≡ 0)) (λ _. after + 1 ≡ count) → reverse old ≡ open_ends marks
+    → (unwrap_or last 0 ≡ word_end marks 0) × (reverse new ≡ drop 1 (open_ends marks))
+word_ended marks old new last count after e same cases known =
+    let took = taken old new last count after e same cases in
+    (took.0 ∙ ap (λ ends. get_or ends 0 0) known ∙ sym (word_end-open_ends marks 0), took.1 ∙ ap (λ ends. drop 1 ends) known)
 
 -- the walk so far
 pub record Walked (text : List ℕ) (all before : List Mark) (behind : Behind) : Type 0 where

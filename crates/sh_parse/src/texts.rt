@@ -1,10 +1,10 @@
 //! The items of a text.
-ghost use Rattle.std.specs.Prelude.{◌≡◌, ◌∷◌, [], ℕ, List, IfOk, IfErr, OnOk};
+ghost use Rattle.std.specs.Prelude.{◌≡◌, ◌∷◌, [], ℕ, List, drop, reverse, IfOk, IfErr, OnOk};
 ghost use Rattle.std.specs.List.{between};
 ghost use Rattle.sh_lex.specs.Lexing.{Refuses};
 ghost use Rattle.sh_lex.specs.declared.lexing.marks.Mark.{Mark};
-ghost use Rattle.sh_parse.specs.Texts.{word_item, digit_at, operator_item, token_item, items_of, HasItems};
-ghost use Rattle.sh_parse.specs.Behind.{IsBehind};
+ghost use Rattle.sh_parse.specs.Texts.{word_item, word_end, digit_at, operator_item, token_item, items_of, HasItems};
+ghost use Rattle.sh_parse.specs.Behind.{open_ends, IsBehind};
 
 use crate::items::{Item, Span};
 use crate::kinds::word_kind;
@@ -70,9 +70,9 @@ impl Behind {
     {
         match mark {
             Mark::WordBegin(from) => {
-                let to = self.ends.pop().unwrap_or(0);
-                let item = word_item(alloc, text, from, to)?;
-                self.items.push(item)?;
+                let to = take_end(&mut self.ends);
+                let word = word_item(alloc, text, from, to)?;
+                self.items.push(word)?;
             }
             Mark::WordEnd(to) => self.ends.push(to)?,
             Mark::Token(token) => {
@@ -94,6 +94,14 @@ impl Behind {
         items.reverse();
         items
     }
+}
+
+/// Takes the end of the innermost of the words that are open; 0 where none is.
+fn take_end(ends: &mut Vec<u32>) -> u32
+    ensures end { (marks : List Mark) → reverse ends.old.items ≡ open_ends marks → result ≡ word_end marks 0 }
+    ensures left { (marks : List Mark) → reverse ends.old.items ≡ open_ends marks → reverse ends.new.items ≡ drop 1 (open_ends marks) }
+{
+    ends.pop().unwrap_or(0)
 }
 
 /// The item of a token.

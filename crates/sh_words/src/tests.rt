@@ -13,8 +13,28 @@ fn shown(alloc: Global, text: &[u8]) -> Result<String, AllocError> {
             show_word(alloc, &read.word, &mut out)?;
             Ok(out)
         }
-        Err(WordFault::Form(offset)) => format!(in alloc; "ParameterForm {offset}"),
-        Err(WordFault::Memory) => String::from_str(alloc, "Memory"),
+        Err(fault) => shown_fault(alloc, fault),
+    }
+}
+
+/// What `read_assign` answers, the same: the name, and the tree of the value.
+fn shown_assign(alloc: Global, text: &[u8]) -> Result<String, AllocError> {
+    match read_assign(alloc, text, 0) {
+        Ok((name, value)) => {
+            let mut out = String::new(alloc);
+            show_bytes(name.as_slice(), &mut out)?;
+            out.push_str(" ")?;
+            show_word(alloc, &value.word, &mut out)?;
+            Ok(out)
+        }
+        Err(fault) => shown_fault(alloc, fault),
+    }
+}
+
+fn shown_fault(alloc: Global, fault: WordFault) -> Result<String, AllocError> {
+    match fault {
+        WordFault::Form(offset) => format!(in alloc; "ParameterForm {offset}"),
+        WordFault::Memory => String::from_str(alloc, "Memory"),
     }
 }
 
@@ -293,14 +313,34 @@ static NO_FORMS: [(&str, &str); 32] = [
     ("x=${y!}", "ParameterForm 2"),
 ];
 
+/// Assignments. The offset of a fault counts from the beginning of the name.
+static ASSIGNMENTS: [(&str, &str); 10] = [
+    ("x=a", "x (w p:a)"),
+    ("x=", "x (w)"),
+    ("x=''", "x (w q:)"),
+    ("a_1=b'c'$d", "a_1 (w p:b q:c (v d))"),
+    ("x=y=z", "x (w p:y=z)"),
+    ("a\\\nb\\\n=c", "ab (w p:c)"),
+    ("x=$(a)\"$(b)\"", "x (w (s 0) (S 1))"),
+    ("x=${y!}", "ParameterForm 2"),
+    ("long=a${y:-${z!}}", "ParameterForm 11"),
+    ("a\\\nb=${y!}", "ParameterForm 5"),
+];
+
+/// Sees that the word has this tree, or this fault.
+fn reads_as<R: Abort + AllocGlobal>(rt: &R, text: &str, expected: &str) -> Result<(), Fail> {
+    assert_eq!(rt;
+        shown(rt.alloc(), text.as_bytes())?.as_str(),
+        expected,
+        "at {text:?}"
+    );
+    Ok(())
+}
+
 #[test]
 fn quoted_words_have_their_trees(rt: HostRuntime) -> Result<(), Fail> {
     for &(text, expected) in QUOTES.iter() {
-        assert_eq!(rt;
-            shown(rt.alloc(), text.as_bytes())?.as_str(),
-            expected,
-            "at {text:?}"
-        );
+        reads_as(&rt, text, expected)?;
     }
     Ok(())
 }
@@ -308,18 +348,10 @@ fn quoted_words_have_their_trees(rt: HostRuntime) -> Result<(), Fail> {
 #[test]
 fn parameters_have_their_trees(rt: HostRuntime) -> Result<(), Fail> {
     for &(text, expected) in PARAMETERS.iter() {
-        assert_eq!(rt;
-            shown(rt.alloc(), text.as_bytes())?.as_str(),
-            expected,
-            "at {text:?}"
-        );
+        reads_as(&rt, text, expected)?;
     }
     for &(text, expected) in FORMS.iter() {
-        assert_eq!(rt;
-            shown(rt.alloc(), text.as_bytes())?.as_str(),
-            expected,
-            "at {text:?}"
-        );
+        reads_as(&rt, text, expected)?;
     }
     Ok(())
 }
@@ -327,18 +359,10 @@ fn parameters_have_their_trees(rt: HostRuntime) -> Result<(), Fail> {
 #[test]
 fn words_in_words_have_their_trees(rt: HostRuntime) -> Result<(), Fail> {
     for &(text, expected) in INNER_WORDS.iter() {
-        assert_eq!(rt;
-            shown(rt.alloc(), text.as_bytes())?.as_str(),
-            expected,
-            "at {text:?}"
-        );
+        reads_as(&rt, text, expected)?;
     }
     for &(text, expected) in ARITHMETIC.iter() {
-        assert_eq!(rt;
-            shown(rt.alloc(), text.as_bytes())?.as_str(),
-            expected,
-            "at {text:?}"
-        );
+        reads_as(&rt, text, expected)?;
     }
     Ok(())
 }
@@ -346,11 +370,7 @@ fn words_in_words_have_their_trees(rt: HostRuntime) -> Result<(), Fail> {
 #[test]
 fn all_else_has_no_form(rt: HostRuntime) -> Result<(), Fail> {
     for &(text, expected) in NO_FORMS.iter() {
-        assert_eq!(rt;
-            shown(rt.alloc(), text.as_bytes())?.as_str(),
-            expected,
-            "at {text:?}"
-        );
+        reads_as(&rt, text, expected)?;
     }
     Ok(())
 }
@@ -364,5 +384,17 @@ fn substitutions_are_counted_from_the_first(rt: HostRuntime) -> Result<(), Fail>
         subs = Some(read.subs);
     }
     assert_eq!(rt; (out.as_str(), subs), ("(w (s 7) (s 8))", Some(2)));
+    Ok(())
+}
+
+#[test]
+fn assignments_have_a_name_and_a_value(rt: HostRuntime) -> Result<(), Fail> {
+    for &(text, expected) in ASSIGNMENTS.iter() {
+        assert_eq!(rt;
+            shown_assign(rt.alloc(), text.as_bytes())?.as_str(),
+            expected,
+            "at {text:?}"
+        );
+    }
     Ok(())
 }

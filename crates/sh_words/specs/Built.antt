@@ -1,21 +1,21 @@
--- What the code's values stand for: the trees of parts, the parts that are built, and why the code stopped.
+-- What the code's values stand for: the trees of parts, the parts that are built, and what a word that is read is.
 use Rattle.std.specs.Prelude.{ℕ, Bool, true, false, List, map}
 use Rattle.std.specs.declared.option.Option.{Option}
 use Rattle.std.specs.declared.option.Option.TheVariants.{None, Some}
-use Rattle.sh_tree.specs.Trees.{WordTree, part, PartTree, plain, quoted, parameter, substitution, arithmetic, FormTree}
-use Rattle.sh_tree.specs.Views.{form_step, part_step, word_step, parts_onto}
+use Rattle.std.specs.Option.{option_map}
+use Rattle.sh_tree.specs.Trees.{WordTree, no_part, part, PartTree, plain, quoted, parameter, substitution, arithmetic, FormTree}
+use Rattle.sh_tree.specs.Views.{form_step, part_step, word_step, parts_onto, word_tree}
 use Rattle.sh_tree.specs.declared.words.Part.{Part}
 use Rattle.sh_tree.specs.declared.words.Form.{Form}
 use Rattle.sh_tree.specs.declared.words.Form.TheFolds.{fold-Part, fold-Form}
 use Rattle.sh_words.specs.Pieces.{before, literal}
-use Rattle.sh_words.specs.Words.{ReadsPieces, ill_formed, ReadsExpansion, none_made, WordOutcome, no_word}
+use Rattle.sh_words.specs.Words.{Outcome, done, Made, made, WordOutcome}
 use Rattle.sh_words.specs.declared.steps.Mode.{Mode}
 use Rattle.sh_words.specs.declared.steps.Mode.TheVariants as mode
 use Rattle.sh_words.specs.declared.building.Building.{Building}
-use Rattle.sh_words.specs.declared.reading.Stop.{Stop}
-use Rattle.sh_words.specs.declared.reading.Stop.TheVariants as stop
-use Rattle.sh_words.specs.declared.reading.WordFault.{WordFault}
-use Rattle.sh_words.specs.declared.reading.WordFault.TheVariants as fault
+use Rattle.sh_words.specs.declared.reading.Reading.{Reading}
+use Rattle.sh_words.specs.declared.reading.Made as declared_made
+use Rattle.sh_words.specs.declared.reading.ReadWord.{ReadWord}
 
 -- the trees of a part and of a form
 abbrev pub part_tree : Part → PartTree
@@ -44,22 +44,17 @@ open_in (mode.DoubleQuotes of) = 0
 open_in (mode.SingleQuotes of) = 0
 open_in (mode.Arithmetic depth) = depth
 
--- why no tree was read: for want of memory, which is free, or for a `${` without a form, at which so many bytes are left
-abbrev pub StopsAs : (ℕ → Type 0) → Stop → Type 0
-StopsAs Ends (stop.IllFormed left) = Ends left
-StopsAs Ends stop.Memory = Unit {0}
+-- a text that is read
+abbrev pub done_of : Reading → Outcome
+done_of read = done (trees_onto read.parts.items no_part) read.fault read.number read.rest.now
 
-abbrev pub StopsPieces : ℕ → Mode → ℕ → List ℕ → Stop → Type 0
-StopsPieces most at number text stop = StopsAs (λ left. ReadsPieces most at number text (ill_formed left)) stop
+-- an expansion that is read
+abbrev pub made_of : declared_made.Made → Made
+made_of found = made (option_map part_tree found.part) found.fault found.number found.rest.now
 
-abbrev pub StopsExpansion : ℕ → Bool → ℕ → ℕ → List ℕ → Stop → Type 0
-StopsExpansion most is_quoted left number text stop =
-    StopsAs (λ place. ReadsExpansion most is_quoted left number text (none_made place)) stop
-
--- the same of a word
-abbrev pub Faults : (WordOutcome → Type 0) → WordFault → Type 0
-Faults Reads (fault.Form offset) = Reads (no_word offset)
-Faults Reads fault.Memory = Unit {0}
+-- a word that is read
+abbrev pub outcome_of : ReadWord → WordOutcome
+outcome_of read = record { tree = word_tree read.word; subs = read.subs; fault = read.fault }
 
 -- an expansion, and no bytes
 abbrev pub is_expansion : PartTree → Bool
@@ -68,6 +63,10 @@ is_expansion (quoted bytes) = false
 is_expansion (parameter what form is_quoted) = true
 is_expansion (substitution number is_quoted) = true
 is_expansion (arithmetic word is_quoted) = true
+
+abbrev pub is_found : Option PartTree → Bool
+is_found None = true
+is_found (Some piece) = is_expansion piece
 
 -- all that is built, the bytes at the end as a part of their own, in front of `more`
 abbrev pub run_ended : Option Bool → List ℕ → WordTree → WordTree

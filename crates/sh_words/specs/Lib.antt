@@ -3,3 +3,4 @@ pub mod Steps
 pub mod Parameters
 pub mod Words
 pub mod Built
+pub mod Assigning

@@ -1,8 +1,9 @@
 //! The parts of a word that is read.
 ghost use Rattle.std.specs.Prelude.{◌≡◌, ◌∷◌, ◌++◌, [], ℕ, List, IfOk, OnOk, Some, true};
 ghost use Rattle.sh_tree.specs.Trees.{WordTree, no_part, part, quoted};
-ghost use Rattle.sh_words.specs.Pieces.{before, literal};
-ghost use Rattle.sh_words.specs.Built.{part_tree, trees_onto, run_onto, built, ended, is_expansion};
+ghost use Rattle.std.specs.Option.{option_map};
+ghost use Rattle.sh_words.specs.Pieces.{before, found_before, literal};
+ghost use Rattle.sh_words.specs.Built.{part_tree, trees_onto, run_onto, built, ended, is_expansion, is_found};
 
 use ps_lines::{Memory, Text};
 use sh_tree::Part;
@@ -47,8 +48,19 @@ impl Building {
         self.begin(alloc, true)
     }
 
+    /// Adds what an expansion gives.
+    pub fn push_found(&mut self, alloc: Global, found: Option<Part>) -> Result<(), Memory>
+        requires { is_found (option_map part_tree found) ≡ true }
+        ensures { OnOk result ((more : WordTree) → built self.new more ≡ built self.old (found_before (option_map part_tree found) more)) }
+    {
+        match found {
+            Some(part) => self.push_expansion(alloc, part),
+            None => Ok(()),
+        }
+    }
+
     /// Adds an expansion.
-    pub fn push_expansion(&mut self, alloc: Global, part: Part) -> Result<(), Memory>
+    fn push_expansion(&mut self, alloc: Global, part: Part) -> Result<(), Memory>
         requires { is_expansion (part_tree part) ≡ true }
         ensures { OnOk result ((more : WordTree) → built self.new more ≡ built self.old (before (part_tree part) more)) }
     {

@@ -1,15 +1,17 @@
 //! The parts of a word (XCU 2.2, 2.6).
 //!
 //! A word is a list of bytes, as the script has it. `read_word` gives its parts: plain bytes, quoted bytes, and expansions, whose
-//! own words are read too; or the first `${` that has none of the forms of an expansion. `read_assign` does so for the value of an
-//! assignment. The text of a `$( )` is passed over: its tokens are words of their own.
+//! own words are read too; and the offset of the first `${` that has none of the forms of an expansion. Such a `${ }` leaves no part,
+//! and the reading goes on behind it. `read_assign` does so for the value of an assignment. The text of a `$( )` is passed over: its
+//! tokens are words of their own. `assigns_in` tells whether a word that is read assigns a variable.
 //!
 //! All calls are total. What isn't closed ends with the text.
 //!
 //! `specs/` says what a word is: `Pieces.antt` how its parts are joined, `Steps.antt` quoting, `Parameters.antt` the forms of
-//! expansions, and `Words.antt` what is read.
+//! expansions, `Words.antt` what is read, and `Assigning.antt` what assigns.
 #![tactic(auto)]
 
+mod assigning;
 mod building;
 mod bytes;
 mod expansions;
@@ -20,4 +22,5 @@ mod steps;
 #[cfg(test)]
 mod tests;
 
-pub use reading::{MAX_LEVELS, ReadWord, WordFault, read_assign, read_word};
+pub use assigning::assigns_in;
+pub use reading::{MAX_LEVELS, ReadWord, read_assign, read_word};

@@ -1,18 +1,18 @@
 //! Words read into their parts.
-ghost use Rattle.std.specs.Prelude.{◌≡◌, ◌&&◌, not, ℕ, List, IfOk, IfErr, length, drop, true};
-ghost use Rattle.sh_lex.specs.Texts.{unspliced};
-ghost use Rattle.sh_tree.specs.Trees.{no_part, parameter};
+ghost use Rattle.std.specs.Prelude.{◌≡◌, ◌-◌, ◌&&◌, None, Some, [], not, ℕ, List, IfOk, length, true};
+ghost use Rattle.std.specs.Option.{option_map};
+ghost use Rattle.sh_tree.specs.Trees as tree;
 ghost use Rattle.sh_tree.specs.Views.{word_tree};
 ghost use Rattle.sh_words.specs.Parameters as form;
-ghost use Rattle.sh_words.specs.Words.{done, made, PassesCommands, ReadsPieces, ReadsExpansion, word, ReadsBehind, ReadsWord, assigned_name, ReadsAssign};
-ghost use Rattle.sh_words.specs.Built.{part_tree, form_tree, trees_onto, open_in, is_expansion, StopsPieces, StopsExpansion, Faults};
+ghost use Rattle.sh_words.specs.Words.{made, Passes, in_commands, in_braces, behind_byte, ReadsPieces, ReadsExpansion, ReadsBehind, ReadsWord, assigned_name, ReadsAssign};
+ghost use Rattle.sh_words.specs.Built.{part_tree, form_tree, trees_onto, open_in, is_found, done_of, made_of, outcome_of};
 
 use crate::building::Building;
 use crate::expansions::{Expansion, Operator, bare_form, find_expansion};
 use crate::runs::name_bytes;
 use crate::steps::{Mode, Owner, Step, next_step};
 use ps_lines::{Memory, Text};
-use sh_lex::{Nest, Spot, front, past_construct};
+use sh_lex::{Head, Nest, Spot, front, past_construct};
 use sh_tree::{Form, Param, Part, Word};
 use std::alloc::Global;
 
@@ -23,57 +23,34 @@ pub const MAX_LEVELS: u32 = 64;
 /// A word that is read.
 #[derive(Debug, Drop)]
 pub struct ReadWord {
-    /// The word.
+    /// The word. A `${` that has none of the forms of an expansion leaves no part in it.
     pub word: Word,
     /// How many command substitutions it has.
     pub subs: u32,
-}
-
-/// Why no word was read.
-#[derive(Clone, Copy, Debug, PartialEq, Eq)]
-pub enum WordFault {
-    /// The `${` at this offset has none of the forms of an expansion. Of several the first is told.
-    Form(usize),
-    /// Memory was wanted and refused, or a command substitution would have no number below 2^32.
-    Memory,
-}
-
-/// Why the reading of a text stopped.
-#[derive(Clone, Copy, Debug)]
-pub enum Stop {
-    /// A `${` has no form, at which so many bytes are left.
-    IllFormed(usize),
-    /// Memory was wanted and refused.
-    Memory,
-}
-
-impl From<Memory> for Stop {
-    ghost use Rattle.std.specs.Prelude.{◌≡◌};
-    ghost use Rattle.sh_words.specs.declared.reading.Stop.TheVariants as stop;
-
-    ghost from_gives = { λ _ refusal. refusal ≡ stop.Memory };
-
-    fn from(_refused: Memory) -> Stop {
-        Stop::Memory
-    }
+    /// The offset in bytes of the first `${` without a form; None: each has one.
+    pub fault: Option<usize>,
 }
 
 /// The parts of a text up to the end of what it stands in.
 #[derive(Drop)]
-struct Reading<'a> {
+pub struct Reading<'a> {
     /// The parts.
     parts: Vec<Part>,
+    /// How many bytes are left at the first `${` without a form.
+    fault: Option<usize>,
     /// The number of the next command substitution.
     number: u32,
     /// What is left behind.
     rest: &'a [u8],
 }
 
-/// An expansion.
+/// What an expansion gives.
 #[derive(Drop)]
-struct Made<'a> {
-    /// The part.
-    part: Part,
+pub struct Made<'a> {
+    /// The part; None: the expansion has no form.
+    part: Option<Part>,
+    /// How many bytes are left at the first `${` without a form.
+    fault: Option<usize>,
     /// The number of the next command substitution.
     number: u32,
     /// What is left behind.
@@ -82,10 +59,10 @@ struct Made<'a> {
 
 /// Reads a word. `first` is the number of its first command substitution.
 ///
-/// Every list of bytes is read: what isn't closed ends with the text, and blanks and operators are bytes of the word.
-pub fn read_word(alloc: Global, bytes: &[u8], first: u32) -> Result<ReadWord, WordFault>
-    ensures read { IfOk result (λ read. ReadsWord first bytes.now (word (word_tree read.word) read.subs)) }
-    ensures fault { IfErr result (λ fault. Faults (ReadsWord first bytes.now) fault) }
+/// Every list of bytes is read: what isn't closed ends with the text, and blanks and operators are bytes of the word. Memory is told
+/// also where a command substitution would have no number below 2^32.
+pub fn read_word(alloc: Global, bytes: &[u8], first: u32) -> Result<ReadWord, Memory>
+    ensures { IfOk result (λ read. ReadsWord first bytes.now (outcome_of read)) }
 {
     read_behind(alloc, bytes, bytes, first)
 }
@@ -93,29 +70,21 @@ pub fn read_word(alloc: Global, bytes: &[u8], first: u32) -> Result<ReadWord, Wo
 /// Reads an assignment `NAME=value` (XCU 2.9.1) into its name and the word of its value.
 ///
 /// The name is the longest at the beginning, and the value is what stands behind the byte behind it, which is `=` in an assignment.
-pub fn read_assign(alloc: Global, bytes: &[u8], first: u32) -> Result<(Text, ReadWord), WordFault>
+/// The offset of a fault counts from the first byte of the name.
+pub fn read_assign(alloc: Global, bytes: &[u8], first: u32) -> Result<(Text, ReadWord), Memory>
     ensures name { IfOk result (λ read. read.0 ≡ assigned_name bytes.now) }
-    ensures value { IfOk result (λ read. ReadsAssign first bytes.now (word (word_tree read.1.word) read.1.subs)) }
-    ensures fault { IfErr result (λ fault. Faults (ReadsAssign first bytes.now) fault) }
+    ensures value { IfOk result (λ read. ReadsAssign first bytes.now (outcome_of read.1)) }
 {
     let mut name = Vec::new(alloc);
-    let rest = match name_bytes(bytes, &mut name) {
-        Ok(rest) => rest,
-        Err(_) => return Err(WordFault::Memory),
-    };
-    let name = match Text::copy_of(alloc, name.as_slice()) {
-        Ok(name) => name,
-        Err(_) => return Err(WordFault::Memory),
-    };
-    match read_behind(alloc, bytes, behind_byte(rest), first) {
-        Ok(value) => Ok((name, value)),
-        Err(fault) => Err(fault),
-    }
+    let rest = name_bytes(bytes, &mut name)?;
+    let name = Text::copy_of(alloc, name.as_slice())?;
+    let value = read_behind(alloc, bytes, behind_byte(rest), first)?;
+    Ok((name, value))
 }
 
 /// What is left behind the first byte.
 fn behind_byte(text: &[u8]) -> &[u8]
-    ensures { result.now ≡ drop 1 (unspliced text.now) }
+    ensures { result.now ≡ behind_byte text.now }
 {
     match front(text) {
         Some((_, rest)) => rest,
@@ -124,18 +93,30 @@ fn behind_byte(text: &[u8]) -> &[u8]
 }
 
 /// Reads the word at the end of these bytes.
-#[tactic(auto, using(crate::proofs::ReadLemmas::behind_read, crate::proofs::ReadLemmas::behind_stops))]
-fn read_behind(alloc: Global, bytes: &[u8], text: &[u8], first: u32) -> Result<ReadWord, WordFault>
-    ensures read { IfOk result (λ read. ReadsBehind first (length bytes.now) text.now (word (word_tree read.word) read.subs)) }
-    ensures fault { IfErr result (λ fault. Faults (ReadsBehind first (length bytes.now) text.now) fault) }
+#[tactic(auto, using(crate::proofs::ReadLemmas::behind_read))]
+fn read_behind(alloc: Global, bytes: &[u8], text: &[u8], first: u32) -> Result<ReadWord, Memory>
+    ensures { IfOk result (λ read. ReadsBehind first (length bytes.now) text.now (outcome_of read)) }
 {
-    match pieces(alloc, MAX_LEVELS, Mode::Word(Owner::Token), first, text) {
-        Ok(Reading { parts, number, .. }) => Ok(ReadWord {
-            word: word_of(parts),
-            subs: number.saturating_sub(first),
-        }),
-        Err(Stop::IllFormed(left)) => Err(WordFault::Form(bytes.len().saturating_sub(left))),
-        Err(Stop::Memory) => Err(WordFault::Memory),
+    let Reading {
+        parts,
+        fault,
+        number,
+        ..
+    } = pieces(alloc, MAX_LEVELS, Mode::Word(Owner::Token), first, text)?;
+    Ok(ReadWord {
+        word: word_of(parts),
+        subs: number.saturating_sub(first),
+        fault: offset(bytes.len(), fault),
+    })
+}
+
+/// The offset in so many bytes of the place at which so many are left.
+fn offset(total: usize, left: Option<usize>) -> Option<usize>
+    ensures { result ≡ option_map (λ left. total - left) left }
+{
+    match left {
+        Some(left) => Some(total.saturating_sub(left)),
+        None => None,
     }
 }
 
@@ -147,13 +128,12 @@ fn pieces(
     mode: Mode,
     number: u32,
     text: &[u8],
-) -> Result<Reading<'_>, Stop>
+) -> Result<Reading<'_>, Memory>
     requires { open_in mode ≡ 0 }
-    ensures read { IfOk result (λ read.
-        ReadsPieces most mode number text.now (done (trees_onto read.parts.items no_part) read.number read.rest.now)) }
-    ensures stop { IfErr result (λ stop. StopsPieces most mode number text.now stop) }
+    ensures { IfOk result (λ read. ReadsPieces most mode number text.now (done_of read)) }
 {
     let mut building = Building::start(alloc);
+    let mut fault = None;
     let mut at = mode;
     let mut next = number;
     let mut rest = text;
@@ -163,6 +143,7 @@ fn pieces(
                 let parts = building.finish(alloc)?;
                 return Ok(Reading {
                     parts,
+                    fault,
                     number: next,
                     rest: after,
                 });
@@ -184,10 +165,12 @@ fn pieces(
             Step::Expands(quoted, left, after) => {
                 let Made {
                     part,
+                    fault: later,
                     number,
                     rest: behind,
                 } = expanded(alloc, most, quoted, left, next, after)?;
-                building.push_expansion(alloc, part)?;
+                building.push_found(alloc, part)?;
+                fault = fault.or(later);
                 next = number;
                 rest = behind;
             }
@@ -197,7 +180,7 @@ fn pieces(
 
 /// Reads an expansion at whose `$` so many bytes are left, by the text behind that.
 #[cycle(words)]
-#[tactic(auto, using(crate::proofs::ReadLemmas::expansions_read, sh_tree::specs::declared::words::Form::the_lemmas))]
+#[tactic(auto, using(crate::proofs::ReadLemmas::parameter_read))]
 fn expanded(
     alloc: Global,
     most: u32,
@@ -205,19 +188,14 @@ fn expanded(
     left: usize,
     number: u32,
     text: &[u8],
-) -> Result<Made<'_>, Stop>
-    ensures read { IfOk result (λ found.
-        ReadsExpansion most quoted left number text.now (made (part_tree found.part) found.number found.rest.now)) }
-    ensures expansion { IfOk result (λ found. is_expansion (part_tree found.part) ≡ true) }
-    ensures stop { IfErr result (λ stop. StopsExpansion most quoted left number text.now stop) }
+) -> Result<Made<'_>, Memory>
+    ensures read { IfOk result (λ found. ReadsExpansion most quoted left number text.now (made_of found)) }
+    ensures part { IfOk result (λ found. is_found (option_map part_tree found.part) ≡ true) }
 {
     match find_expansion(alloc, text)? {
         Expansion::Whole(what, measured, rest) => Ok(Made {
-            part: Part::Param {
-                what,
-                form: bare_form(measured),
-                quoted,
-            },
+            part: Some(parameter_part(what, bare_form(measured), quoted)),
+            fault: None,
             number,
             rest,
         }),
@@ -226,7 +204,7 @@ fn expanded(
         }
         Expansion::Commands(inner) => substitution(alloc, quoted, number, inner),
         Expansion::Arithmetic(inner) => arithmetic(alloc, most, quoted, left, number, inner),
-        Expansion::NoForm => Err(Stop::IllFormed(left)),
+        Expansion::NoForm => without_form(alloc, quoted, left, number, text),
     }
 }
 
@@ -241,27 +219,40 @@ fn with_word(
     what: Param,
     operator: Operator,
     text: &[u8],
-) -> Result<Made<'_>, Stop>
+) -> Result<Made<'_>, Memory>
     ensures read { IfOk result (λ found. (whole : List ℕ) → form.expansion whole ≡ form.with_word what operator text.now
-        → ReadsExpansion most quoted left number whole (made (part_tree found.part) found.number found.rest.now)) }
-    ensures expansion { IfOk result (λ found. is_expansion (part_tree found.part) ≡ true) }
-    ensures stop { IfErr result (λ stop. (whole : List ℕ) → form.expansion whole ≡ form.with_word what operator text.now
-        → StopsExpansion most quoted left number whole stop) }
+        → ReadsExpansion most quoted left number whole (made_of found)) }
+    ensures part { IfOk result (λ found. is_found (option_map part_tree found.part) ≡ true) }
 {
     if most == 0 {
-        return Err(Stop::IllFormed(left));
+        return Ok(no_part(left, number, &[]));
     }
     let owner = word_owner(quoted, operator);
     let Reading {
         parts,
+        fault,
         number,
         rest,
     } = pieces(alloc, most - 1, Mode::Word(owner), number, text)?;
     Ok(Made {
-        part: parameter_part(what, operator.form(word_of(parts)), quoted),
+        part: Some(parameter_part(what, operator.form(word_of(parts)), quoted)),
+        fault,
         number,
         rest,
     })
+}
+
+/// What a `${` without a form gives, or what opens one level too many.
+fn no_part(left: usize, number: u32, rest: &[u8]) -> Made<'_>
+    ensures made { made_of result ≡ made None (Some left) number rest.now }
+    ensures part { is_found (option_map part_tree result.part) ≡ true }
+{
+    Made {
+        part: None,
+        fault: Some(left),
+        number,
+        rest,
+    }
 }
 
 /// The owner of the word of an expansion that is quoted or not: outer quotes don't quote a pattern that is removed (XCU 2.6.2).
@@ -274,7 +265,7 @@ fn word_owner(quoted: bool, operator: Operator) -> Owner
 /// The word of these parts.
 #[tactic(auto, using(sh_tree::specs::declared::words::Form::the_lemmas))]
 fn word_of(parts: Vec<Part>) -> Word
-    ensures { word_tree result ≡ trees_onto parts.items no_part }
+    ensures { word_tree result ≡ trees_onto parts.items tree.no_part }
 {
     Word { parts }
 }
@@ -282,14 +273,21 @@ fn word_of(parts: Vec<Part>) -> Word
 /// A parameter expansion.
 #[tactic(auto, using(sh_tree::specs::declared::words::Form::the_lemmas))]
 fn parameter_part(what: Param, form: Form, quoted: bool) -> Part
-    ensures { part_tree result ≡ parameter what (form_tree form) quoted }
+    ensures { part_tree result ≡ tree.parameter what (form_tree form) quoted }
 {
     Part::Param { what, form, quoted }
 }
 
+/// An arithmetic expansion.
+#[tactic(auto, using(sh_tree::specs::declared::words::Form::the_lemmas))]
+fn arithmetic_part(parts: Vec<Part>, quoted: bool) -> Part
+    ensures { part_tree result ≡ tree.arithmetic (trees_onto parts.items tree.no_part) quoted }
+{
+    Part::Arith { parts, quoted }
+}
+
 /// Reads the text of a `$(( ))`.
 #[cycle(words)]
-#[tactic(auto, using(crate::proofs::ReadLemmas::arithmetic_texts_read, sh_tree::specs::declared::words::Form::the_lemmas))]
 fn arithmetic(
     alloc: Global,
     most: u32,
@@ -297,55 +295,87 @@ fn arithmetic(
     left: usize,
     number: u32,
     text: &[u8],
-) -> Result<Made<'_>, Stop>
+) -> Result<Made<'_>, Memory>
     ensures read { IfOk result (λ found. (whole : List ℕ) → form.expansion whole ≡ form.arithmetic_text text.now
-        → ReadsExpansion most quoted left number whole (made (part_tree found.part) found.number found.rest.now)) }
-    ensures expansion { IfOk result (λ found. is_expansion (part_tree found.part) ≡ true) }
-    ensures stop { IfErr result (λ stop. (whole : List ℕ) → form.expansion whole ≡ form.arithmetic_text text.now
-        → StopsExpansion most quoted left number whole stop) }
+        → ReadsExpansion most quoted left number whole (made_of found)) }
+    ensures part { IfOk result (λ found. is_found (option_map part_tree found.part) ≡ true) }
 {
     if most == 0 {
-        return Err(Stop::IllFormed(left));
+        return Ok(no_part(left, number, &[]));
     }
     let Reading {
         parts,
+        fault,
         number,
         rest,
     } = pieces(alloc, most - 1, Mode::Arithmetic(0), number, text)?;
     Ok(Made {
-        part: Part::Arith { parts, quoted },
+        part: Some(arithmetic_part(parts, quoted)),
+        fault,
         number,
         rest,
     })
 }
 
 /// Passes over the tokens of a `$( )`.
-fn substitution(alloc: Global, quoted: bool, number: u32, text: &[u8]) -> Result<Made<'_>, Stop>
+fn substitution(alloc: Global, quoted: bool, number: u32, text: &[u8]) -> Result<Made<'_>, Memory>
     ensures read { IfOk result (λ found. (most left : ℕ) (whole : List ℕ) → form.expansion whole ≡ form.commands text.now
-        → ReadsExpansion most quoted left number whole (made (part_tree found.part) found.number found.rest.now)) }
-    ensures expansion { IfOk result (λ found. is_expansion (part_tree found.part) ≡ true) }
-    ensures stop { IfErr result (λ stop. stop ≡ Stop.Memory) }
-{
-    let rest = past_commands(alloc, text)?;
-    let Some(next) = number.checked_add(1) else {
-        return Err(Stop::Memory);
-    };
-    Ok(Made {
-        part: Part::Sub { number, quoted },
-        number: next,
-        rest,
-    })
-}
-
-/// What is left behind the `)` of a `$( )`; nothing, where it isn't closed.
-fn past_commands(alloc: Global, text: &[u8]) -> Result<&[u8], Memory>
-    ensures { IfOk result (λ rest. PassesCommands text.now rest.now) }
+        → ReadsExpansion most quoted left number whole (made_of found)) }
+    ensures part { IfOk result (λ found. is_found (option_map part_tree found.part) ≡ true) }
 {
     let nest = Nest {
         levels: 0,
         in_braces: false,
     };
-    let construct = sh_lex::Part::Commands(nest, Some(0), Spot::Between);
+    let rest = past(
+        alloc,
+        sh_lex::Part::Commands(nest, Some(0), Spot::Between),
+        text,
+    )?;
+    let Some(next) = number.checked_add(1) else {
+        return Err(Memory);
+    };
+    Ok(Made {
+        part: Some(substitution_part(number, quoted)),
+        fault: None,
+        number: next,
+        rest,
+    })
+}
+
+/// A command substitution.
+#[tactic(auto, using(sh_tree::specs::declared::words::Form::the_lemmas))]
+fn substitution_part(number: u32, quoted: bool) -> Part
+    ensures { part_tree result ≡ tree.substitution number quoted }
+{
+    Part::Sub { number, quoted }
+}
+
+/// Passes over a `${ }` that has none of the forms, at whose `$` so many bytes are left, by the text behind that.
+fn without_form(
+    alloc: Global,
+    quoted: bool,
+    left: usize,
+    number: u32,
+    text: &[u8],
+) -> Result<Made<'_>, Memory>
+    ensures read { IfOk result (λ found. (most : ℕ) → form.expansion text.now ≡ form.no_form
+        → ReadsExpansion most quoted left number text.now (made_of found)) }
+    ensures part { IfOk result (λ found. is_found (option_map part_tree found.part) ≡ true) }
+{
+    let nest = Nest {
+        levels: 0,
+        in_braces: true,
+    };
+    let head = sh_lex::Part::BraceHead(nest, left, quoted, Head::Start);
+    let rest = past(alloc, head, behind_byte(text))?;
+    Ok(no_part(left, number, rest))
+}
+
+/// What is left behind a construct that opens before the text; nothing, where it isn't closed.
+fn past(alloc: Global, construct: sh_lex::Part, text: &[u8]) -> Result<&[u8], Memory>
+    ensures { IfOk result (λ rest. Passes construct text.now rest.now) }
+{
     match past_construct(alloc, construct, text) {
         Ok(rest) => Ok(rest),
         Err(sh_lex::Stop::Refused(_)) => Ok(&[]),

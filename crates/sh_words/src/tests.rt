@@ -1,41 +1,41 @@
 //! Words and their trees.
-use crate::{WordFault, read_assign, read_word};
+use crate::{ReadWord, assigns_in, read_assign, read_word};
+use ps_lines::Memory;
 use sh_tree::{Form, Param, Part, Word};
 use std::alloc::{AllocError, Global};
 use std::process::Abort;
 use std::test::Fail;
 
-/// What `read_word` answers for a word whose first substitution has the number 0: its tree, or the offset of a fault.
+/// What `read_word` answers for a word whose first substitution has the number 0: its tree, and the offset of a fault behind it.
 fn shown(alloc: Global, text: &[u8]) -> Result<String, AllocError> {
     match read_word(alloc, text, 0) {
-        Ok(read) => {
-            let mut out = String::new(alloc);
-            show_word(alloc, &read.word, &mut out)?;
-            Ok(out)
-        }
-        Err(fault) => shown_fault(alloc, fault),
+        Ok(read) => shown_word(alloc, &read),
+        Err(Memory) => String::from_str(alloc, "Memory"),
     }
 }
 
-/// What `read_assign` answers, the same: the name, and the tree of the value.
+/// What `read_assign` answers, the same: the name, and the value.
 fn shown_assign(alloc: Global, text: &[u8]) -> Result<String, AllocError> {
     match read_assign(alloc, text, 0) {
         Ok((name, value)) => {
             let mut out = String::new(alloc);
             show_bytes(name.as_slice(), &mut out)?;
             out.push_str(" ")?;
-            show_word(alloc, &value.word, &mut out)?;
+            out.push_str(shown_word(alloc, &value)?.as_str())?;
             Ok(out)
         }
-        Err(fault) => shown_fault(alloc, fault),
+        Err(Memory) => String::from_str(alloc, "Memory"),
     }
 }
 
-fn shown_fault(alloc: Global, fault: WordFault) -> Result<String, AllocError> {
-    match fault {
-        WordFault::Form(offset) => format!(in alloc; "ParameterForm {offset}"),
-        WordFault::Memory => String::from_str(alloc, "Memory"),
+/// The tree, and the offset of the first `${` without a form behind a `!`.
+fn shown_word(alloc: Global, read: &ReadWord) -> Result<String, AllocError> {
+    let mut out = String::new(alloc);
+    show_word(alloc, &read.word, &mut out)?;
+    if let Some(offset) = read.fault {
+        out.push_str(format!(in alloc; " !{offset}")?.as_str())?;
     }
+    Ok(out)
 }
 
 /// `(w PART..)`
@@ -279,38 +279,58 @@ static ARITHMETIC: [(&str, &str); 17] = [
 ];
 
 static NO_FORMS: [(&str, &str); 32] = [
-    ("${}", "ParameterForm 0"),
-    ("${x!}", "ParameterForm 0"),
-    ("${ x}", "ParameterForm 0"),
-    ("${x y}", "ParameterForm 0"),
-    ("${x:}", "ParameterForm 0"),
-    ("${x:a}", "ParameterForm 0"),
-    ("${-}", "ParameterForm 0"),
-    ("${!}", "ParameterForm 0"),
-    ("${!x}", "ParameterForm 0"),
-    ("${x/a/b}", "ParameterForm 0"),
-    ("${x^}", "ParameterForm 0"),
-    ("${x[1]}", "ParameterForm 0"),
-    ("${1x}", "ParameterForm 0"),
-    ("${1=a}", "ParameterForm 0"),
-    ("${1:=a}", "ParameterForm 0"),
-    ("${?=a}", "ParameterForm 0"),
-    ("${@:-a}", "ParameterForm 0"),
-    ("${*%a}", "ParameterForm 0"),
-    ("${#@}", "ParameterForm 0"),
-    ("${##}", "ParameterForm 0"),
-    ("${#-w}", "ParameterForm 0"),
-    ("${#x%a}", "ParameterForm 0"),
-    ("${#x:-a}", "ParameterForm 0"),
-    ("${4294967296}", "ParameterForm 0"),
-    ("${99999999999999999999}", "ParameterForm 0"),
-    ("${x\n}", "ParameterForm 0"),
-    ("\"${x!}\"", "ParameterForm 1"),
-    ("\"${x:-${y!}}\"", "ParameterForm 6"),
-    ("${x!}${y!}", "ParameterForm 0"),
-    ("${x}${y:-${z!}}${z!}", "ParameterForm 9"),
-    ("$((${x!}))", "ParameterForm 3"),
-    ("x=${y!}", "ParameterForm 2"),
+    ("${}", "(w) !0"),
+    ("${x!}", "(w) !0"),
+    ("${ x}", "(w) !0"),
+    ("${x y}", "(w) !0"),
+    ("${x:}", "(w) !0"),
+    ("${x:a}", "(w) !0"),
+    ("${-}", "(w) !0"),
+    ("${!}", "(w) !0"),
+    ("${!x}", "(w) !0"),
+    ("${x/a/b}", "(w) !0"),
+    ("${x^}", "(w) !0"),
+    ("${x[1]}", "(w) !0"),
+    ("${1x}", "(w) !0"),
+    ("${1=a}", "(w) !0"),
+    ("${1:=a}", "(w) !0"),
+    ("${?=a}", "(w) !0"),
+    ("${@:-a}", "(w) !0"),
+    ("${*%a}", "(w) !0"),
+    ("${#@}", "(w) !0"),
+    ("${##}", "(w) !0"),
+    ("${#-w}", "(w) !0"),
+    ("${#x%a}", "(w) !0"),
+    ("${#x:-a}", "(w) !0"),
+    ("${4294967296}", "(w) !0"),
+    ("${99999999999999999999}", "(w) !0"),
+    ("${x\n}", "(w) !0"),
+    ("\"${x!}\"", "(w) !1"),
+    ("\"${x:-${y!}}\"", "(w (V x :- (w))) !6"),
+    ("${x!}${y!}", "(w) !0"),
+    ("${x}${y:-${z!}}${z!}", "(w (v x) (v y :- (w))) !9"),
+    ("$((${x!}))", "(w (a)) !3"),
+    ("x=${y!}", "(w p:x=) !2"),
+];
+
+/// The reading goes on behind a `${ }` without a form.
+static BEHIND_NO_FORMS: [(&str, &str); 16] = [
+    ("${x:=1}${y!}", "(w (v x := (w p:1))) !7"),
+    ("${y!}${x:=1}", "(w (v x := (w p:1))) !0"),
+    ("${x!${y:=1}}", "(w) !0"),
+    ("\"${y!}\"a", "(w p:a) !1"),
+    ("${x:-${y!}}z", "(w (v x :- (w)) p:z) !5"),
+    ("a${y!}b", "(w p:ab) !1"),
+    ("\"a${y!}b\"", "(w q:ab) !2"),
+    ("${x!'}'}a", "(w p:a) !0"),
+    ("\"${x!'}a\"", "(w q:a) !1"),
+    ("${x!\\}}a", "(w p:a) !0"),
+    ("${x!\"}\"}a", "(w p:a) !0"),
+    ("${1=${2!}}${x!}b", "(w p:b) !0"),
+    ("$((1+${x!}+2))b", "(w (a p:1++2) p:b) !5"),
+    ("$\\\n{x!}a", "(w p:a) !0"),
+    ("${x:?${y!}}", "(w (v x :?)) !5"),
+    ("${x!", "(w) !0"),
 ];
 
 /// Assignments. The offset of a fault counts from the beginning of the name.
@@ -322,12 +342,40 @@ static ASSIGNMENTS: [(&str, &str); 10] = [
     ("x=y=z", "x (w p:y=z)"),
     ("a\\\nb\\\n=c", "ab (w p:c)"),
     ("x=$(a)\"$(b)\"", "x (w (s 0) (S 1))"),
-    ("x=${y!}", "ParameterForm 2"),
-    ("long=a${y:-${z!}}", "ParameterForm 11"),
-    ("a\\\nb=${y!}", "ParameterForm 5"),
+    ("x=${y!}", "x (w) !2"),
+    ("long=a${y:-${z!}}", "long (w p:a (v y :- (w))) !11"),
+    ("a\\\nb=${y!}", "ab (w) !5"),
 ];
 
-/// Sees that the word has this tree, or this fault.
+/// Whether an expansion in the word assigns a variable.
+static ASSIGNING: [(&str, bool); 24] = [
+    ("${x:=1}", true),
+    ("${x=1}", true),
+    ("a${y:-${x:=1}}", true),
+    ("${y##${x=1}}", true),
+    ("${y:?${x=1}}", true),
+    ("\"${x:=1}\"", true),
+    ("$((x=1))", true),
+    ("$((x = 1))", true),
+    ("$((x===1))", true),
+    ("$((x<<=1))", true),
+    ("$((x>>=1))", true),
+    ("$((x+=1))", true),
+    ("$((${x:=1}))", true),
+    ("$((${x}=1))", true),
+    ("${y!}${x:=1}", true),
+    ("$((x==1))", false),
+    ("$((x<=1))", false),
+    ("$((x>=1))", false),
+    ("$((x!=1))", false),
+    ("$((${x:-=}))", false),
+    ("${x:-=}", false),
+    ("x=1", false),
+    ("'${x:=1}'", false),
+    ("${x!${y:=1}}$(z=${x:=1})", false),
+];
+
+/// Sees that the word has this tree, and this fault.
 fn reads_as<R: Abort + AllocGlobal>(rt: &R, text: &str, expected: &str) -> Result<(), Fail> {
     assert_eq!(rt;
         shown(rt.alloc(), text.as_bytes())?.as_str(),
@@ -376,6 +424,14 @@ fn all_else_has_no_form(rt: HostRuntime) -> Result<(), Fail> {
 }
 
 #[test]
+fn the_reading_goes_on_behind_what_has_no_form(rt: HostRuntime) -> Result<(), Fail> {
+    for &(text, expected) in BEHIND_NO_FORMS.iter() {
+        reads_as(&rt, text, expected)?;
+    }
+    Ok(())
+}
+
+#[test]
 fn substitutions_are_counted_from_the_first(rt: HostRuntime) -> Result<(), Fail> {
     let mut out = String::new(rt.alloc());
     let mut subs = None;
@@ -395,6 +451,18 @@ fn assignments_have_a_name_and_a_value(rt: HostRuntime) -> Result<(), Fail> {
             expected,
             "at {text:?}"
         );
+    }
+    Ok(())
+}
+
+#[test]
+fn words_assign_as_they_are_written(rt: HostRuntime) -> Result<(), Fail> {
+    for &(text, expected) in ASSIGNING.iter() {
+        let assigns = match read_word(rt.alloc(), text.as_bytes(), 0) {
+            Ok(read) => Some(assigns_in(&read.word)),
+            Err(Memory) => None,
+        };
+        assert_eq!(rt; assigns, Some(expected), "at {text:?}");
     }
     Ok(())
 }

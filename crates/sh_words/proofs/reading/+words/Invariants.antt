@@ -1,8 +1,9 @@
 -- The pieces so far stand in front of all that the rest gives. The levels that may still open decide which call is the smaller.
-use Rattle.std.proofs.Common.{ℕ, ◌+◌, ◌*◌, ◌≤◌, List, length}
+use Rattle.std.proofs.Common.{ℕ, ◌+◌, ◌*◌, ◌≤◌, Option, List, length}
+use Rattle.std.specs.Option.{option_or}
 use Rattle.sh_tree.specs.Trees.{WordTree}
 use Rattle.sh_words.specs.Built.{built, open_in}
-use Rattle.sh_words.specs.Words.{done, ill_formed, ReadsPieces}
+use Rattle.sh_words.specs.Words.{done, ReadsPieces}
 use Rattle.sh_words.proofs.reading.+words.Given as goal
 
 abbrev pub decreases-pieces : goal.decreases-pieces
@@ -19,10 +20,8 @@ decreases-arithmetic l = 3 * l.most
 
 abbrev pub invariant-pieces-loop-after : goal.invariant-pieces-loop-after
 invariant-pieces-loop-after l = record {
-  read : (word : WordTree) (number : ℕ) (rest : List ℕ) → ReadsPieces l.fn.most l.at l.next l.rest (done word number rest)
-      → ReadsPieces l.fn.most l.fn.mode l.fn.number l.fn.text (done (built l.building word) number rest);
-  stop : (left : ℕ) → ReadsPieces l.fn.most l.at l.next l.rest (ill_formed left)
-      → ReadsPieces l.fn.most l.fn.mode l.fn.number l.fn.text (ill_formed left);
+  read : (word : WordTree) (fault : Option ℕ) (number : ℕ) (rest : List ℕ) → ReadsPieces l.fn.most l.at l.next l.rest (done word fault number rest)
+      → ReadsPieces l.fn.most l.fn.mode l.fn.number l.fn.text (done (built l.building word) (option_or l.fault fault) number rest);
   depth : open_in l.at + length l.rest ≤ length l.fn.text;
 }
 

@@ -51,8 +51,8 @@ module _ (views : WordViews) (most : ℕ) where
   -- what the rule of a part reads, below a stack of so many levels
   abbrev pub Is : Part → ℕ → List Item → List Item → Type 0
   Is (pieces at) depth items left = (found : List Piece) × IsPieces views most depth at items found left
-  Is operator depth items left = (how : How) × ((kind : WordKind) × ((at : Span) × ((middle : List Item) × ((subs : SubTrees)
-      × ((items ≡ token.Redirect how ∷ token.Word kind at ∷ middle) × IsSubs views most depth middle subs left)))))
+  Is operator depth items left = (how : How) × ((from : ℕ) × ((kind : WordKind) × ((at : Span) × ((middle : List Item) × ((subs : SubTrees)
+      × ((items ≡ token.Redirect how from ∷ token.Word kind at ∷ middle) × IsSubs views most depth middle subs left))))))
   Is target depth items left = (kind : WordKind) × ((at : Span) × ((middle : List Item) × ((subs : SubTrees)
       × ((items ≡ token.Word kind at ∷ middle) × IsSubs views most depth middle subs left))))
   Is substitutions depth items left = (subs : SubTrees) × IsSubs views most depth items subs left
@@ -110,32 +110,32 @@ module _ (views : WordViews) (most : ℕ) where
       (left, ((argument span subs ∷ found, g.more_pieces (g.is_argument e is_subs) is_found), o))
   word_back at kind span stack use_as.Unused e = λ rest. ([], g.last_piece (ap is_used e))
 
-  number_back : (at : Place) (number : ℕ) (stack : List Part) (o : Option Place) → redirects at ≡ o
-      → Back (pieces at) (token.IoNumber number) stack (redirection_by operator o)
-  number_back at number stack None e = λ rest. ([], g.last_piece (ap is_some e))
-  number_back at number stack (Some behind) e = λ rest o.
-      let (middle, ((how, (kind, (span, (inner, (subs, (same, is_subs)))))), (left, ((found, is_found), o)))) = o in (
+  number_back : (at : Place) (number before : ℕ) (stack : List Part) (o : Option Place) → redirects at ≡ o
+      → Back (pieces at) (token.IoNumber number before) stack (redirection_by operator o)
+  number_back at number before stack None e = λ rest. ([], g.last_piece (ap is_some e))
+  number_back at number before stack (Some behind) e = λ rest o.
+      let (middle, ((how, (from, (kind, (span, (inner, (subs, (same, is_subs))))))), (left, ((found, is_found), o)))) = o in (
         left,
         (
           (
             redirection number how span subs ∷ found,
-            subst (λ i. IsPieces views most (levels stack) at (token.IoNumber number ∷ i) (redirection number how span subs ∷ found) left)
+            subst (λ i. IsPieces views most (levels stack) at (token.IoNumber number before ∷ i) (redirection number how span subs ∷ found) left)
                 (sym same) (g.more_pieces (g.is_numbered e is_subs) is_found),
           ),
           o,
         ),
       )
 
-  redirect_back : (at : Place) (how : How) (stack : List Part) (o : Option Place) → redirects at ≡ o
-      → Back (pieces at) (token.Redirect how) stack (redirection_by target o)
-  redirect_back at how stack None e = λ rest. ([], g.last_piece (ap is_some e))
-  redirect_back at how stack (Some behind) e = λ rest o.
+  redirect_back : (at : Place) (how : How) (from : ℕ) (stack : List Part) (o : Option Place) → redirects at ≡ o
+      → Back (pieces at) (token.Redirect how from) stack (redirection_by target o)
+  redirect_back at how from stack None e = λ rest. ([], g.last_piece (ap is_some e))
+  redirect_back at how from stack (Some behind) e = λ rest o.
       let (middle, ((kind, (span, (inner, (subs, (same, is_subs))))), (left, ((found, is_found), o)))) = o in (
         left,
         (
           (
             redirection (default_number how) how span subs ∷ found,
-            subst (λ i. IsPieces views most (levels stack) at (token.Redirect how ∷ i) (redirection (default_number how) how span subs ∷ found) left)
+            subst (λ i. IsPieces views most (levels stack) at (token.Redirect how from ∷ i) (redirection (default_number how) how span subs ∷ found) left)
                 (sym same) (g.more_pieces (g.is_redirection e is_subs) is_found),
           ),
           o,
@@ -144,8 +144,8 @@ module _ (views : WordViews) (most : ℕ) where
 
   piece_back : (at : Place) (first : Item) (stack : List Part) → Back (pieces at) first stack (piece_by at first)
   piece_back at (token.Word kind span) stack = word_back at kind span stack (used at kind) refl
-  piece_back at (token.IoNumber number) stack = number_back at number stack (redirects at) refl
-  piece_back at (token.Redirect how) stack = redirect_back at how stack (redirects at) refl
+  piece_back at (token.IoNumber number before) stack = number_back at number before stack (redirects at) refl
+  piece_back at (token.Redirect how from) stack = redirect_back at how from stack (redirects at) refl
   piece_back at _ stack = λ rest. ([], g.last_piece refl)
 
   simple_back : {depth : ℕ} {first : Item} {rest left : List Item} {found : List Piece} → begins_piece place.First first ≡ true
@@ -227,8 +227,8 @@ module _ (views : WordViews) (most : ℕ) where
   command_back (token.Word word.Name at) stack = needed_back (token.Word word.Name at) stack (piece_by place.First (token.Word word.Name at)) refl (piece_back place.First (token.Word word.Name at) stack)
   command_back (token.Word word.Assign at) stack = needed_back (token.Word word.Assign at) stack (piece_by place.First (token.Word word.Assign at)) refl (piece_back place.First (token.Word word.Assign at) stack)
   command_back (token.Word word.Other at) stack = needed_back (token.Word word.Other at) stack (piece_by place.First (token.Word word.Other at)) refl (piece_back place.First (token.Word word.Other at) stack)
-  command_back (token.IoNumber number) stack = needed_back (token.IoNumber number) stack (piece_by place.First (token.IoNumber number)) refl (piece_back place.First (token.IoNumber number) stack)
-  command_back (token.Redirect how) stack = needed_back (token.Redirect how) stack (piece_by place.First (token.Redirect how)) refl (piece_back place.First (token.Redirect how) stack)
+  command_back (token.IoNumber number before) stack = needed_back (token.IoNumber number before) stack (piece_by place.First (token.IoNumber number before)) refl (piece_back place.First (token.IoNumber number before) stack)
+  command_back (token.Redirect how from) stack = needed_back (token.Redirect how from) stack (piece_by place.First (token.Redirect how from)) refl (piece_back place.First (token.Redirect how from) stack)
   command_back (token.Open at) stack = λ less rest o.
       let (middle, ((list, is_list), (behind, (same, (left, ((redirs, is_redirs), o)))))) = o in (
         left,
@@ -364,9 +364,9 @@ module _ (views : WordViews) (most : ℕ) where
 
   back : (part : Part) (first : Item) (stack : List Part) → Back part first stack (move part first)
   back (pieces at) first stack = piece_back at first stack
-  back operator (token.Redirect how) stack = λ rest o.
+  back operator (token.Redirect how from) stack = λ rest o.
       let (left, ((kind, (at, (middle, (subs, (same, is_subs))))), o)) = o in
-      (left, ((how, (kind, (at, (middle, (subs, (ap (λ i. token.Redirect how ∷ i) same, is_subs)))))), o))
+      (left, ((how, (from, (kind, (at, (middle, (subs, (ap (λ i. token.Redirect how from ∷ i) same, is_subs))))))), o))
   back operator _ stack = tt
   back target (token.Word kind at) stack = λ rest o.
       let (left, ((subs, is_subs), o)) = o in (left, ((kind, (at, (rest, (subs, (refl, is_subs))))), o))

@@ -403,14 +403,14 @@ module _ {views : WordViews} {most : ℕ} where
         ∙ ap (λ x. build views items (substitutions ∷ pieces behind_it ∷ stack) (word_as views x kind at
         (state construct list (making (simple_command assigns arguments redirs read) 0 how.Read made) outer))) u
         ∙ subs_run subs (pieces behind_it ∷ stack) construct list assigns _ redirs read made outer
-    piece_run (g.is_numbered {number = number} {spot = spot} {behind = behind_it} {how = by} {kind = kind} {at = at} {items = items} u subs)
+    piece_run (g.is_numbered {number = number} {before = before} {from = from} {spot = spot} {behind = behind_it} {how = by} {kind = kind} {at = at} {items = items} u subs)
         stack construct list (simple_command assigns arguments redirs read) made outer =
-        on_push views (pieces spot) (token.IoNumber number) (token.Redirect by ∷ token.Word kind at ∷ items) (operator ∷ pieces behind_it ∷ []) stack
+        on_push views (pieces spot) (token.IoNumber number before) (token.Redirect by from ∷ token.Word kind at ∷ items) (operator ∷ pieces behind_it ∷ []) stack
         (state construct list (making (simple_command assigns arguments redirs read) 0 how.Read made) outer) (ap (redirection_by operator) u)
         ∙ subs_run subs (pieces behind_it ∷ stack) construct list assigns arguments _ read made outer
-    piece_run (g.is_redirection {spot = spot} {behind = behind_it} {how = by} {kind = kind} {at = at} {items = items} u subs)
+    piece_run (g.is_redirection {from = from} {spot = spot} {behind = behind_it} {how = by} {kind = kind} {at = at} {items = items} u subs)
         stack construct list (simple_command assigns arguments redirs read) made outer =
-        on_push views (pieces spot) (token.Redirect by) (token.Word kind at ∷ items) (target ∷ pieces behind_it ∷ []) stack
+        on_push views (pieces spot) (token.Redirect by from) (token.Word kind at ∷ items) (target ∷ pieces behind_it ∷ []) stack
         (state construct list (making (simple_command assigns arguments redirs read) 0 how.Read made) outer) (ap (redirection_by target) u)
         ∙ subs_run subs (pieces behind_it ∷ stack) construct list assigns arguments _ read made outer
 

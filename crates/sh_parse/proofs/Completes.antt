@@ -116,8 +116,8 @@ redirect_keeps at stack (Some place) = λ h. h
 
 piece_keeps : (at : Place) (first : Item) (stack : List Part) → Keeps (pieces at) stack (piece_by at first)
 piece_keeps at (token.Word kind span) stack = word_keeps at stack (used at kind)
-piece_keeps at (token.IoNumber number) stack = number_keeps at stack (redirects at)
-piece_keeps at (token.Redirect how) stack = redirect_keeps at stack (redirects at)
+piece_keeps at (token.IoNumber number from) stack = number_keeps at stack (redirects at)
+piece_keeps at (token.Redirect how from) stack = redirect_keeps at stack (redirects at)
 piece_keeps at _ stack = λ h. any_sound pieces_end stack h
 
 needed_keeps : (at : Place) (stack : List Part) (m : Move) → Keeps (pieces at) stack m → Keeps a_command stack (needed m)
@@ -137,8 +137,8 @@ command_keeps (token.Word word.In at) stack = λ h. pipes_end stack h
 command_keeps (token.Word word.Name at) stack = λ h. pipes_end stack h
 command_keeps (token.Word word.Assign at) stack = λ h. pipes_end stack h
 command_keeps (token.Word word.Other at) stack = λ h. pipes_end stack h
-command_keeps (token.IoNumber number) stack = λ h. pipes_end stack h
-command_keeps (token.Redirect how) stack = λ h. pipes_end stack h
+command_keeps (token.IoNumber number from) stack = λ h. pipes_end stack h
+command_keeps (token.Redirect how from) stack = λ h. pipes_end stack h
 command_keeps (token.Open at) stack = λ h. pipes_end stack h
 command_keeps _ stack = tt
 
@@ -204,7 +204,7 @@ branch_keeps _ stack = tt
 
 keeps : (part : Part) (first : Item) (stack : List Part) → Keeps part stack (move part first)
 keeps (pieces at) first stack = piece_keeps at first stack
-keeps operator (token.Redirect how) stack = λ h. h
+keeps operator (token.Redirect how from) stack = λ h. h
 keeps operator _ stack = tt
 keeps target (token.Word kind at) stack = λ h. h
 keeps target _ stack = tt
@@ -284,7 +284,7 @@ abbrev pub loop_ending : List Item
 loop_ending = the_word reserved.Do ∷ a_word ∷ token.Semi ∷ the_word reserved.Done ∷ []
 
 abbrev pub ending : Part → List Item
-ending operator = token.Redirect how.Read ∷ a_word ∷ []
+ending operator = token.Redirect how.Read 0 ∷ a_word ∷ []
 ending target = a_word ∷ []
 ending a_pipeline = a_word ∷ []
 ending a_command = a_word ∷ []

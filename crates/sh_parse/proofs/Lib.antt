@@ -12,3 +12,9 @@ pub mod Walks
 pub mod Spellings
 pub mod Behinds
 pub mod OneList
+pub mod TextItems
+pub mod ManyWords
+pub mod OneOutcome
+pub mod Parsings
+pub mod Seekings
+pub mod Misusing

@@ -75,8 +75,8 @@ no_redirection part (Some behind) h = cc
 
 pub piece_skips : (at : Place) (first : Item) → begins_piece at first ≡ false → piece_by at first ≡ skip
 piece_skips at (token.Word kind span) h = word_unused (used at kind) h
-piece_skips at (token.IoNumber number) h = no_redirection operator (redirects at) h
-piece_skips at (token.Redirect how) h = no_redirection target (redirects at) h
+piece_skips at (token.IoNumber number from) h = no_redirection operator (redirects at) h
+piece_skips at (token.Redirect how from) h = no_redirection target (redirects at) h
 piece_skips at _ h = refl
 
 word_used : (u : Use) → is_used u ≡ true → Moves (word_by u)
@@ -90,8 +90,8 @@ command_by_piece (token.Word word.In at) h = refl
 command_by_piece (token.Word word.Name at) h = refl
 command_by_piece (token.Word word.Assign at) h = refl
 command_by_piece (token.Word word.Other at) h = refl
-command_by_piece (token.IoNumber number) h = refl
-command_by_piece (token.Redirect how) h = refl
+command_by_piece (token.IoNumber number from) h = refl
+command_by_piece (token.Redirect how from) h = refl
 command_by_piece _ h = absurd h
 
 no_compound : (name : reserved_word.Reserved) → begins_compound (word.Reserved name) ≡ false → compound_by name ≡ stuck
@@ -111,16 +111,16 @@ no_pipeline (token.Word (word.Reserved reserved.Until) at) h = cc
 no_pipeline (token.Word (word.Reserved reserved.For) at) h = cc
 no_pipeline (token.Word (word.Reserved _) at) h = refl
 no_pipeline (token.Word _ at) h = cc
-no_pipeline (token.IoNumber number) h = cc
-no_pipeline (token.Redirect how) h = cc
+no_pipeline (token.IoNumber number from) h = cc
+no_pipeline (token.Redirect how from) h = cc
 no_pipeline (token.Open at) h = cc
 no_pipeline _ h = refl
 
 pub again_skips : (first : Item) → goes_on first ≡ false → move again first ≡ skip
 again_skips token.Newline h = cc
 again_skips (token.Word kind at) h = ap (λ m. followed m (pipes ∷ joins ∷ separator ∷ []) skip) (no_pipeline (token.Word kind at) h)
-again_skips (token.IoNumber number) h = cc
-again_skips (token.Redirect how) h = cc
+again_skips (token.IoNumber number from) h = cc
+again_skips (token.Redirect how from) h = cc
 again_skips (token.Open at) h = cc
 again_skips _ h = refl
 
@@ -269,10 +269,10 @@ module _ {views : WordViews} {most : ℕ} where
       (token.Word kind at, (items, (refl, subst (λ x. Moves (word_by x)) (sym u) tt)))
   piece_begins (g.is_argument {kind = kind} {at = at} {items = items} u subs) =
       (token.Word kind at, (items, (refl, subst (λ x. Moves (word_by x)) (sym u) tt)))
-  piece_begins (g.is_numbered {number = number} {how = how} {kind = kind} {at = at} {items = items} u subs) =
-      (token.IoNumber number, (token.Redirect how ∷ token.Word kind at ∷ items, (refl, subst (λ x. Moves (redirection_by operator x)) (sym u) tt)))
-  piece_begins (g.is_redirection {how = how} {kind = kind} {at = at} {items = items} u subs) =
-      (token.Redirect how, (token.Word kind at ∷ items, (refl, subst (λ x. Moves (redirection_by target x)) (sym u) tt)))
+  piece_begins (g.is_numbered {number = number} {before = before} {from = from} {how = how} {kind = kind} {at = at} {items = items} u subs) =
+      (token.IoNumber number before, (token.Redirect how from ∷ token.Word kind at ∷ items, (refl, subst (λ x. Moves (redirection_by operator x)) (sym u) tt)))
+  piece_begins (g.is_redirection {from = from} {how = how} {kind = kind} {at = at} {items = items} u subs) =
+      (token.Redirect how from, (token.Word kind at ∷ items, (refl, subst (λ x. Moves (redirection_by target x)) (sym u) tt)))
 
   pub command_begins : {depth : ℕ} {items left : List Item} {tree : CommandTree} → IsCommand views most depth items tree left
       → BeginsCommand items
@@ -411,12 +411,12 @@ module _ {views : WordViews} {most : ℕ} where
     piece_run (g.is_argument {spot = spot} {behind = behind} {kind = kind} {at = at} {items = items} u subs) stack h =
         on_push most (pieces spot) (token.Word kind at) items (substitutions ∷ pieces behind ∷ []) stack (ap word_by u)
         ∙ subs_run subs (pieces behind ∷ stack) h
-    piece_run (g.is_numbered {number = number} {spot = spot} {behind = behind} {how = how} {kind = kind} {at = at} {items = items} u subs) stack h =
-        on_push most (pieces spot) (token.IoNumber number) (token.Redirect how ∷ token.Word kind at ∷ items) (operator ∷ pieces behind ∷ []) stack
+    piece_run (g.is_numbered {number = number} {before = before} {from = from} {spot = spot} {behind = behind} {how = how} {kind = kind} {at = at} {items = items} u subs) stack h =
+        on_push most (pieces spot) (token.IoNumber number before) (token.Redirect how from ∷ token.Word kind at ∷ items) (operator ∷ pieces behind ∷ []) stack
         (ap (redirection_by operator) u)
         ∙ subs_run subs (pieces behind ∷ stack) h
-    piece_run (g.is_redirection {spot = spot} {behind = behind} {how = how} {kind = kind} {at = at} {items = items} u subs) stack h =
-        on_push most (pieces spot) (token.Redirect how) (token.Word kind at ∷ items) (target ∷ pieces behind ∷ []) stack
+    piece_run (g.is_redirection {from = from} {spot = spot} {behind = behind} {how = how} {kind = kind} {at = at} {items = items} u subs) stack h =
+        on_push most (pieces spot) (token.Redirect how from) (token.Word kind at ∷ items) (target ∷ pieces behind ∷ []) stack
         (ap (redirection_by target) u)
         ∙ subs_run subs (pieces behind ∷ stack) h
 

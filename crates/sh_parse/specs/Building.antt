@@ -258,8 +258,8 @@ redirect_by_role _ by now = on_making (with_how by) (on_making (with_number (def
 -- what an item adds
 abbrev pub acted : WordViews → Role → Item → State → State
 acted views at (token.Word kind span) now = word_by_role views at kind span now
-acted views at (token.IoNumber number) now = on_making (with_number number) now
-acted views at (token.Redirect by) now = redirect_by_role at by now
+acted views at (token.IoNumber number _) now = on_making (with_number number) now
+acted views at (token.Redirect by _) now = redirect_by_role at by now
 acted views at (token.Join sign) now = on_listing (with_sign sign) now
 acted views at (token.Open _) now = opened in_subshell now
 acted views at token.Close now = closed now

@@ -243,15 +243,15 @@ mutual
     is_argument : {depth : ℕ} {spot behind : Place} {kind : WordKind} {at : Span} {items left : List Item} {subs : SubTrees}
         → used spot kind ≡ use_as.Given behind → IsSubs views most depth items subs left
         → IsPiece views most depth spot (token.Word kind at ∷ items) (argument at subs) behind left
-    is_numbered : {depth number : ℕ} {spot behind : Place} {how : How} {kind : WordKind} {at : Span} {items left : List Item}
+    is_numbered : {depth number before from : ℕ} {spot behind : Place} {how : How} {kind : WordKind} {at : Span} {items left : List Item}
         {subs : SubTrees}
         → redirects spot ≡ Some behind → IsSubs views most depth items subs left
-        → IsPiece views most depth spot (token.IoNumber number ∷ token.Redirect how ∷ token.Word kind at ∷ items)
+        → IsPiece views most depth spot (token.IoNumber number before ∷ token.Redirect how from ∷ token.Word kind at ∷ items)
         (redirection number how at subs) behind left
-    is_redirection : {depth : ℕ} {spot behind : Place} {how : How} {kind : WordKind} {at : Span} {items left : List Item}
+    is_redirection : {depth from : ℕ} {spot behind : Place} {how : How} {kind : WordKind} {at : Span} {items left : List Item}
         {subs : SubTrees}
         → redirects spot ≡ Some behind → IsSubs views most depth items subs left
-        → IsPiece views most depth spot (token.Redirect how ∷ token.Word kind at ∷ items)
+        → IsPiece views most depth spot (token.Redirect how from ∷ token.Word kind at ∷ items)
         (redirection (default_number how) how at subs) behind left
 
   -- the substitutions of a word

@@ -3,6 +3,8 @@ pub mod Places
 pub mod Owed
 pub mod Grammar
 pub mod Stops
+pub mod Misuses
+pub mod Seeking
 pub mod Moves
 pub mod Building
 pub mod Trees
@@ -10,3 +12,6 @@ pub mod Built
 pub mod Kinds
 pub mod Texts
 pub mod Behind
+pub mod Outcomes
+pub mod WordsOf
+pub mod Parses

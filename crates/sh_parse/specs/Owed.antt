@@ -65,8 +65,8 @@ redirection_by part None = skip
 -- what a piece owes behind its first item
 abbrev pub piece_by : Place → Item → Move
 piece_by at (item.Word kind _) = word_by (used at kind)
-piece_by at (item.IoNumber _) = redirection_by operator (redirects at)
-piece_by at (item.Redirect _) = redirection_by target (redirects at)
+piece_by at (item.IoNumber _ _) = redirection_by operator (redirects at)
+piece_by at (item.Redirect _ _) = redirection_by target (redirects at)
 piece_by at _ = skip
 
 -- a move of a part that must be there
@@ -98,7 +98,7 @@ branch_by _ = stuck
 
 abbrev pub move : Part → Item → Move
 move (pieces at) first = piece_by at first
-move operator (item.Redirect how) = push (target ∷ [])
+move operator (item.Redirect how _) = push (target ∷ [])
 move operator _ = stuck
 move target (item.Word kind at) = push (substitutions ∷ [])
 move target _ = stuck

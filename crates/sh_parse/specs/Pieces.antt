@@ -1,16 +1,20 @@
 -- What a simple command is made of (XCU 2.9.1): its assignments, words and redirections, in text order. They are gathered by kind,
 -- and the command substitutions of all of them are numbered in text order.
-use Rattle.std.specs.Prelude.{ℕ, ◌+◌, List, [], ◌∷◌, ◌++◌}
+use Rattle.std.specs.Prelude.{ℕ, Bool, ◌+◌, List, [], ◌∷◌, ◌++◌}
+use Rattle.std.specs.declared.option.Option.{Option}
 use Rattle.sh_tree.specs.Trees.{WordTree, SimpleTree, simple_command, SubTrees, no_sub, sub, TailTree, tail, WordsTree, words}
 use Rattle.sh_tree.specs.declared.commands.How.{How}
 use Rattle.sh_tree.specs.declared.commands.How.TheVariants as how
 use Rattle.sh_parse.specs.declared.items.Span.{Span}
 
--- what words are, by where they stand and the number of their first substitution
+-- what words are, by where they stand and the number of their first substitution; and of each where its first `${` stands that has none of
+-- the forms of an expansion, and whether an expansion in it assigns a variable
 pub record WordViews : Type 0 where
   pub word : Span → ℕ → WordTree
   pub assign : Span → ℕ → List ℕ × WordTree
   pub name : Span → List ℕ
+  pub fault : Span → Option ℕ
+  pub assigns : Span → Bool
 
 -- the word of each piece, and the lists of its substitutions
 pub data Piece : Type 0 where

@@ -40,8 +40,8 @@ is_used use_as.Unused = false
 -- a piece begins with the item
 abbrev pub begins_piece : Place → Item → Bool
 begins_piece at (item.Word kind _) = is_used (used at kind)
-begins_piece at (item.IoNumber _) = is_some (redirects at)
-begins_piece at (item.Redirect _) = is_some (redirects at)
+begins_piece at (item.IoNumber _ _) = is_some (redirects at)
+begins_piece at (item.Redirect _ _) = is_some (redirects at)
 begins_piece at _ = false
 
 -- the words that may name a variable (XBD 3.216)

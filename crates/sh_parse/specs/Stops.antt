@@ -42,9 +42,11 @@ pub record StopsDeep (views : WordViews) (most : ℕ) (items : List Item) (left 
   pub deeper : Begins views levels (read ++ next ∷ [])
   pub too_deep : Begins views most (read ++ next ∷ []) → ⊥
 
--- the offset that an item opens a level at
+-- the offset of an item that begins a command or opens a level
 abbrev pub offset_of : Item → ℕ
 offset_of (item.Word kind at) = at.from
+offset_of (item.IoNumber number at) = at
+offset_of (item.Redirect how at) = at
 offset_of (item.Open at) = at
 offset_of (item.SubOpen at) = at
 offset_of _ = 0

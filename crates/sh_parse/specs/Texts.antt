@@ -32,14 +32,14 @@ operator_item op.Semi from = item.Semi
 operator_item op.Pipe from = item.Pipe
 operator_item op.Open from = item.Open from
 operator_item op.Close from = item.Close
-operator_item op.Less from = item.Redirect how.Read
-operator_item op.Great from = item.Redirect how.Write
-operator_item op.DGreat from = item.Redirect how.Append
-operator_item op.GreatAnd from = item.Redirect how.Copy
+operator_item op.Less from = item.Redirect how.Read from
+operator_item op.Great from = item.Redirect how.Write from
+operator_item op.DGreat from = item.Redirect how.Append from
+operator_item op.GreatAnd from = item.Redirect how.Copy from
 
 abbrev pub item_by : List ℕ → TokenKind → ℕ → ℕ → Item
 item_by text kind.Word from to = word_item text from to
-item_by text kind.IoNumber from to = item.IoNumber (digit_at text from)
+item_by text kind.IoNumber from to = item.IoNumber (digit_at text from) from
 item_by text kind.Newline from to = item.Newline
 item_by text (kind.Op operator) from to = operator_item operator from
 

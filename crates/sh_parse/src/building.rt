@@ -162,11 +162,11 @@ impl Building {
     {
         match item {
             Item::Word(kind, span) => self.act_word(alloc, reader, at, kind, span),
-            Item::IoNumber(number) => {
+            Item::IoNumber(number, _) => {
                 self.level.command.number = number;
                 Ok(())
             }
-            Item::Redirect(how) => {
+            Item::Redirect(how, _) => {
                 self.redirect(at, how);
                 Ok(())
             }

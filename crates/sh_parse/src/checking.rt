@@ -172,12 +172,14 @@ fn offset_left(items: &[Item], left: usize) -> u32
     0
 }
 
-/// The offset at which an item opens a level.
-fn offset_of(item: Item) -> u32
+/// The offset of an item that begins a command or opens a level.
+pub fn offset_of(item: Item) -> u32
     ensures { result ≡ offset_of item }
 {
     match item {
         Item::Word(_, at) => at.from,
+        Item::IoNumber(_, from) => from,
+        Item::Redirect(_, from) => from,
         Item::Open(at) => at,
         Item::SubOpen(at) => at,
         _ => 0,

@@ -69,10 +69,10 @@ pub enum WordKind {
 pub enum Item {
     /// A word.
     Word(WordKind, Span),
-    /// The number of a descriptor before a redirection operator.
-    IoNumber(u8),
-    /// A redirection operator.
-    Redirect(How),
+    /// The number of a descriptor before a redirection operator, with its offset.
+    IoNumber(u8, u32),
+    /// A redirection operator, with its offset.
+    Redirect(How, u32),
     /// A newline.
     Newline,
     /// `;`

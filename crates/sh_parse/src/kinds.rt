@@ -49,7 +49,7 @@ pub fn word_kind(alloc: Global, word: &[u8]) -> Result<WordKind, Memory>
 }
 
 /// A word without backslash-newlines (XCU 2.2.1).
-fn spelled(alloc: Global, word: &[u8]) -> Result<Vec<u8>, Memory>
+pub fn spelled(alloc: Global, word: &[u8]) -> Result<Vec<u8>, Memory>
     ensures { IfOk result (λ bytes. bytes.items ≡ spelled word.now) }
 {
     let mut bytes = Vec::new(alloc);

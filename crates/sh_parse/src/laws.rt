@@ -5,6 +5,7 @@ ghost use Rattle.sh_parse.specs.Grammar.{Reads};
 ghost use Rattle.sh_parse.specs.Pieces.{WordViews};
 ghost use Rattle.sh_parse.specs.Stops.{HasOneOutcome};
 ghost use Rattle.sh_parse.specs.Texts.{HasItems};
+ghost use Rattle.sh_parse.specs.Outcomes.{HasOneOutcome as OneOutcome};
 ghost use Rattle.sh_parse.specs.declared.items.Item as item;
 
 use crate::items::Item;
@@ -27,6 +28,13 @@ pub fn one_outcome(items: &[Item])
 /// A text has at most one list of items.
 pub fn one_list_of_items(text: &[u8])
     ensures { (one other : List item.Item) → HasItems text.now one → HasItems text.now other → one ≡ other }
+{
+    let _ = text;
+}
+
+/// Every text is exactly one script or has exactly one refusal, and not both.
+pub fn one_outcome_of_a_text(text: &[u8])
+    ensures { OneOutcome text.now }
 {
     let _ = text;
 }

@@ -40,7 +40,7 @@ pub fn parse_items<W: WordReader>(
 }
 
 /// What is read of the items. Only where they are a script is it one's tree.
-fn build<W: WordReader>(alloc: Global, reader: &W, items: &[Item]) -> Result<Script, Memory>
+pub fn build<W: WordReader>(alloc: Global, reader: &W, items: &[Item]) -> Result<Script, Memory>
     ensures { IfOk result (λ script. script_tree script
         ≡ script_built (build (W.views reader.now) items.now (again ∷ []) start)) }
 {

@@ -198,8 +198,8 @@ fn piece_by(place: Place, item: Item) -> Move
 {
     match item {
         Item::Word(kind, _) => word_by(used(place, kind)),
-        Item::IoNumber(_) => redirection_by(Part::Operator, redirects(place)),
-        Item::Redirect(_) => redirection_by(Part::Target, redirects(place)),
+        Item::IoNumber(..) => redirection_by(Part::Operator, redirects(place)),
+        Item::Redirect(..) => redirection_by(Part::Target, redirects(place)),
         _ => Move::Skip,
     }
 }
@@ -226,11 +226,11 @@ fn command_by(item: Item) -> Move
 {
     match item {
         Item::Word(kind, _) => command_by_word(kind),
-        Item::IoNumber(_) => Move::Push(Parts::Two(
+        Item::IoNumber(..) => Move::Push(Parts::Two(
             Part::Operator,
             Part::Pieces(Place::BeforeName),
         )),
-        Item::Redirect(_) => Move::Push(Parts::Two(Part::Target, Part::Pieces(Place::BeforeName))),
+        Item::Redirect(..) => Move::Push(Parts::Two(Part::Target, Part::Pieces(Place::BeforeName))),
         Item::Open(_) => Move::Opens(Parts::Three(
             Part::Body,
             Part::CloseParenthesis,
@@ -330,7 +330,7 @@ pub fn move_at(part: Part, item: Item) -> Owing
     match part {
         Part::Pieces(place) => alone(piece_by(place, item)),
         Part::Operator => match item {
-            Item::Redirect(_) => owes(Part::Target),
+            Item::Redirect(..) => owes(Part::Target),
             _ => stuck(),
         },
         Part::Target => match item {

@@ -8,6 +8,15 @@ use ps_lines::{Memory, Text};
 use sh_tree::Word;
 use std::alloc::Global;
 
+/// What is looked up in a word before it is read.
+#[derive(Clone, Copy, Debug)]
+pub struct Look {
+    /// The offset, in the script, of its first `${` that has none of the forms of an expansion.
+    pub fault: Option<u32>,
+    /// Whether an expansion in it assigns a variable.
+    pub assigns: bool,
+}
+
 /// Reads the words of a script, by where they stand. The grammar doesn't look into them.
 ///
 /// `first` is the number of a word's first command substitution among those of its command, from 0. The only refusal is
@@ -27,4 +36,9 @@ pub trait WordReader {
     /// The name at this place, behind a `for`.
     fn name(&self, alloc: Global, at: Span) -> Result<Text, Memory>
         ensures { IfOk result (λ name. name ≡ (views self.now).name at) };
+
+    /// What is looked up in the word at this place.
+    fn look(&self, alloc: Global, at: Span) -> Result<Look, Memory>
+        ensures fault { IfOk result (λ look. look.fault ≡ (views self.now).fault at) }
+        ensures assigns { IfOk result (λ look. look.assigns ≡ (views self.now).assigns at) };
 }

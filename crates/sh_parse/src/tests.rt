@@ -3,10 +3,11 @@ ghost use Rattle.std.specs.Prelude.{◌≡◌, IfOk, false};
 ghost use Rattle.sh_tree.specs.Trees.{part, substitution, no_part};
 ghost use Rattle.sh_tree.specs.Views.{word_tree};
 
+mod misuses;
 mod texts;
 
 use crate::{
-    GrammarRefusal, Item, Refusal, Reserved, Span, WordKind, WordReader, check, parse_items,
+    GrammarRefusal, Item, Look, Refusal, Reserved, Span, WordKind, WordReader, check, parse_items,
     word_kind,
 };
 use ps_lines::{Memory, Text};
@@ -45,11 +46,11 @@ static OTHERS: [(&str, Item); 12] = [
     ("|", Item::Pipe),
     (")", Item::Close),
     ("$)", Item::SubClose),
-    ("<", Item::Redirect(How::Read)),
-    (">", Item::Redirect(How::Write)),
-    (">>", Item::Redirect(How::Append)),
-    (">&", Item::Redirect(How::Copy)),
-    ("#2", Item::IoNumber(2)),
+    ("<", Item::Redirect(How::Read, 0)),
+    (">", Item::Redirect(How::Write, 0)),
+    (">>", Item::Redirect(How::Append, 0)),
+    (">&", Item::Redirect(How::Copy, 0)),
+    ("#2", Item::IoNumber(2, 0)),
 ];
 
 /// The items of a row, which stand apart by blanks: `NL` is a newline, `$(` and `$)` are the ends of a command
@@ -371,7 +372,7 @@ fn sixty_four_levels_are_allowed(rt: HostRuntime) -> Result<(), Fail> {
 struct Places;
 
 impl WordReader for Places {
-    ghost use Rattle.std.specs.Prelude.{◌≡◌, ◌∷◌, [], IfOk, false};
+    ghost use Rattle.std.specs.Prelude.{◌≡◌, ◌∷◌, [], IfOk, false, None};
     ghost use Rattle.sh_tree.specs.Trees.{part, substitution, no_part};
     ghost use Rattle.sh_tree.specs.Views.{word_tree};
 
@@ -379,6 +380,8 @@ impl WordReader for Places {
       word = λ at first. part (substitution at.from false) (part (substitution first false) no_part);
       assign = λ at first. ([], part (substitution at.from false) (part (substitution first false) no_part));
       name = λ _. [];
+      fault = λ _. None;
+      assigns = λ _. false;
     } };
 
     fn word(&self, alloc: Global, at: Span, first: usize) -> Result<Word, Memory> {
@@ -392,6 +395,14 @@ impl WordReader for Places {
     fn name(&self, alloc: Global, at: Span) -> Result<Text, Memory> {
         let _ = at;
         Text::copy_of(alloc, &[])
+    }
+
+    fn look(&self, alloc: Global, at: Span) -> Result<Look, Memory> {
+        let _ = (alloc, at);
+        Ok(Look {
+            fault: None,
+            assigns: false,
+        })
     }
 }
 

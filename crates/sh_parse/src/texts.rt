@@ -110,7 +110,7 @@ fn token_item(alloc: Global, text: &[u8], token: Token) -> Result<Item, Memory>
 {
     match token.kind {
         TokenKind::Word => word_item(alloc, text, token.from, token.to),
-        TokenKind::IoNumber => Ok(Item::IoNumber(digit_at(text, token.from))),
+        TokenKind::IoNumber => Ok(Item::IoNumber(digit_at(text, token.from), token.from)),
         TokenKind::Newline => Ok(Item::Newline),
         TokenKind::Op(operator) => Ok(operator_item(operator, token.from)),
     }
@@ -125,7 +125,7 @@ fn word_item(alloc: Global, text: &[u8], from: u32, to: u32) -> Result<Item, Mem
 }
 
 /// The bytes of a text between two offsets, as far as the text has them.
-fn between(text: &[u8], from: usize, to: usize) -> &[u8]
+pub fn between(text: &[u8], from: usize, to: usize) -> &[u8]
     ensures { result.now ≡ between from to text.now }
 {
     let behind = text.get(from..).unwrap_or(&[]);
@@ -153,9 +153,9 @@ fn operator_item(operator: Op, from: u32) -> Item
         Op::Pipe => Item::Pipe,
         Op::Open => Item::Open(from),
         Op::Close => Item::Close,
-        Op::Less => Item::Redirect(How::Read),
-        Op::Great => Item::Redirect(How::Write),
-        Op::DGreat => Item::Redirect(How::Append),
-        Op::GreatAnd => Item::Redirect(How::Copy),
+        Op::Less => Item::Redirect(How::Read, from),
+        Op::Great => Item::Redirect(How::Write, from),
+        Op::DGreat => Item::Redirect(How::Append, from),
+        Op::GreatAnd => Item::Redirect(How::Copy, from),
     }
 }

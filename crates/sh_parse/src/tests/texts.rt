@@ -62,16 +62,16 @@ fn tokens() -> &'static [(&'static str, &'static str)] {
         (" (a)", "Open(1) Name:2:3 Close"),
         (
             "a <f >g",
-            "Name:0:1 Redirect(Read) Name:3:4 Redirect(Write) Name:6:7",
+            "Name:0:1 Redirect(Read, 2) Name:3:4 Redirect(Write, 5) Name:6:7",
         ),
-        ("0<f", "IoNumber(0) Redirect(Read) Name:2:3"),
-        ("1>>f", "IoNumber(1) Redirect(Append) Name:3:4"),
-        ("2>f", "IoNumber(2) Redirect(Write) Name:2:3"),
-        (">&1", "Redirect(Copy) Other:2:3"),
-        ("2>&1", "IoNumber(2) Redirect(Copy) Other:3:4"),
+        ("0<f", "IoNumber(0, 0) Redirect(Read, 1) Name:2:3"),
+        ("1>>f", "IoNumber(1, 0) Redirect(Append, 1) Name:3:4"),
+        ("2>f", "IoNumber(2, 0) Redirect(Write, 1) Name:2:3"),
+        (">&1", "Redirect(Copy, 0) Other:2:3"),
+        ("2>&1", "IoNumber(2, 0) Redirect(Copy, 1) Other:3:4"),
         (
             "a \\\n2\\\n>f",
-            "Name:0:1 IoNumber(2) Redirect(Write) Name:8:9",
+            "Name:0:1 IoNumber(2, 4) Redirect(Write, 7) Name:8:9",
         ),
         ("a #b\nc", "Name:0:1 Newline Name:5:6"),
         ("'a", "refused"),
@@ -140,7 +140,7 @@ fn substitutions() -> &'static [(&'static str, &'static str)] {
         ),
         (
             "$(a>$(b)1 2>c)",
-            "Other:0:14 SubOpen(0) Name:2:3 Redirect(Write) Other:4:9 SubOpen(4) Name:6:7 SubClose IoNumber(2) Redirect(Write) Name:12:13 SubClose",
+            "Other:0:14 SubOpen(0) Name:2:3 Redirect(Write, 3) Other:4:9 SubOpen(4) Name:6:7 SubClose IoNumber(2, 10) Redirect(Write, 11) Name:12:13 SubClose",
         ),
         ("$(a", "refused"),
     ]

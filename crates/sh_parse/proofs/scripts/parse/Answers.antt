@@ -1,0 +1,13 @@
+use Rattle.std.proofs.Common.{subst, IfOk}
+use Rattle.sh_tree.specs.Views.{script_tree}
+use Rattle.sh_parse.specs.Outcomes.{IsSound}
+use Rattle.sh_parse.specs.WordsOf.{words_of}
+use Rattle.sh_parse.proofs.Parsings.{script_of_text}
+use Rattle.sh_parse.proofs.scripts.parse.Goals as goal
+
+pub returns-in-Ok-clause-script : goal.returns-in-Ok-clause-script
+returns-in-Ok-clause-script c =
+    script_of_text c.args.text.now c.in-Ok.items.items c.in-Ok.ensures.items c.parse_with.result
+    (subst (λ items. IfOk c.parse_with.result (λ script. IsSound (script_tree script) (words_of c.args.text.now) items)) c.as_slice.ensures.value
+    (subst (λ text. IfOk c.parse_with.result (λ script. IsSound (script_tree script) (words_of text) c.as_slice.result.now)) c.of.ensures
+    c.parse_with.ensures.script))

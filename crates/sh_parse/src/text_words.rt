@@ -1,0 +1,89 @@
+//! The words of a text, by where they stand.
+ghost use Rattle.std.specs.Prelude.{◌≡◌, IfOk};
+ghost use Rattle.sh_parse.specs.Outcomes.{bytes_at, in_text};
+
+use crate::items::Span;
+use crate::kinds::spelled;
+use crate::readers::{Look, WordReader};
+use crate::texts::between;
+use ps_lines::{Memory, Text};
+use sh_tree::Word;
+use sh_words::{assigns_in, read_assign, read_word};
+use std::alloc::Global;
+
+/// The words of a text.
+#[derive(Drop)]
+pub struct TextWords<'a> {
+    /// The text.
+    text: &'a [u8],
+}
+
+impl<'a> TextWords<'a> {
+    /// The words of this text.
+    pub fn of(text: &'a [u8]) -> TextWords<'a>
+        ensures { result.text.now ≡ text.now }
+    {
+        TextWords { text }
+    }
+
+    /// The bytes of the word at this place.
+    fn bytes(&self, at: Span) -> &'a [u8]
+        ensures { result.now ≡ bytes_at self.now.text.now at }
+    {
+        between(self.text, at.from as usize, at.to as usize)
+    }
+}
+
+impl<'a> WordReader for TextWords<'a> {
+    ghost use Rattle.std.specs.Prelude.{◌≡◌, IfOk};
+    ghost use Rattle.sh_tree.specs.Views.{word_tree};
+    ghost use Rattle.sh_parse.specs.WordsOf.{words_of};
+
+    ghost views = { λ words. words_of words.text.now };
+
+    fn word(&self, alloc: Global, at: Span, first: usize) -> Result<Word, Memory> {
+        let read = read_word(alloc, self.bytes(at), number(first)?)?;
+        Ok(read.word)
+    }
+
+    fn assign(&self, alloc: Global, at: Span, first: usize) -> Result<(Text, Word), Memory> {
+        let (name, read) = read_assign(alloc, self.bytes(at), number(first)?)?;
+        Ok((name, read.word))
+    }
+
+    fn name(&self, alloc: Global, at: Span) -> Result<Text, Memory> {
+        let bytes = spelled(alloc, self.bytes(at))?;
+        Text::copy_of(alloc, bytes.as_slice())
+    }
+
+    fn look(&self, alloc: Global, at: Span) -> Result<Look, Memory> {
+        let read = read_word(alloc, self.bytes(at), 0)?;
+        Ok(Look {
+            fault: in_text(at.from, read.fault)?,
+            assigns: assigns_in(&read.word),
+        })
+    }
+}
+
+/// The number of a command substitution.
+fn number(first: usize) -> Result<u32, Memory>
+    ensures { IfOk result (λ number. number ≡ first) }
+{
+    match u32::try_from(first) {
+        Ok(number) => Ok(number),
+        Err(_) => Err(Memory),
+    }
+}
+
+/// The offset in a text of what stands at an offset of a word in it.
+fn in_text(from: u32, offset: Option<usize>) -> Result<Option<u32>, Memory>
+    ensures { IfOk result (λ place. place ≡ in_text from offset) }
+{
+    match offset {
+        Some(offset) => match from.checked_add(number(offset)?) {
+            Some(place) => Ok(Some(place)),
+            None => Err(Memory),
+        },
+        None => Ok(None),
+    }
+}

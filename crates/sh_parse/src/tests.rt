@@ -4,6 +4,13 @@ ghost use Rattle.sh_tree.specs.Trees.{part, substitution, no_part};
 ghost use Rattle.sh_tree.specs.Views.{word_tree};
 
 mod misuses;
+mod parse_commands;
+mod parse_compounds;
+mod parse_levels;
+mod parse_misuses;
+mod parse_words;
+mod rows;
+mod shown;
 mod texts;
 
 use crate::{

@@ -1,4 +1,6 @@
+pub mod LineLemmas
 pub mod FormLemmas
+pub mod StageLemmas
 pub mod CopyLemmas
 pub mod CatLemmas
 pub mod RunLemmas

@@ -1,5 +1,9 @@
 -- The answers of the top call, the lines that tell them, and the statuses (own).
-use Rattle.std.specs.Prelude.{◌≡◌, ℕ, List, ◌++◌, codes}
+use Rattle.std.specs.Prelude.{◌≡◌, ℕ, List, ◌++◌, codes, decimal}
+use Rattle.sh_lex.specs.declared.refusals.Static.{Static}
+use Rattle.sh_lex.specs.declared.refusals.Static.TheVariants as static
+use Rattle.pash.specs.declared.answers.Refusal.{Refusal}
+use Rattle.pash.specs.declared.answers.Refusal.TheVariants as refusal
 use Rattle.pash.specs.declared.answers.Why.{Why}
 use Rattle.pash.specs.declared.answers.Why.TheVariants as why
 use Rattle.pash.specs.declared.answers.Stop.{Stop}
@@ -18,8 +22,36 @@ is_a_directory = codes "Is a directory"
 abbrev pub usage_line : List ℕ
 usage_line = codes "pash: usage\n"
 
-abbrev pub not_built_line : List ℕ
-not_built_line = codes "pash: refused: NotBuilt\n"
+-- the text with a number behind it
+abbrev pub with_number : List ℕ → ℕ → List ℕ
+with_number text number = text ++ codes " " ++ decimal number
+
+-- the name of a refusal and its details, each behind a space
+abbrev pub refusal_text : Refusal → List ℕ
+refusal_text refusal.NotBuilt = codes "NotBuilt"
+refusal_text (refusal.UnclosedQuote offset) = with_number (codes "UnclosedQuote") offset
+refusal_text (refusal.UnclosedBrace offset) = with_number (codes "UnclosedBrace") offset
+refusal_text (refusal.OutOfProfile spelling offset) = codes "OutOfProfile " ++ with_number spelling offset
+refusal_text refusal.ScriptTooLong = codes "ScriptTooLong"
+refusal_text refusal.BadSyntax = codes "BadSyntax"
+refusal_text (refusal.TooDeep offset) = with_number (codes "TooDeep") offset
+refusal_text (refusal.SubstitutionMix offset) = with_number (codes "SubstitutionMix") offset
+refusal_text (refusal.ParameterForm offset) = with_number (codes "ParameterForm") offset
+
+-- the line that tells a refusal
+abbrev pub refusal_line : Refusal → List ℕ
+refusal_line cause = codes "pash: refused: " ++ refusal_text cause ++ codes "\n"
+
+-- the answer where a script's text is refused so
+abbrev pub refusal_of : Static → Refusal
+refusal_of (static.UnclosedQuote offset) = refusal.UnclosedQuote offset
+refusal_of (static.UnclosedBrace offset) = refusal.UnclosedBrace offset
+refusal_of (static.OutOfProfile spelling offset) = refusal.OutOfProfile spelling offset
+refusal_of static.ScriptTooLong = refusal.ScriptTooLong
+refusal_of static.BadSyntax = refusal.BadSyntax
+refusal_of (static.TooDeep offset) = refusal.TooDeep offset
+refusal_of (static.SubstitutionMix offset) = refusal.SubstitutionMix offset
+refusal_of (static.ParameterForm offset) = refusal.ParameterForm offset
 
 -- the answers that tell a command's meaning: all but the faults and want of memory
 abbrev pub IsAnswer : Why → Type 0

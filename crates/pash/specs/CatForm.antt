@@ -1,6 +1,5 @@
--- Scripts of one command (own): `cat`, then 1 to 256 times one space and a plain word, then at most one newline, with at most 1,048,576
--- bytes in all.
-use Rattle.std.specs.Prelude.{ℕ, ◌-◌, List, [], ◌∷◌, Bool, ◌&&◌, ◌||◌, Option, Some, None, if◌then◌else◌, nat_eq, nat_lt, nat_le, length, take, drop, codes}
+-- Plain words, and `cat` with operands (own): `cat`, then 1 to 256 plain words.
+use Rattle.std.specs.Prelude.{ℕ, List, [], ◌∷◌, Bool, ◌&&◌, ◌||◌, Option, Some, None, if◌then◌else◌, nat_eq, nat_lt, nat_le, length, codes}
 use Rattle.std.specs.Char.{is_ascii_alphanumeric}
 use Rattle.std.specs.List.{list_all}
 use Rattle.std.specs.Str.{bytes_eq}
@@ -13,13 +12,6 @@ is_plain_byte byte = is_ascii_alphanumeric byte || (nat_eq byte 95 || (nat_eq by
 -- one plain byte or more
 abbrev pub is_plain_word : List ℕ → Bool
 is_plain_word word = nat_lt 0 (length word) && list_all is_plain_byte word
-
-abbrev pub is_space : ℕ → Bool
-is_space byte = nat_eq byte 32
-
--- the text without the newline at its end, where it has one
-abbrev pub without_newline : List ℕ → List ℕ
-without_newline text = if bytes_eq (drop (length text - 1) text) (codes "\n") then take (length text - 1) text else text
 
 -- there are operands, not too many, and each is plain
 abbrev pub are_operands : List (List ℕ) → Bool

@@ -1,8 +1,10 @@
 pub mod Words
 pub mod CatForm
+pub mod Stages
 pub mod Forms
 pub mod Answers
 pub mod Cat
+pub mod Readings
 pub mod Meaning
 pub mod Runs
 pub mod Pipeline

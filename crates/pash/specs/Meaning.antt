@@ -5,13 +5,17 @@ use Rattle.ps_world.specs.Files.{Files, bytes_at}
 use Rattle.ps_world.specs.Places.{resolve}
 use Rattle.ps_world.specs.declared.Place.{Place}
 use Rattle.ps_world.specs.declared.Place.TheVariants as place
+use Rattle.sh_parse.specs.Outcomes.{Outcome}
+use Rattle.sh_parse.specs.Outcomes as parsed
+use Rattle.pash.specs.Readings.{Readings}
 use Rattle.pash.specs.Words.{RunCommand, command_of}
 use Rattle.pash.specs.Forms.{Form, Cat, Count, form_of}
 use Rattle.pash.specs.Pipeline.{pipeline_output}
-use Rattle.pash.specs.Answers.{diagnostic, no_such_file, usage_line, not_built_line}
+use Rattle.pash.specs.Answers.{diagnostic, no_such_file, usage_line, refusal_line, refusal_of}
 use Rattle.pash.specs.Cat.{operand_output, operand_errors, cat_output, cat_errors, cat_status}
 use Rattle.pash.specs.declared.answers.Why.{Why}
 use Rattle.pash.specs.declared.answers.Why.TheVariants as why
+use Rattle.pash.specs.declared.answers.Refusal.{Refusal}
 use Rattle.pash.specs.declared.answers.Refusal.TheVariants as refusal
 
 -- what a command tells: its output and errors, and its answer with its status
@@ -28,8 +32,9 @@ only_line line answer = record { output = []; errors = line; status = 2; answer 
 abbrev pub usage : Reply
 usage = only_line usage_line why.Usage
 
-abbrev pub not_built : Reply
-not_built = only_line not_built_line (why.Refused refusal.NotBuilt)
+-- the script isn't run
+abbrev pub refusal_reply : Refusal → Reply
+refusal_reply cause = only_line (refusal_line cause) (why.Refused cause)
 
 abbrev pub no_script : List ℕ → Reply
 no_script script = only_line (diagnostic (codes "pash") script no_such_file) (why.NoScript script)
@@ -45,7 +50,7 @@ file_of place.Null = None
 module _ (files : Files) (home : Components) where
   -- a script of a form is run; the status of a pipeline is that of its last command (XCU 2.9.2), which here reads all that comes
   abbrev pub reply_of_form : Option Form → Reply
-  reply_of_form None = not_built
+  reply_of_form None = refusal_reply refusal.NotBuilt
   reply_of_form (Some (Cat operands)) =
       record {
         output = cat_output files home operands;
@@ -61,8 +66,14 @@ module _ (files : Files) (home : Components) where
         answer = why.Finished;
       }
 
+  -- a text that is a script is run by its form, and any other is refused
+  abbrev pub reply_of_outcome : Outcome → Reply
+  reply_of_outcome (parsed.script tree) = reply_of_form (form_of tree)
+  reply_of_outcome (parsed.refused cause) = refusal_reply (refusal_of cause)
+
+module _ (reads : Readings) (files : Files) (home : Components) where
   abbrev pub reply_of_text : List ℕ → Reply
-  reply_of_text text = reply_of_form (form_of text)
+  reply_of_text text = reply_of_outcome files home (reads text)
 
   -- a script is run where its path names a file
   abbrev pub reply_of_file : List ℕ → Option Components → Reply
@@ -88,11 +99,11 @@ pub record Meaning : Type 0 where
   pub files : Files
   pub rest : List ℕ
 
--- the meaning of the words after the program's name
-abbrev pub meaning : List (List ℕ) → Outside → Meaning
-meaning words outside =
+-- the meaning of the words after the program's name, where this is what each text is
+abbrev pub meaning : Readings → List (List ℕ) → Outside → Meaning
+meaning reads words outside =
     record {
-      reply = reply_of_command outside.files outside.home (command_of words);
+      reply = reply_of_command reads outside.files outside.home (command_of words);
       files = outside.files;
       rest = outside.input;
     }

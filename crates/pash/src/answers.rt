@@ -1,16 +1,50 @@
 //! The answers of the top call, and why a run stops.
 ghost use Rattle.std.specs.Prelude.{◌≡◌};
+ghost use Rattle.pash.specs.Answers.{refusal_of as refusal_of_lem};
 ghost use Rattle.pash.specs.Runs.{stop_of_tree, stop_of_sink};
 
 use ps_lines::Text;
 use ps_world::WorldErr;
+use sh_lex::Static;
 use std::alloc::AllocError;
 
-/// A script that is not run.
-#[derive(Clone, Copy, Debug, PartialEq, Eq)]
+/// Why a script is not run. Offsets are in bytes, from the script's first.
+#[derive(Debug, PartialEq, Eq, Drop)]
 pub enum Refusal {
     /// The script is of a form that isn't built yet.
     NotBuilt,
+    /// The quote at this offset isn't closed.
+    UnclosedQuote(u32),
+    /// The `${`, `$(` or `$((` at this offset isn't closed.
+    UnclosedBrace(u32),
+    /// This spelling, at this offset, isn't in the profile.
+    OutOfProfile(Text, u32),
+    /// The script has over 1,048,576 bytes.
+    ScriptTooLong,
+    /// The tokens are no script.
+    BadSyntax,
+    /// The 65th level of nesting opens at this offset.
+    TooDeep(u32),
+    /// The command at this offset has a command substitution beside an assigning expansion.
+    SubstitutionMix(u32),
+    /// The `${ }` at this offset has none of the forms of an expansion.
+    ParameterForm(u32),
+}
+
+/// The answer where a script's text is refused so.
+pub fn refusal_of(cause: Static) -> Refusal
+    ensures { result ≡ refusal_of_lem cause }
+{
+    match cause {
+        Static::UnclosedQuote(offset) => Refusal::UnclosedQuote(offset),
+        Static::UnclosedBrace(offset) => Refusal::UnclosedBrace(offset),
+        Static::OutOfProfile(spelling, offset) => Refusal::OutOfProfile(spelling, offset),
+        Static::ScriptTooLong => Refusal::ScriptTooLong,
+        Static::BadSyntax => Refusal::BadSyntax,
+        Static::TooDeep(offset) => Refusal::TooDeep(offset),
+        Static::SubstitutionMix(offset) => Refusal::SubstitutionMix(offset),
+        Static::ParameterForm(offset) => Refusal::ParameterForm(offset),
+    }
 }
 
 /// How a command ended.

@@ -1,10 +1,11 @@
 //! Lines of error.
-ghost use Rattle.std.specs.Prelude.{◌≡◌, IfOk, OnOk, OnErr};
+ghost use Rattle.std.specs.Prelude.{◌≡◌, ◌++◌, codes, IfOk, OnOk, OnErr};
 ghost use Rattle.ps_world.specs.Told.{then_bytes, GrewByPrefix};
-ghost use Rattle.pash.specs.Answers.{diagnostic as diagnostic_lem};
+ghost use Rattle.pash.specs.Answers.{diagnostic as diagnostic_lem, refusal_line as refusal_line_lem, refusal_text, with_number};
 ghost use Rattle.pash.specs.Runs.{Stops};
 
-use crate::answers::{Stop, of_sink};
+use crate::answers::{Refusal, Stop, of_sink};
+use ps_lines::{Memory, decimal};
 use ps_world::{Sink, write_all};
 use std::alloc::{AllocError, Global};
 
@@ -65,4 +66,56 @@ pub fn diagnostic(
     line.extend_from_slice(reason)?;
     line.extend_from_slice(b"\n")?;
     Ok(line)
+}
+
+/// The line that tells why a script isn't run: `pash: refused: `, the refusal's name and its details.
+pub fn refusal_line(alloc: Global, cause: &Refusal) -> Result<Vec<u8>, Memory>
+    ensures { IfOk result (λ line. line.items ≡ refusal_line_lem cause.now) }
+{
+    let mut line = Vec::from_slice(alloc, b"pash: refused: ")?;
+    add_refusal(&mut line, cause)?;
+    line.extend_from_slice(b"\n")?;
+    Ok(line)
+}
+
+/// Appends a refusal's name, and its details.
+fn add_refusal(line: &mut Vec<u8>, cause: &Refusal) -> Result<(), Memory>
+    ensures { OnOk result (line.new.items ≡ line.old.items ++ refusal_text cause.now) }
+{
+    match cause {
+        Refusal::NotBuilt => add(line, b"NotBuilt"),
+        Refusal::UnclosedQuote(offset) => add_with_number(line, b"UnclosedQuote", *offset),
+        Refusal::UnclosedBrace(offset) => add_with_number(line, b"UnclosedBrace", *offset),
+        Refusal::OutOfProfile(spelling, offset) => {
+            add_out_of_profile(line, spelling.as_slice(), *offset)
+        }
+        Refusal::ScriptTooLong => add(line, b"ScriptTooLong"),
+        Refusal::BadSyntax => add(line, b"BadSyntax"),
+        Refusal::TooDeep(offset) => add_with_number(line, b"TooDeep", *offset),
+        Refusal::SubstitutionMix(offset) => add_with_number(line, b"SubstitutionMix", *offset),
+        Refusal::ParameterForm(offset) => add_with_number(line, b"ParameterForm", *offset),
+    }
+}
+
+fn add_out_of_profile(line: &mut Vec<u8>, spelling: &[u8], offset: u32) -> Result<(), Memory>
+    ensures { OnOk result (line.new.items ≡ line.old.items ++ (codes "OutOfProfile " ++ with_number spelling.now offset)) }
+{
+    add(line, b"OutOfProfile ")?;
+    add_with_number(line, spelling, offset)
+}
+
+fn add(line: &mut Vec<u8>, text: &[u8]) -> Result<(), Memory>
+    ensures { OnOk result (line.new.items ≡ line.old.items ++ text.now) }
+{
+    line.extend_from_slice(text)?;
+    Ok(())
+}
+
+/// Appends a text, a space, and a number in decimal.
+fn add_with_number(line: &mut Vec<u8>, text: &[u8], number: u32) -> Result<(), Memory>
+    ensures { OnOk result (line.new.items ≡ line.old.items ++ with_number text.now number) }
+{
+    line.extend_from_slice(text)?;
+    line.extend_from_slice(b" ")?;
+    decimal(u64::from(number), line)
 }

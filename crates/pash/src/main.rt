@@ -1,7 +1,8 @@
 //! `pash` runs the data-parallel pipelines of a shell script in parallel without changing one byte of what it prints.
 //!
 //! `top::pash` is the call that this program makes, over the machine's files and streams, and its contract says what every run leaves:
-//! `specs/Meaning.antt` is the meaning of a command, and `specs/Runs.antt` how output, errors, files and answer are tied to it.
+//! `specs/Meaning.antt` is the meaning of a command, `specs/Readings.antt` what each text is read as, and `specs/Runs.antt` how output,
+//! errors, files and answer are tied to the meaning.
 #![tactic(auto)]
 
 mod answers;
@@ -15,7 +16,9 @@ mod counting_graphs;
 mod first_graph;
 mod forms;
 mod lines;
+mod reading;
 mod run;
+mod stages;
 #[cfg(test)]
 mod tests;
 mod top;

@@ -6,27 +6,30 @@ ghost use Rattle.ps_world.specs.TreeState.{OnlyLent};
 ghost use Rattle.pash.specs.Words.{command_of, texts};
 ghost use Rattle.pash.specs.declared.command.TheConstants.{MOST_WIDTH};
 ghost use Rattle.pash.specs.Answers.{IsOfScript};
-ghost use Rattle.pash.specs.Forms.{as_form, form_from, form_of};
-ghost use Rattle.pash.specs.Meaning.{only_line, usage as usage_lem, not_built, no_script as no_script_lem, file_of, reply_of_form, reply_of_text, reply_of_file, reply_of_script, reply_of_command};
+ghost use Rattle.sh_tree.specs.Views.{script_tree};
+ghost use Rattle.pash.specs.Forms.{as_form, form_of};
+ghost use Rattle.pash.specs.Readings.{Readings, AreOutcomes, AreReadAlike};
+ghost use Rattle.pash.specs.Meaning.{only_line, usage as usage_lem, refusal_reply, no_script as no_script_lem, file_of, reply_of_form, reply_of_text, reply_of_file, reply_of_script, reply_of_command};
 ghost use Rattle.pash.specs.Runs.{Meets, GrewByPrefixes, Stops};
 
-use crate::answers::{Outcome, Refusal, Stop, Why, of_tree};
+use crate::answers::{Outcome, Refusal, Stop, Why, of_tree, refusal_of};
 use crate::cat::cat;
-use crate::cat_form::{MOST_BYTES, script_words};
 use crate::counting::run_count;
 use crate::forms::{Form, read_form};
-use crate::lines::{NO_SUCH_FILE, diagnostic, say};
+use crate::lines::{NO_SUCH_FILE, diagnostic, refusal_line, say};
+use crate::reading::read_script;
 use crate::words::read_command;
 use ps_lines::Text;
 use ps_world::{Path, Place, Sink, Tree, look, read_front};
+use sh_lex::MAX_SCRIPT;
+use sh_parse::ParseRefusal;
+use sh_tree::Script;
 use std::alloc::Global;
 
 /// The program's name.
 const NAME: &[u8] = b"pash";
 
 const USAGE: &[u8] = b"pash: usage\n";
-
-const NOT_BUILT: &[u8] = b"pash: refused: NotBuilt\n";
 
 /// The status of every answer that is no run.
 const REFUSED: u8 = 2;
@@ -65,18 +68,21 @@ fn usage<E: Sink>(err: &mut E) -> Result<Outcome, Stop>
     answer_line(err, USAGE, Why::Usage)
 }
 
-/// The script is of a form that isn't built.
-fn refuse<E: Sink>(err: &mut E) -> Result<Outcome, Stop>
+/// The script isn't run, for this cause.
+fn refuse<E: Sink>(alloc: Global, err: &mut E, cause: Refusal) -> Result<Outcome, Stop>
     ensures why { IfOk result (λ outcome. IsOfScript outcome.why) }
     ensures answer { IfOk result (λ outcome. (out : Option (List ℕ)) →
-        Meets not_built outcome.status outcome.why out out (E.taken err.old) (E.taken err.new)) }
+        Meets (refusal_reply cause) outcome.status outcome.why out out (E.taken err.old) (E.taken err.new)) }
     ensures part { OnErr result ((out : Option (List ℕ)) →
-        GrewByPrefixes out out (E.taken err.old) (E.taken err.new) [] not_built.errors) }
+        GrewByPrefixes out out (E.taken err.old) (E.taken err.new) [] (refusal_reply cause).errors) }
     ensures cause { Stops
         (record { out = 0; err = E.faults err.old; tree = 0 })
         (record { out = 0; err = E.faults err.new; tree = 0 }) result }
 {
-    answer_line(err, NOT_BUILT, Why::Refused(Refusal::NotBuilt))
+    match refusal_line(alloc, &cause) {
+        Ok(line) => answer_line(err, line.as_slice(), Why::Refused(cause)),
+        Err(_refused) => Err(Stop::Memory),
+    }
 }
 
 /// The script's path names no file.
@@ -105,7 +111,7 @@ fn no_script_answer(alloc: Global, script: &[u8]) -> Result<(Vec<u8>, Why), ps_l
     Ok((line, Why::NoScript(path)))
 }
 
-/// Runs a script's text.
+/// Runs a script's text, where it is a script.
 #[tactic(auto, using(ps_world::proofs::ToldLemmas::grew_by_nothing))]
 fn run_text<T: Tree, O: Sink, E: Sink>(
     alloc: Global,
@@ -118,51 +124,53 @@ fn run_text<T: Tree, O: Sink, E: Sink>(
     requires spread { (1 ≤ width) × (width ≤ MOST_WIDTH) }
     requires whole { IfSome (T.state tree.old).held NoWriterOut }
     ensures why { IfOk result (λ outcome. IsOfScript outcome.why) }
-    ensures answer { IfOk result (λ outcome. IfSome (T.state tree.old).held (λ files.
-        Meets (reply_of_text files (T.state tree.old).home text.now) outcome.status outcome.why
+    ensures answer { IfOk result (λ outcome. (reads : Readings) → AreOutcomes reads → IfSome (T.state tree.old).held (λ files.
+        Meets (reply_of_text reads files (T.state tree.old).home text.now) outcome.status outcome.why
         (O.taken out.old) (O.taken out.new) (E.taken err.old) (E.taken err.new))) }
-    ensures part { OnErr result (IfSome (T.state tree.old).held (λ files.
+    ensures part { OnErr result ((reads : Readings) → AreOutcomes reads → IfSome (T.state tree.old).held (λ files.
         GrewByPrefixes (O.taken out.old) (O.taken out.new) (E.taken err.old) (E.taken err.new)
-        (reply_of_text files (T.state tree.old).home text.now).output (reply_of_text files (T.state tree.old).home text.now).errors)) }
+        (reply_of_text reads files (T.state tree.old).home text.now).output (reply_of_text reads files (T.state tree.old).home text.now).errors)) }
     ensures lent { OnlyLent (T.state tree.old) (T.state tree.new) }
     ensures cause { Stops
         (record { out = O.faults out.old; err = E.faults err.old; tree = T.faults tree.old })
         (record { out = O.faults out.new; err = E.faults err.new; tree = T.faults tree.new }) result }
 {
-    match script_words(alloc, text) {
-        Ok(words) => run_words(alloc, tree, out, err, width, words.as_slice()),
-        Err(_refused) => Err(Stop::Memory),
+    match read_script(alloc, text) {
+        Ok(script) => run_read(alloc, tree, out, err, width, &script),
+        Err(ParseRefusal::Refused(cause)) => refuse(alloc, err, refusal_of(cause)),
+        Err(ParseRefusal::Memory) => Err(Stop::Memory),
     }
 }
 
-/// Runs a script's words.
+/// Runs a script that was read, where its form is built.
 #[tactic(auto, using(ps_world::proofs::ToldLemmas::grew_by_nothing))]
-fn run_words<T: Tree, O: Sink, E: Sink>(
+fn run_read<T: Tree, O: Sink, E: Sink>(
     alloc: Global,
     tree: &mut T,
     out: &mut O,
     err: &mut E,
     width: u32,
-    words: &[&[u8]],
+    script: &Script,
 ) -> Result<Outcome, Stop>
     requires spread { (1 ≤ width) × (width ≤ MOST_WIDTH) }
     requires whole { IfSome (T.state tree.old).held NoWriterOut }
     ensures why { IfOk result (λ outcome. IsOfScript outcome.why) }
     ensures answer { IfOk result (λ outcome. IfSome (T.state tree.old).held (λ files.
-        Meets (reply_of_form files (T.state tree.old).home (form_from (map (λ word. word.now) words.now))) outcome.status outcome.why
+        Meets (reply_of_form files (T.state tree.old).home (form_of (script_tree script.now))) outcome.status outcome.why
         (O.taken out.old) (O.taken out.new) (E.taken err.old) (E.taken err.new))) }
     ensures part { OnErr result (IfSome (T.state tree.old).held (λ files.
         GrewByPrefixes (O.taken out.old) (O.taken out.new) (E.taken err.old) (E.taken err.new)
-        (reply_of_form files (T.state tree.old).home (form_from (map (λ word. word.now) words.now))).output
-        (reply_of_form files (T.state tree.old).home (form_from (map (λ word. word.now) words.now))).errors)) }
+        (reply_of_form files (T.state tree.old).home (form_of (script_tree script.now))).output
+        (reply_of_form files (T.state tree.old).home (form_of (script_tree script.now))).errors)) }
     ensures lent { OnlyLent (T.state tree.old) (T.state tree.new) }
     ensures cause { Stops
         (record { out = O.faults out.old; err = E.faults err.old; tree = T.faults tree.old })
         (record { out = O.faults out.new; err = E.faults err.new; tree = T.faults tree.new }) result }
 {
-    match read_form(words, width) {
-        Some(form) => run_form(alloc, tree, out, err, &form),
-        None => refuse(err),
+    match read_form(alloc, script, width) {
+        Ok(Some(form)) => run_form(alloc, tree, out, err, &form),
+        Ok(None) => refuse(alloc, err, Refusal::NotBuilt),
+        Err(_refused) => Err(Stop::Memory),
     }
 }
 
@@ -190,7 +198,7 @@ fn run_form<T: Tree, O: Sink, E: Sink>(
         (record { out = O.faults out.new; err = E.faults err.new; tree = T.faults tree.new }) result }
 {
     match form {
-        Form::Cat(operands) => match cat(alloc, tree, out, err, operands) {
+        Form::Cat(operands) => match cat(alloc, tree, out, err, operands.as_slice()) {
             Ok(status) => Ok(Outcome {
                 status,
                 why: Why::Finished,
@@ -221,13 +229,13 @@ fn run_file<T: Tree, O: Sink, E: Sink>(
     requires whole { IfSome (T.state tree.old).held NoWriterOut }
     requires file { IfSome (T.state tree.old).held (λ files. IsFileAt files path.now) }
     ensures why { IfOk result (λ outcome. IsOfScript outcome.why) }
-    ensures answer { IfOk result (λ outcome. IfSome (T.state tree.old).held (λ files.
-        Meets (reply_of_text files (T.state tree.old).home (bytes_at files path.now)) outcome.status outcome.why
+    ensures answer { IfOk result (λ outcome. (reads : Readings) → AreOutcomes reads → IfSome (T.state tree.old).held (λ files.
+        Meets (reply_of_text reads files (T.state tree.old).home (bytes_at files path.now)) outcome.status outcome.why
         (O.taken out.old) (O.taken out.new) (E.taken err.old) (E.taken err.new))) }
-    ensures part { OnErr result (IfSome (T.state tree.old).held (λ files.
+    ensures part { OnErr result ((reads : Readings) → AreOutcomes reads → IfSome (T.state tree.old).held (λ files.
         GrewByPrefixes (O.taken out.old) (O.taken out.new) (E.taken err.old) (E.taken err.new)
-        (reply_of_text files (T.state tree.old).home (bytes_at files path.now)).output
-        (reply_of_text files (T.state tree.old).home (bytes_at files path.now)).errors)) }
+        (reply_of_text reads files (T.state tree.old).home (bytes_at files path.now)).output
+        (reply_of_text reads files (T.state tree.old).home (bytes_at files path.now)).errors)) }
     ensures lent { OnlyLent (T.state tree.old) (T.state tree.new) }
     ensures cause { Stops
         (record { out = O.faults out.old; err = E.faults err.old; tree = T.faults tree.old })
@@ -243,7 +251,7 @@ fn run_file<T: Tree, O: Sink, E: Sink>(
 fn load_script<T: Tree>(alloc: Global, tree: &mut T, path: &Path) -> Result<Vec<u8>, Stop>
     requires { IfSome (T.state tree.old).held (λ files. IsFileAt files path.now) }
     ensures text { IfOk result (λ text. IfSome (T.state tree.old).held (λ files.
-        form_of text.items ≡ form_of (bytes_at files path.now))) }
+        AreReadAlike text.items (bytes_at files path.now))) }
     ensures lent { OnlyLent (T.state tree.old) (T.state tree.new) }
     ensures cause { Stops
         (record { out = 0; err = 0; tree = T.faults tree.old })
@@ -253,7 +261,7 @@ fn load_script<T: Tree>(alloc: Global, tree: &mut T, path: &Path) -> Result<Vec<
         Ok(reader) => reader,
         Err(error) => return Err(of_tree(error)),
     };
-    let text = read_front(alloc, &mut reader, MOST_BYTES + 1);
+    let text = read_front(alloc, &mut reader, MAX_SCRIPT + 1);
     tree.end_read(path, reader);
     match text {
         Ok(text) => Ok(text),
@@ -276,13 +284,13 @@ fn run_place<T: Tree, O: Sink, E: Sink>(
     requires whole { IfSome (T.state tree.old).held NoWriterOut }
     requires file { IfSome (T.state tree.old).held (λ files. NamesFileIn files place) }
     ensures why { IfOk result (λ outcome. IsOfScript outcome.why) }
-    ensures answer { IfOk result (λ outcome. IfSome (T.state tree.old).held (λ files.
-        Meets (reply_of_file files (T.state tree.old).home script.now (file_of place)) outcome.status outcome.why
+    ensures answer { IfOk result (λ outcome. (reads : Readings) → AreOutcomes reads → IfSome (T.state tree.old).held (λ files.
+        Meets (reply_of_file reads files (T.state tree.old).home script.now (file_of place)) outcome.status outcome.why
         (O.taken out.old) (O.taken out.new) (E.taken err.old) (E.taken err.new))) }
-    ensures part { OnErr result (IfSome (T.state tree.old).held (λ files.
+    ensures part { OnErr result ((reads : Readings) → AreOutcomes reads → IfSome (T.state tree.old).held (λ files.
         GrewByPrefixes (O.taken out.old) (O.taken out.new) (E.taken err.old) (E.taken err.new)
-        (reply_of_file files (T.state tree.old).home script.now (file_of place)).output
-        (reply_of_file files (T.state tree.old).home script.now (file_of place)).errors)) }
+        (reply_of_file reads files (T.state tree.old).home script.now (file_of place)).output
+        (reply_of_file reads files (T.state tree.old).home script.now (file_of place)).errors)) }
     ensures lent { OnlyLent (T.state tree.old) (T.state tree.new) }
     ensures cause { Stops
         (record { out = O.faults out.old; err = E.faults err.old; tree = T.faults tree.old })
@@ -317,13 +325,13 @@ fn run_script<T: Tree, O: Sink, E: Sink>(
     requires spread { (1 ≤ width) × (width ≤ MOST_WIDTH) }
     requires whole { IfSome (T.state tree.old).held NoWriterOut }
     ensures why { IfOk result (λ outcome. IsOfScript outcome.why) }
-    ensures answer { IfOk result (λ outcome. IfSome (T.state tree.old).held (λ files.
-        Meets (reply_of_script files (T.state tree.old).home script.now) outcome.status outcome.why
+    ensures answer { IfOk result (λ outcome. (reads : Readings) → AreOutcomes reads → IfSome (T.state tree.old).held (λ files.
+        Meets (reply_of_script reads files (T.state tree.old).home script.now) outcome.status outcome.why
         (O.taken out.old) (O.taken out.new) (E.taken err.old) (E.taken err.new))) }
-    ensures part { OnErr result (IfSome (T.state tree.old).held (λ files.
+    ensures part { OnErr result ((reads : Readings) → AreOutcomes reads → IfSome (T.state tree.old).held (λ files.
         GrewByPrefixes (O.taken out.old) (O.taken out.new) (E.taken err.old) (E.taken err.new)
-        (reply_of_script files (T.state tree.old).home script.now).output
-        (reply_of_script files (T.state tree.old).home script.now).errors)) }
+        (reply_of_script reads files (T.state tree.old).home script.now).output
+        (reply_of_script reads files (T.state tree.old).home script.now).errors)) }
     ensures lent { OnlyLent (T.state tree.old) (T.state tree.new) }
     ensures cause { Stops
         (record { out = O.faults out.old; err = E.faults err.old; tree = T.faults tree.old })
@@ -347,13 +355,13 @@ pub fn run_command<T: Tree, O: Sink, E: Sink>(
     requires whole { IfSome (T.state tree.old).held NoWriterOut }
     ensures why { IfOk result (λ outcome. MatchOption (command_of (texts words.now))
         (outcome.why ≡ Why.Usage) (λ _. IsOfScript outcome.why)) }
-    ensures answer { IfOk result (λ outcome. IfSome (T.state tree.old).held (λ files.
-        Meets (reply_of_command files (T.state tree.old).home (command_of (texts words.now))) outcome.status outcome.why
+    ensures answer { IfOk result (λ outcome. (reads : Readings) → AreOutcomes reads → IfSome (T.state tree.old).held (λ files.
+        Meets (reply_of_command reads files (T.state tree.old).home (command_of (texts words.now))) outcome.status outcome.why
         (O.taken out.old) (O.taken out.new) (E.taken err.old) (E.taken err.new))) }
-    ensures part { OnErr result (IfSome (T.state tree.old).held (λ files.
+    ensures part { OnErr result ((reads : Readings) → AreOutcomes reads → IfSome (T.state tree.old).held (λ files.
         GrewByPrefixes (O.taken out.old) (O.taken out.new) (E.taken err.old) (E.taken err.new)
-        (reply_of_command files (T.state tree.old).home (command_of (texts words.now))).output
-        (reply_of_command files (T.state tree.old).home (command_of (texts words.now))).errors)) }
+        (reply_of_command reads files (T.state tree.old).home (command_of (texts words.now))).output
+        (reply_of_command reads files (T.state tree.old).home (command_of (texts words.now))).errors)) }
     ensures usage { IfNone (command_of (texts words.now)) (MatchResult result
         (λ outcome. Meets usage_lem outcome.status outcome.why (O.taken out.old) (O.taken out.new) (E.taken err.old) (E.taken err.new))
         (λ _. GrewByPrefixes (O.taken out.old) (O.taken out.new) (E.taken err.old) (E.taken err.new) [] usage_lem.errors)) }

@@ -4,13 +4,14 @@ ghost use Rattle.ps_world.specs.Files.{NoWriterOut};
 
 mod faults;
 mod first;
+mod refusals;
 mod rows;
 mod whole;
 
-use crate::answers::Why;
+use crate::answers::{Refusal, Why};
 use crate::top::pash;
 use ps_fakes::{MemSink, MemSource, MemTree, OpenGate};
-use ps_world::Tree;
+use ps_world::{Source, Tree};
 use std::alloc::{AllocError, Global};
 use std::process::Abort;
 use std::test::Fail;
@@ -82,10 +83,29 @@ impl Failing {
     }
 }
 
+/// What a script tells that isn't run.
+fn refused(line: &[u8], cause: Refusal) -> Reply<'_> {
+    Reply {
+        output: b"",
+        errors: line,
+        status: 2,
+        why: Why::Refused(cause),
+    }
+}
+
+/// What a script tells of a form that isn't built.
+fn not_built() -> Reply<'static> {
+    refused(b"pash: refused: NotBuilt\n", Refusal::NotBuilt)
+}
+
+/// The input of every run.
+const INPUT: &[u8] = b"in\n";
+
 /// What a run answered, and the objects as it left them.
 #[derive(Drop)]
 struct Ran {
     tree: MemTree,
+    input: MemSource,
     out: MemSink,
     err: MemSink,
     status: u8,
@@ -103,6 +123,19 @@ impl Ran {
     /// Whether output and errors are prefixes of these.
     fn has_part_of(&self, reply: &Reply) -> bool {
         reply.output.starts_with(self.out.taken()) && reply.errors.starts_with(self.err.taken())
+    }
+
+    /// Whether all of the input is left, and the tree lent nothing but one reader, which came back.
+    fn has_only_read_the_script(&mut self) -> bool {
+        let mut bytes = [0; 8];
+        match self.input.read(&mut bytes) {
+            Ok(count) => {
+                count == INPUT.len()
+                    && bytes.starts_with(INPUT)
+                    && (self.tree.lent(), self.tree.back()) == (1, 1)
+            }
+            Err(_) => false,
+        }
     }
 
     /// Whether the run ended so.
@@ -139,7 +172,7 @@ fn run_over(
     requires whole { IfSome (⟦<MemTree as Tree>⟧.state tree).held NoWriterOut }
 {
     let words = owned_words(alloc, words)?;
-    let input = MemSource::new(Vec::new(alloc), Vec::new(alloc));
+    let input = MemSource::new(Vec::from_slice(alloc, INPUT)?, Vec::new(alloc));
     let out = MemSink::new(alloc, failing.of_output(alloc)?);
     let mut err = MemSink::new(alloc, failing.of_errors(alloc)?);
     let mut tree = tree;
@@ -154,6 +187,7 @@ fn run_over(
     );
     Ok(Ran {
         tree,
+        input: end.input,
         out: end.out,
         err,
         status: end.status,

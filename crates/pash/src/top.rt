@@ -5,6 +5,7 @@ ghost use Rattle.ps_world.specs.Files.{NoWriterOut};
 ghost use Rattle.ps_world.specs.TreeState.{OnlyLent};
 ghost use Rattle.pash.specs.Words.{command_of, texts};
 ghost use Rattle.pash.specs.Answers.{IsAnswer, IsOfScript, HasFaultStatus};
+ghost use Rattle.pash.specs.Readings.{Readings, AreOutcomes};
 ghost use Rattle.pash.specs.Meaning.{meaning, usage as usage_lem, reply_of_command};
 ghost use Rattle.pash.specs.Runs.{Meets, Leaves, GrewByPrefixes, Stops};
 
@@ -17,6 +18,9 @@ use std::alloc::Global;
 ///
 /// `run W SCRIPT ARG*` runs a script: what it leaves is the script's meaning, byte for byte, at every width W. The input and the
 /// output are given back. The gate is there for running nodes, and isn't called so far.
+///
+/// `reads` is what each text is, one script or one refusal. A script that isn't run, for its text or for its form, is told by one line
+/// of error: nothing of the output, the tree or the input changes then.
 ///
 /// After every answer but the faults and Memory, output and errors have grown by exactly the meaning's and were flushed. WriteFault comes only
 /// where the count of the output or the errors rose in this call, TreeFault only where the tree's did; after these and Memory, output and
@@ -33,12 +37,12 @@ pub fn pash<T: Tree, I: Source + Send, O: Sink + Send, E: Sink, G: Gate>(
     requires whole { IfSome (T.state tree.old).held NoWriterOut }
 
     // What the command leaves.
-    ensures meaning { IsAnswer result.why → IfSome (T.state tree.old).held (λ files. IfSome (I.left input) (λ text.
-        Leaves (meaning (texts words.now) (record { files = files; home = (T.state tree.old).home; input = text }))
+    ensures meaning { (reads : Readings) → AreOutcomes reads → IsAnswer result.why → IfSome (T.state tree.old).held (λ files. IfSome (I.left input) (λ text.
+        Leaves (meaning reads (texts words.now) (record { files = files; home = (T.state tree.old).home; input = text }))
         result.status result.why (O.taken out) (O.taken result.out) (E.taken err.old) (E.taken err.new)
         (T.state tree.new).held (I.left result.input))) }
-    ensures prefixes { IfSome (T.state tree.old).held (λ files. IfSome (I.left input) (λ text.
-        let m = meaning (texts words.now) (record { files = files; home = (T.state tree.old).home; input = text }) in
+    ensures prefixes { (reads : Readings) → AreOutcomes reads → IfSome (T.state tree.old).held (λ files. IfSome (I.left input) (λ text.
+        let m = meaning reads (texts words.now) (record { files = files; home = (T.state tree.old).home; input = text }) in
         GrewByPrefixes (O.taken out) (O.taken result.out) (E.taken err.old) (E.taken err.new) m.reply.output m.reply.errors)) }
     ensures usage_only { result.why ≡ Why.Usage → command_of (texts words.now) ≡ None }
     ensures usage { IsAnswer result.why → IfNone (command_of (texts words.now))
@@ -83,13 +87,13 @@ fn run_flushed<T: Tree, O: Sink, E: Sink>(
     err: &mut E,
 ) -> Result<Outcome, Stop>
     requires { IfSome (T.state tree.old).held NoWriterOut }
-    ensures answer { IfOk result (λ outcome. IfSome (T.state tree.old).held (λ files.
-        Meets (reply_of_command files (T.state tree.old).home (command_of (texts words.now))) outcome.status outcome.why
+    ensures answer { IfOk result (λ outcome. (reads : Readings) → AreOutcomes reads → IfSome (T.state tree.old).held (λ files.
+        Meets (reply_of_command reads files (T.state tree.old).home (command_of (texts words.now))) outcome.status outcome.why
         (O.taken out.old) (O.taken out.new) (E.taken err.old) (E.taken err.new))) }
-    ensures part { OnErr result (IfSome (T.state tree.old).held (λ files.
+    ensures part { OnErr result ((reads : Readings) → AreOutcomes reads → IfSome (T.state tree.old).held (λ files.
         GrewByPrefixes (O.taken out.old) (O.taken out.new) (E.taken err.old) (E.taken err.new)
-        (reply_of_command files (T.state tree.old).home (command_of (texts words.now))).output
-        (reply_of_command files (T.state tree.old).home (command_of (texts words.now))).errors)) }
+        (reply_of_command reads files (T.state tree.old).home (command_of (texts words.now))).output
+        (reply_of_command reads files (T.state tree.old).home (command_of (texts words.now))).errors)) }
     ensures usage { IfNone (command_of (texts words.now)) (MatchResult result
         (λ outcome. Meets usage_lem outcome.status outcome.why (O.taken out.old) (O.taken out.new) (E.taken err.old) (E.taken err.new))
         (λ _. GrewByPrefixes (O.taken out.old) (O.taken out.new) (E.taken err.old) (E.taken err.new) [] usage_lem.errors)) }

@@ -1,5 +1,5 @@
 //! What scripts and words tell, where nothing fails.
-use super::{Entry, Failing, Reply, complained, finished, repeated, run};
+use super::{Entry, Failing, Reply, complained, finished, not_built, refused, repeated, run};
 use crate::answers::{Refusal, Why};
 use ps_lines::Text;
 use std::process::Abort;
@@ -36,16 +36,6 @@ fn tells_at_every_width<R: Abort + AllocGlobal>(
         tells(rt, &["run", width, "s"], entries, reply)?;
     }
     Ok(())
-}
-
-/// What a script tells of a form that isn't built.
-fn not_built() -> Reply<'static> {
-    Reply {
-        output: b"",
-        errors: b"pash: refused: NotBuilt\n",
-        status: 2,
-        why: Why::Refused(Refusal::NotBuilt),
-    }
 }
 
 /// A last line without a newline stays so, and what can't be read is told.
@@ -170,7 +160,8 @@ fn tells_of_slashes<R: Abort + AllocGlobal>(
 #[test]
 fn a_script_has_at_most_1_048_576_bytes(rt: HostRuntime) -> Result<(), Fail> {
     tells_of_slashes(&rt, LONGEST - 8, &finished(b"x1\n"))?;
-    tells_of_slashes(&rt, LONGEST - 7, &not_built())
+    let too_long = refused(b"pash: refused: ScriptTooLong\n", Refusal::ScriptTooLong);
+    tells_of_slashes(&rt, LONGEST - 7, &too_long)
 }
 
 /// The lines of the file that have the word are counted, however they are parted, and none of them where there is no file.
@@ -196,5 +187,27 @@ fn a_pipeline_counts_lines(rt: HostRuntime) -> Result<(), Fail> {
             status: 0,
             why: Why::Finished,
         },
+    )
+}
+
+/// Blanks, comments and newlines around a form's words and operators make no difference.
+#[test]
+fn a_form_has_blanks_and_comments_around(rt: HostRuntime) -> Result<(), Fail> {
+    tells_at_every_width(
+        &rt,
+        &[
+            (b"/w/s", Some(b"\n# c\n  cat   a  b # x\n\n")),
+            (b"/w/a", Some(b"x1")),
+            (b"/w/b", Some(b"x2\n")),
+        ],
+        &finished(b"x1x2\n"),
+    )?;
+    tells_at_every_width(
+        &rt,
+        &[
+            (b"/w/s", Some(b"cat f | \n grep -F w | wc -l")),
+            (b"/w/f", Some(b"w\nv\nwv")),
+        ],
+        &finished(b"2\n"),
     )
 }

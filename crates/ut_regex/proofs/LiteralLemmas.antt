@@ -112,6 +112,24 @@ occurs_there line bytes place within h = record {
   reads = λ offset low. only_plain false (slice_index bytes offset) (slice_index line (place + offset)) refl (stands_fits false line bytes place h offset low);
 }
 
+-- bytes of which each fits stand there
+pub stands_all : (fold : Bool) (line bytes : List ℕ) (place : ℕ) → place + length bytes ≤ length line
+    → ((offset : ℕ) → offset < length bytes → fits fold (Byte (slice_index bytes offset)) (slice_index line (place + offset)) ≡ true)
+    → StandsAt fold line bytes place
+stands_all fold line [] place within each = tt
+stands_all fold line (byte ∷ bytes) place within each = (
+  omega (arith, within),
+  let e : place ≡ place + zero = omega arith in ap (λ at. fits fold (Byte byte) (slice_index line at)) e ∙ each zero (omega arith),
+  stands_all fold line bytes (place + 1) (omega (arith, within)) (λ offset low.
+      let e : place + 1 + offset ≡ place + suc offset = omega arith in
+      ap (λ at. fits fold (Byte (slice_index bytes offset)) (slice_index line at)) e ∙ each (suc offset) (omega (arith, low))),
+)
+
+-- bytes that occur in a line stand there as they are
+pub stands_where_occurs : (line bytes : List ℕ) (place : ℕ) → OccursAt line bytes place → StandsAt false line bytes place
+stands_where_occurs line bytes place occurs = stands_all false line bytes place occurs.fits (λ offset low.
+    ap (λ same. same || false) (eq-eqb (slice_index line (place + offset)) (slice_index bytes offset) (occurs.reads offset low)))
+
 -- a line that has an expression contains its literal
 pub has_literal : (fold whole : Bool) (re : Tree) (line bytes : List ℕ) → IsLiteral fold re bytes → Has fold whole line re → Contains fold line bytes
 has_literal fold true re line bytes literal h = literal line 0 (length line) h
@@ -127,6 +145,10 @@ pub exact-first : (search : Search) (bytes text : List ℕ) (place : ℕ) → se
 exact-first search bytes text place is found = rw is (λ at low before stands.
     let within = found.0.high in
     found.0.before at low before (occurs_there text bytes at (omega (arith, within, before)) stands))
+
+pub exact-stands : (search : Search) (bytes text : List ℕ) (place : ℕ) → search ≡ Exact bytes → FindsNeedle text bytes 0 (Some place)
+    → StandsAt (folds search) text (bytes_of search) place
+exact-stands search bytes text place is found = rw is (stands_where_occurs text bytes place found.1)
 
 pub exact-none : (search : Search) (bytes text : List ℕ) → search ≡ Exact bytes → FindsNeedle text bytes 0 None
     → Nowhere (StandsAt (folds search) text (bytes_of search)) 0 (length text)

@@ -31,6 +31,7 @@ impl Folded {
     pub(crate) fn first_place(&self, text: &[u8]) -> usize
         ensures within { result ≤ length text.now }
         ensures first { Nowhere (StandsAt true text.now self.now.bytes.items) 0 result }
+        ensures stands { result < length text.now → StandsAt true text.now self.now.bytes.items result }
     {
         let byte = self.bytes[self.rare];
         let other = other_case(byte);
@@ -57,7 +58,8 @@ impl Folded {
 fn stands_at(text: &[u8], place: usize, bytes: &[u8]) -> bool
     requires room { place + length bytes.now ≤ length text.now }
     requires some { 0 < length bytes.now }
-    ensures { result ≡ false → ¬ StandsAt true text.now bytes.now place }
+    ensures stands { result ≡ true → StandsAt true text.now bytes.now place }
+    ensures lacks { result ≡ false → ¬ StandsAt true text.now bytes.now place }
 {
     let last = bytes.len() - 1;
     if !fits(Leaf::Byte(bytes[last]), true, text[place + last]) {

@@ -39,6 +39,7 @@ impl Search {
     pub(crate) fn first_place(&self, text: &[u8]) -> usize
         ensures within { result ≤ length text.now }
         ensures first { Nowhere (StandsAt (folds self.now) text.now (bytes_of self.now)) 0 result }
+        ensures stands { result < length text.now → StandsAt (folds self.now) text.now (bytes_of self.now) result }
     {
         match self {
             Search::Exact(finder) => match finder.find(text) {

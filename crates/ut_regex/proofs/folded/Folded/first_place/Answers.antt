@@ -21,13 +21,17 @@ returns-then-stands_at-clause-first c = λ place low within stands.
     c.index-byte.ensures c.other_case-other.ensures c.loop-from.invariant.after c.loop-from.invariant.nowhere c.in-Some.offset (rw take_rest at c.in-Some.ensures)
     place within stands
 
+pub returns-then-stands_at-clause-stands : goal.returns-then-stands_at-clause-stands
+returns-then-stands_at-clause-stands c = λ within.
+    subst (λ bytes. StandsAt true c.args.text.now bytes (c.loop-from.from + c.in-Some.offset - c.args.self.now.rare)) c.deref.ensures.value (c.if-stands_at.ensures.stands refl)
+
 pub loop-from-preserved : goal.loop-from-preserved
 loop-from-preserved c = record {
   after = let after = c.loop-from.invariant.after in omega (arith, after);
   nowhere = λ place low within stands.
       after-found c.args.text.now c.args.self.now.bytes.items c.args.self.now.rare c.index-byte.result.now c.other_case-other.result c.loop-from.from c.args.self.now.within
       c.index-byte.ensures c.other_case-other.ensures c.loop-from.invariant.after c.loop-from.invariant.nowhere c.in-Some.offset (rw take_rest at c.in-Some.ensures)
-      (λ there. c.if-stands_at.ensures refl (subst (λ bytes. StandsAt true c.args.text.now bytes (c.loop-from.from + c.in-Some.offset - c.args.self.now.rare)) (sym c.deref.ensures.value) there)) place within stands;
+      (λ there. c.if-stands_at.ensures.lacks refl (subst (λ bytes. StandsAt true c.args.text.now bytes (c.loop-from.from + c.in-Some.offset - c.args.self.now.rare)) (sym c.deref.ensures.value) there)) place within stands;
 }
 
 pub returns-clause-first : goal.returns-clause-first

@@ -20,7 +20,8 @@ use Rattle.ut_regex.specs.declared.search.Search.{Search}
 use Rattle.ut_regex.specs.declared.tree.Leaf.TheVariants.{Byte}
 use Rattle.ut_regex.specs.Seeks.{Seeks}
 use Rattle.ut_regex.specs.Spans.{fits, Has}
-use Rattle.ut_regex.specs.Tables.{runs, text_entry, left_at_found, IsMade}
+use Rattle.ut_regex.specs.Tables.{runs, text_entry, left_at_found}
+use Rattle.ut_regex.specs.Made.{IsMade}
 use Rattle.ut_regex.specs.Tree.{Tree}
 use Rattle.ut_regex.proofs.CutLemmas.{closed-append, closed-behind, closed-tail}
 use Rattle.ut_regex.proofs.LiteralLemmas.{has_literal, stands_long}
@@ -158,7 +159,7 @@ module _ (next : List ℕ) (ends : List Bool) where
   entry-end : (state byte : ℕ) → (byte == 10) ≡ true → text_entry next ends state byte ≡ (if slice_index_or ends state false then FOUND else 0)
   entry-end state byte is = cond-true (byte == 10) (if slice_index_or ends state false then FOUND else 0) (slice_index_or next (256 * state + byte) FOUND) is
 
-  goes-on : (state byte entry : ℕ) (rest : List ℕ) → text_entry next ends state byte ≡ entry → (entry == FOUND) ≡ false
+  pub goes-on : (state byte entry : ℕ) (rest : List ℕ) → text_entry next ends state byte ≡ entry → (entry == FOUND) ≡ false
       → left_at_found next ends state (byte ∷ rest) ≡ left_at_found next ends entry rest
   goes-on state byte entry rest is goes =
       ap (λ e. if e == FOUND then Some (suc (length rest)) else left_at_found next ends e rest) is

@@ -22,3 +22,4 @@ pub mod CutLemmas
 pub mod LiteralLemmas
 pub mod FoldedLemmas
 pub mod HavingLemmas
+pub mod IdleLemmas

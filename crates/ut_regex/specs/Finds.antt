@@ -4,7 +4,7 @@ use Rattle.ut_regex.specs.declared.matcher.Matcher.{Matcher}
 use Rattle.ut_regex.specs.Tree.{Tree}
 use Rattle.ut_regex.specs.Searches.{Looks}
 use Rattle.ut_regex.specs.Seeks.{Seeks, Same}
-use Rattle.ut_regex.specs.Tables.{IsMade}
+use Rattle.ut_regex.specs.Made.{IsMade}
 
 -- the matcher finds the expression; with `fold` in both cases of letters, with `whole` as the whole line
 pub record Finds (matcher : Matcher) (fold whole : Bool) (re : Tree) : Type 0 where

@@ -5,6 +5,8 @@ pub mod Sweeps
 pub mod Held
 pub mod Seeks
 pub mod Tables
+pub mod Idling
+pub mod Made
 pub mod Twins
 pub mod Literals
 pub mod Searches

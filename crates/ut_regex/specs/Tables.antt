@@ -4,7 +4,6 @@ use Rattle.std.specs.Prelude.{ℕ, suc, Option, Some, None, ◌≡◌, ◌+◌, 
 use Rattle.ps_lines.specs.declared.newlines.TheConstants.{NEWLINE}
 use Rattle.ut_regex.specs.declared.machine.Row.{Row}
 use Rattle.ut_regex.specs.declared.program.Op.{Op}
-use Rattle.ut_regex.specs.declared.table.Table.{Table}
 use Rattle.ut_regex.specs.declared.table.TheConstants.{FOUND}
 use Rattle.ut_regex.specs.Seeks.{swept, leads_on, marked}
 
@@ -81,7 +80,3 @@ pub record IsTable (ops : List Op) (fold whole : Bool) (states : List State) (ne
   pub full : length next ≡ 256 * length states
   pub entries : Entered ops fold whole states next
   pub last : (state : ℕ) → state < length states → slice_index_or ends state false ≡ leads_at ops whole true (state_at states state)
-
--- a table is that of a program
-abbrev pub IsMade : List Op → Bool → Bool → Table → Type 0
-IsMade ops fold whole table = (states : List State) × IsTable ops fold whole states table.next.items table.ends.items

@@ -17,6 +17,7 @@ mod cuts;
 mod expansion;
 mod fault;
 mod folded;
+mod idle;
 mod intervals;
 pub mod laws;
 mod literals;
@@ -27,6 +28,7 @@ mod program;
 mod reading;
 mod search;
 mod sizes;
+mod starts;
 mod sweep;
 mod table;
 #[cfg(test)]

@@ -11,7 +11,7 @@ use crate::expansion::program_of;
 use crate::literals::literal_of;
 use crate::machine::Machine;
 use crate::search::Search;
-use crate::table::{Table, table_of};
+use crate::table::Table;
 use crate::tree::Regex;
 use ps_lines::Memory;
 use std::alloc::Global;
@@ -32,7 +32,7 @@ pub fn compile(alloc: Global, re: &Regex, fold: bool, whole: bool) -> Result<Mat
 {
     let steps = program_of(alloc, &re.nodes)?;
     let mut machine = Machine::running(alloc, steps, fold, whole)?;
-    let table = table_of(alloc, &mut machine)?;
+    let table = Table::of(alloc, &mut machine)?;
     let literal = Search::of(alloc, literal_of(alloc, &re.nodes)?, fold)?;
     Ok(Matcher {
         machine,

@@ -1,11 +1,14 @@
 //! Tables of a machine's states.
 ghost use Rattle.std.specs.Prelude.{◌≡◌, ◌+◌, ◌-◌, ◌*◌, ◌<◌, ◌≤◌, ◌++◌, ◌∷◌, [], Some, None, IfNone, IfOk, IfSome, OnOk, length, false, true, slice_index_or};
+ghost use Rattle.std.specs.Option.{ForSome};
 ghost use Rattle.ps_lines.specs.Lines.{is_closed};
 ghost use Rattle.ut_regex.specs.Seeks.{Same};
 ghost use Rattle.ut_regex.specs.Twins.{AreTwins, HasTwins};
-ghost use Rattle.ut_regex.specs.Tables.{left_at_found, runs, text_entry, state_of, states_of, state_at, IsEntry, IsMade, Entered, Keeps};
+ghost use Rattle.ut_regex.specs.Tables.{left_at_found, runs, text_entry, state_of, states_of, state_at, IsEntry, Entered, Keeps};
+ghost use Rattle.ut_regex.specs.Idling.{Idles};
 
 use crate::cuts::cut_at_line;
+use crate::idle::{Idle, idle_of, left_behind_starts};
 use crate::machine::{Machine, Row};
 use crate::twins::twins_of;
 use ps_lines::NEWLINE;
@@ -28,16 +31,56 @@ pub(crate) const FOUND: u16 = 65_535;
 pub(crate) struct Table {
     next: Vec<u16>,
     ends: Vec<bool>,
+    idle: Option<Idle>,
+    ghost idles: { ForSome idle (λ idle. Idles next.items ends.items idle.state idle.starts.set) },
 }
 
 /// How far a table has run over a text.
 #[derive(Clone, Copy)]
-struct Run<'t> {
-    state: u16,
-    left: &'t [u8],
+pub(crate) struct Run<'t> {
+    pub state: u16,
+    pub left: &'t [u8],
 }
 
 impl Table {
+    ghost use Rattle.std.specs.Prelude.{◌≡◌, ◌≤◌, IfOk, IfSome, length};
+    ghost use Rattle.ut_regex.specs.Made.{IsMade};
+    ghost use Rattle.ut_regex.specs.Seeks.{Same};
+    ghost use Rattle.ut_regex.specs.Tables.{left_at_found, runs};
+
+    /// The table of a machine, unless it has too many states or finds the expression at the beginning of every line.
+    pub(crate) fn of(alloc: Global, machine: &mut Machine) -> Result<Option<Table>, AllocError>
+        ensures table { IfOk result (λ made. IfSome made (λ table. IsMade machine.old.steps.items machine.old.fold machine.old.whole table)) }
+        ensures same { Same machine.old machine.new }
+    {
+        let first = Row {
+            begins: true,
+            marks: Vec::new(alloc),
+        };
+        if machine.steps.len() > MAX_STEPS {
+            return Ok(None);
+        }
+        if !machine.whole && machine.leads(&first, false)? {
+            return Ok(None);
+        }
+        let twins = twins_of(alloc, &machine.steps, machine.fold)?;
+        let mut rows = Vec::new(alloc);
+        rows.push(first)?;
+        let mut next = Vec::new(alloc);
+        let mut ends = Vec::new(alloc);
+        let mut state = 0;
+        'states: while state < rows.len() {
+            if rows.len() > MAX_STATES {
+                return Ok(None);
+            }
+            ends.push(machine.leads(&rows[state], true)?)?;
+            add_entries(alloc, machine, &twins, &mut rows, &mut next, state)?;
+            state += 1;
+        }
+        let idle = idle_of(&next, &ends);
+        Ok(Some(Table { next, ends, idle }))
+    }
+
     /// Runs over the line from the first state.
     pub(crate) fn has(&self, line: &[u8]) -> bool
         ensures { result ≡ runs self.now.next.items self.now.ends.items 0 line.now }
@@ -62,21 +105,44 @@ impl Table {
         ensures found { result ≡ left_at_found self.now.next.items self.now.ends.items 0 text.now }
         ensures some { IfSome result (λ left. left ≤ length text.now) }
     {
-        left_in_text(&self.next, &self.ends, text)
+        left_in_text(&self.next, &self.ends, &self.idle, text)
     }
 }
 
 /// How much is left of a closed text where a table shows a line, from the first state on. A line near its beginning costs no more than
 /// the way there.
-fn left_in_text(next: &[u16], ends: &[bool], text: &[u8]) -> Option<usize>
-    requires { is_closed text.now ≡ true }
+fn left_in_text(next: &[u16], ends: &[bool], idle: &Option<Idle>, text: &[u8]) -> Option<usize>
+    requires closed { is_closed text.now ≡ true }
+    requires idles { ForSome idle.now (λ idle. Idles next.now ends.now idle.state idle.starts.set) }
     ensures found { result ≡ left_at_found next.now ends.now 0 text.now }
     ensures some { IfSome result (λ left. left ≤ length text.now) }
 {
     let (head, tail) = cut_at_line(text, HEAD.min(text.len()));
     match run_on(next, ends, 0, head) {
         Some(left) => Some(left + tail.len()),
-        None => left_in_halves(next, ends, tail),
+        None => left_in_tail(next, ends, idle, head, tail),
+    }
+}
+
+/// How much is left of the tail of a text where a table shows a line, from the first state on. Where in its head bytes at which something
+/// may begin are rare, they are looked for.
+fn left_in_tail(
+    next: &[u16],
+    ends: &[bool],
+    idle: &Option<Idle>,
+    head: &[u8],
+    tail: &[u8],
+) -> Option<usize>
+    requires closed { is_closed tail.now ≡ true }
+    requires idles { ForSome idle.now (λ idle. Idles next.now ends.now idle.state idle.starts.set) }
+    ensures found { result ≡ left_at_found next.now ends.now 0 tail.now }
+    ensures some { IfSome result (λ left. left ≤ length tail.now) }
+{
+    match idle {
+        Some(idle) if idle.starts.are_rare_in(&head[..HEAD.min(head.len())]) => left_behind_starts(
+            next, ends, idle, tail,
+        ),
+        Some(_) | None => left_in_halves(next, ends, tail),
     }
 }
 
@@ -159,7 +225,7 @@ fn run_on(next: &[u16], ends: &[bool], begun: u16, text: &[u8]) -> Option<usize>
 }
 
 /// The entry of a state for a byte of a text of lines.
-fn text_entry(next: &[u16], ends: &[bool], state: u16, byte: u8) -> u16
+pub(crate) fn text_entry(next: &[u16], ends: &[bool], state: u16, byte: u8) -> u16
     ensures { result ≡ text_entry next.now ends.now state byte }
 {
     if byte != NEWLINE {
@@ -169,7 +235,7 @@ fn text_entry(next: &[u16], ends: &[bool], state: u16, byte: u8) -> u16
 }
 
 /// The entry of a state for a byte.
-fn entry_of(next: &[u16], state: u16, byte: u8) -> u16
+pub(crate) fn entry_of(next: &[u16], state: u16, byte: u8) -> u16
     ensures { result ≡ slice_index_or next.now (256 * state + byte) FOUND }
 {
     match next.get(256 * state as usize + byte as usize) {
@@ -186,38 +252,6 @@ fn ends_at(ends: &[bool], state: u16) -> bool
         Some(ends) => *ends,
         None => false,
     }
-}
-
-/// The table of a machine, unless it has too many states or finds the expression at the beginning of every line.
-pub(crate) fn table_of(alloc: Global, machine: &mut Machine) -> Result<Option<Table>, AllocError>
-    ensures table { IfOk result (λ made. IfSome made (λ table. IsMade machine.old.steps.items machine.old.fold machine.old.whole table)) }
-    ensures same { Same machine.old machine.new }
-{
-    let first = Row {
-        begins: true,
-        marks: Vec::new(alloc),
-    };
-    if machine.steps.len() > MAX_STEPS {
-        return Ok(None);
-    }
-    if !machine.whole && machine.leads(&first, false)? {
-        return Ok(None);
-    }
-    let twins = twins_of(alloc, &machine.steps, machine.fold)?;
-    let mut rows = Vec::new(alloc);
-    rows.push(first)?;
-    let mut next = Vec::new(alloc);
-    let mut ends = Vec::new(alloc);
-    let mut state = 0;
-    'states: while state < rows.len() {
-        if rows.len() > MAX_STATES {
-            return Ok(None);
-        }
-        ends.push(machine.leads(&rows[state], true)?)?;
-        add_entries(alloc, machine, &twins, &mut rows, &mut next, state)?;
-        state += 1;
-    }
-    Ok(Some(Table { next, ends }))
 }
 
 /// Adds the entries of a state. A byte has that of its twin.

@@ -76,6 +76,59 @@ fn lines_that_have_an_expression_are_found_in_order(rt: HostRuntime) -> Result<(
     Ok(())
 }
 
+/// Options, expression, lines, and which of them are printed, as in `TEXTS`. No line of the filler has any of the expressions.
+static SPREAD: [(&str, &str, &str, &str); 14] = [
+    ("-", "[xyz]fo*", "xfoo\nfoo\nyxf\nx\nz f\n", "xfoo\nyxf\n"),
+    ("-", "[x][12]", "x\nax1\nx 1\nxx2\n", "ax1\nxx2\n"),
+    ("E", "x1|y2", "x2y1\ny2\nx1y2\nx\n", "y2\nx1y2\n"),
+    ("E", "x1|y2|z3", "z2x\nz3\n3z\nyx1\n", "z3\nyx1\n"),
+    ("-", "[vwxyz][1-3]", "v\nv1\n1v\n zz3\n", "v1\n zz3\n"),
+    ("-", "^[xyz]f", "axf\nxf\nfx\nyfx\n", "xf\nyfx\n"),
+    ("-", "[xyz]$", "xa\nax\n\nz\n", "ax\nz\n"),
+    ("-", "^[xyz]$", "x\nxx\nzx\ny\n", "x\ny\n"),
+    ("-", "^$", "x\n\ny\n\n", "\n\n"),
+    ("E", "^x?$", "x\n\nxx\n", "x\n\n"),
+    ("i", "[xyz]q*[12]", "X1\nx\nyQq2\nq1\n", "X1\nyQq2\n"),
+    ("x", "[xyz]b*", "axb\nxb\nxbx\ny\n", "xb\ny\n"),
+    ("-", "[^ -~]1*", "x\n\t\nx1\n\u{e9}1\n", "\t\n\u{e9}1\n"),
+    ("-", "[^a-d ]e*f", "af\nf\nef\nxeef\n", "ef\nxeef\n"),
+];
+
+/// The lines, each behind so many others that the next byte at which an expression may begin is looked for.
+fn spread(alloc: Global, lines: &[u8]) -> Result<Vec<u8>, Fail> {
+    let mut text = Vec::new(alloc);
+    let mut begins = true;
+    for byte in lines.iter() {
+        if begins {
+            for _ in 0..100 {
+                text.extend_from_slice(b"aaa bbb ccc ddd\n")?;
+            }
+        }
+        text.push(*byte)?;
+        begins = *byte == b'\n';
+    }
+    Ok(text)
+}
+
+#[test]
+fn lines_far_apart_are_found(rt: HostRuntime) -> Result<(), Fail> {
+    for &(options, expression, lines, wanted) in SPREAD.iter() {
+        match matcher_of(rt.alloc(), options, expression)? {
+            Some(mut matcher) => {
+                let text = spread(rt.alloc(), lines.as_bytes())?;
+                let found = printed(rt.alloc(), &mut matcher, &text)?;
+                assert_eq!(rt;
+                    found.as_slice(),
+                    wanted.as_bytes(),
+                    "{expression} in {lines}"
+                );
+            }
+            None => assert!(rt; false, "{expression}"),
+        }
+    }
+    Ok(())
+}
+
 /// The literal of the expression stands in each of forty lines, so that the search for it is given up.
 #[test]
 fn a_line_behind_many_candidates_is_found(rt: HostRuntime) -> Result<(), Fail> {

@@ -14,7 +14,7 @@ pub returns-in-None-clause-found : goal.returns-in-None-clause-found
 returns-in-None-clause-found c =
     let next = c.args.next.now in
     let ends = c.args.ends.now in
-    c.left_in_halves.ensures.found
-    ∙ sym (left-closed next ends c.cut_at_line.result.0.now c.cut_at_line.result.1.now 0 (c.cut_at_line.ensures.closed c.requires).0 (λ none. refl)
+    c.left_in_tail.ensures.found
+    ∙ sym (left-closed next ends c.cut_at_line.result.0.now c.cut_at_line.result.1.now 0 (c.cut_at_line.ensures.closed c.requires.closed).0 (λ none. refl)
     (sym c.in-None.ensures.found))
     ∙ ap (λ text. left_at_found next ends 0 text) (sym c.cut_at_line.ensures.whole)

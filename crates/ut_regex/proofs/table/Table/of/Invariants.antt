@@ -1,7 +1,7 @@
 use Rattle.std.proofs.Common.{◌≡◌, ◌-◌, ◌*◌, ◌<◌, ◌≤◌, ℕ, false, true, length, slice_index_or}
 use Rattle.ut_regex.specs.Seeks.{Same}
 use Rattle.ut_regex.specs.Tables.{states_of, state_at, first_state, leads_at, Entered}
-use Rattle.ut_regex.proofs.table.table_of.Given as goal
+use Rattle.ut_regex.proofs.table.Table.of.Given as goal
 
 abbrev pub invariant-states : goal.invariant-states
 invariant-states l = record {

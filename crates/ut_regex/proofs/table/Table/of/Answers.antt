@@ -2,7 +2,7 @@ use Rattle.std.proofs.Common.{◌<◌, ◌+◌, length, sym, ap, ap₂, ◌∙�
 use Rattle.ut_regex.specs.Seeks.{Same}
 use Rattle.ut_regex.specs.Tables.{state_of, states_of, leads_at}
 use Rattle.ut_regex.proofs.TableLemmas.{states_length, state_there, entered_same, entered_back, ended_push}
-use Rattle.ut_regex.proofs.table.table_of.Goals as goal
+use Rattle.ut_regex.proofs.table.Table.of.Goals as goal
 
 pub states-preserved : goal.states-preserved
 states-preserved c =

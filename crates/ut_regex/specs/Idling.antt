@@ -1,0 +1,17 @@
+-- The states in which a table waits for the first byte of what is sought. The code passes over all other bytes in one search.
+use Rattle.std.specs.Prelude.{ℕ, ◌≡◌, ◌<◌, ◌==◌, Bool, false, List, if◌then◌else◌}
+use Rattle.ps_lines.specs.declared.newlines.TheConstants.{NEWLINE}
+use Rattle.ps_lines.specs.declared.ByteSet.{ByteSet}
+use Rattle.ps_lines.specs.ByteSet.{has_byte}
+use Rattle.ut_regex.specs.declared.table.TheConstants.{FOUND}
+use Rattle.ut_regex.specs.Tables.{text_entry}
+
+-- the state behind a byte at which nothing begins: the first one behind a newline, and else the one that waits
+abbrev pub idle_behind : ℕ → ℕ → ℕ
+idle_behind idle byte = if byte == NEWLINE then 0 else idle
+
+-- each byte at which nothing begins leads from the first state, and from the one that waits, to one of the two
+pub record Idles (next : List ℕ) (ends : List Bool) (idle : ℕ) (starts : ByteSet) : Type 0 where
+  pub known : idle < FOUND
+  pub first : (byte : ℕ) → byte < 256 → has_byte starts byte ≡ false → text_entry next ends 0 byte ≡ idle_behind idle byte
+  pub again : (byte : ℕ) → byte < 256 → has_byte starts byte ≡ false → text_entry next ends idle byte ≡ idle_behind idle byte

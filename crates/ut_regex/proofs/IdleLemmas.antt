@@ -1,6 +1,7 @@
 -- Bytes at which nothing begins are passed over.
-use Rattle.std.proofs.Common.{ℕ, zero, suc, ◌≡◌, ◌-◌, ◌<◌, ◌≤◌, ◌==◌, ◌⊎◌, inl, inr, Bool, true, false, List, [], ◌∷◌, length, slice_index, drop, if◌then◌else◌, Option, Some, None, refl, ap, sym, ◌∙◌, arith}
-use Rattle.std.proofs.lemmas.Bool.{ne_eqb}
+use Rattle.std.proofs.Common.{ℕ, zero, suc, ◌≡◌, ◌+◌, ◌-◌, ◌<◌, ◌≤◌, ◌==◌, ◌&&◌, ◌||◌, ◌⊎◌, inl, inr, nat_lt, not, Bool, true, false, List, [], ◌∷◌, length, slice_index, drop, if◌then◌else◌, Option, Some, None, refl, ap, sym, ◌∙◌, arith}
+use Rattle.std.proofs.lemmas.Bool.{ne_eqb, eqb-true, true≢false}
+use Rattle.std.proofs.lemmas.Bool.Decides.{nat_tests}
 use Rattle.memchr.specs.Find.{IsFirstByte, Nowhere, Passes}
 use Rattle.ps_lines.specs.declared.ByteSet.{ByteSet}
 use Rattle.ps_lines.specs.ByteSet.{has_byte}
@@ -27,6 +28,22 @@ isnt-true : (test : Bool) → ¬ (test ≡ true) → test ≡ false
 isnt-true true isnt = absurd (isnt refl)
 isnt-true false isnt = refl
 
+-- a set of the bytes below a number that pass a test gains the next one if it passes
+module _ (test : ℕ → Bool) (code byte : ℕ) (before : Bool) (is : before ≡ (nat_lt byte code && test byte)) where
+  here : byte ≡ code → test byte ≡ test code
+  here same = ap test same
+
+  pub gains : (now : Bool) → test code ≡ true → now ≡ (byte == code || before) → now ≡ (nat_lt byte (code + 1) && test byte)
+  gains now passes added = grind (arith, nat_tests, here, is, passes, added)
+
+  pub stays-same : test code ≡ false → before ≡ (nat_lt byte (code + 1) && test byte)
+  stays-same fails = grind (arith, nat_tests, here, is, fails)
+
+not-both : (first second : Bool) → not (first && second) ≡ false → (first ≡ true) × (second ≡ true)
+not-both true true h = (refl, refl)
+not-both true false h = absurd (true≢false h)
+not-both false second h = absurd (true≢false h)
+
 module _ (next : List ℕ) (ends : List Bool) (idle : ℕ) (starts : ByteSet) (idles : Idles next ends idle starts) where
   -- what holds of the first state and of the one that waits holds behind a byte at which nothing begins
   behind-one : (P : ℕ → Type 0) (byte : ℕ) → P 0 → P idle → P (idle_behind idle byte)
@@ -38,8 +55,13 @@ module _ (next : List ℕ) (ends : List Bool) (idle : ℕ) (starts : ByteSet) (i
 
   entry-there : (state byte : ℕ) → (state ≡ 0) ⊎ (state ≡ idle) → byte < 256 → has_byte starts byte ≡ false
       → text_entry next ends state byte ≡ idle_behind idle byte
-  entry-there state byte (inl is) small none = ap (λ state. text_entry next ends state byte) is ∙ idles.first byte small none
-  entry-there state byte (inr is) small none = ap (λ state. text_entry next ends state byte) is ∙ idles.again byte small none
+  entry-there state byte waits small none =
+      let both = not-both (text_entry next ends 0 byte == idle_behind idle byte) (text_entry next ends idle byte == idle_behind idle byte)
+      (sym (idles.exact byte small) ∙ none) in
+      elim waits [
+        | inl is ↦ ap (λ state. text_entry next ends state byte) is ∙ eqb-true (text_entry next ends 0 byte) (idle_behind idle byte) both.0
+        | inr is ↦ ap (λ state. text_entry next ends state byte) is ∙ eqb-true (text_entry next ends idle byte) (idle_behind idle byte) both.1
+      ]
 
   -- a byte at which nothing begins shows no line
   passed-one : (state byte : ℕ) (rest : List ℕ) → (state ≡ 0) ⊎ (state ≡ idle) → byte < 256 → has_byte starts byte ≡ false

@@ -1,5 +1,5 @@
 -- The states in which a table waits for the first byte of what is sought. The code passes over all other bytes in one search.
-use Rattle.std.specs.Prelude.{ℕ, ◌≡◌, ◌<◌, ◌==◌, Bool, false, List, if◌then◌else◌}
+use Rattle.std.specs.Prelude.{ℕ, ◌≡◌, ◌<◌, ◌==◌, ◌&&◌, not, Bool, List, if◌then◌else◌}
 use Rattle.ps_lines.specs.declared.newlines.TheConstants.{NEWLINE}
 use Rattle.ps_lines.specs.declared.ByteSet.{ByteSet}
 use Rattle.ps_lines.specs.ByteSet.{has_byte}
@@ -10,8 +10,11 @@ use Rattle.ut_regex.specs.Tables.{text_entry}
 abbrev pub idle_behind : ℕ → ℕ → ℕ
 idle_behind idle byte = if byte == NEWLINE then 0 else idle
 
--- each byte at which nothing begins leads from the first state, and from the one that waits, to one of the two
+-- a byte leads from the first state, and from the one that waits, to one of the two
+abbrev pub stays : List ℕ → List Bool → ℕ → ℕ → Bool
+stays next ends idle byte = text_entry next ends 0 byte == idle_behind idle byte && text_entry next ends idle byte == idle_behind idle byte
+
+-- the bytes at which something may begin are those that lead on
 pub record Idles (next : List ℕ) (ends : List Bool) (idle : ℕ) (starts : ByteSet) : Type 0 where
   pub known : idle < FOUND
-  pub first : (byte : ℕ) → byte < 256 → has_byte starts byte ≡ false → text_entry next ends 0 byte ≡ idle_behind idle byte
-  pub again : (byte : ℕ) → byte < 256 → has_byte starts byte ≡ false → text_entry next ends idle byte ≡ idle_behind idle byte
+  pub exact : (byte : ℕ) → byte < 256 → has_byte starts byte ≡ not (stays next ends idle byte)

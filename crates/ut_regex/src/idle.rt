@@ -2,12 +2,15 @@
 ghost use Rattle.std.specs.Prelude.{◌≡◌, ◌⊎◌, ◌<◌, ◌≤◌, ℕ, List, Bool, true, false, length, slice_index_or, IfSome};
 ghost use Rattle.std.specs.Option.{ForSome};
 ghost use Rattle.ps_lines.specs.ByteSet.{has_byte};
-ghost use Rattle.ut_regex.specs.Idling.{idle_behind, Idles};
+ghost use Rattle.ut_regex.specs.Idling.{idle_behind, stays, Idles};
 ghost use Rattle.ut_regex.specs.Tables.{left_at_found, text_entry};
 
 use crate::starts::Starts;
 use crate::table::{FOUND, Run, entry_of, text_entry};
 use ps_lines::{ByteSet, NEWLINE};
+
+/// The bytes in which one step among bytes that are passed over costs no more than a step for each.
+const STEP_STRETCH: usize = 6;
 
 /// The state to which a table comes, from the first one, by each byte at which nothing begins; and the other bytes.
 #[derive(Clone, Copy, Drop)]
@@ -22,6 +25,22 @@ impl Idle {
         ensures { result ≡ true → (state ≡ 0) ⊎ (state ≡ self.now.state) }
     {
         state == 0 || state == self.state
+    }
+
+    /// Whether so few bytes of a sample cost a step, where those at which nothing begins are passed over, that a search for the others
+    /// is worth it.
+    pub(crate) fn are_steps_rare(&self, next: &[u16], ends: &[bool], sample: &[u8]) -> bool {
+        let mut steps = 0;
+        let mut state = 0u16;
+        let mut left = sample;
+        while let [byte, rest @ ..] = left {
+            if !self.waits_in(state) || self.starts.set.has(*byte) {
+                steps += 1;
+            }
+            state = text_entry(next, ends, state, *byte);
+            left = rest;
+        }
+        steps < sample.len() / STEP_STRETCH
     }
 
     /// The run from a state on, and if the table waits in that state, behind all bytes at which nothing begins.
@@ -85,7 +104,7 @@ pub(crate) fn idle_of(next: &[u16], ends: &[bool]) -> Option<Idle>
 fn common_entry(next: &[u16]) -> u16 {
     let mut common = FOUND;
     let mut votes = 0u8;
-    for byte in b' '..b'~' {
+    for byte in b' '..=b'~' {
         let entry = entry_of(next, 0, byte);
         if votes == 0 {
             common = entry;
@@ -115,8 +134,7 @@ fn starts_of(next: &[u16], ends: &[bool], state: u16) -> ByteSet
 
 /// Whether a byte leads to the state, or to the next line's beginning, from the first state and from this one.
 fn stays(next: &[u16], ends: &[bool], state: u16, byte: u8) -> bool
-    ensures first { result ≡ true → text_entry next.now ends.now 0 byte ≡ idle_behind state byte }
-    ensures again { result ≡ true → text_entry next.now ends.now state byte ≡ idle_behind state byte }
+    ensures { result ≡ stays next.now ends.now state byte }
 {
     let behind = idle_behind(state, byte);
     text_entry(next, ends, 0, byte) == behind && text_entry(next, ends, state, byte) == behind

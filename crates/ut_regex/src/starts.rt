@@ -7,9 +7,6 @@ ghost use Rattle.ps_lines.specs.ByteSet.{has_byte};
 use memchr::{memchr, memchr2, memchr3};
 use ps_lines::ByteSet;
 
-/// The bytes of a text in which a search may stop once and costs no more than a table's way over them.
-const RARE_STRETCH: usize = 16;
-
 /// A search for the first byte of a set.
 #[derive(Clone, Copy, Drop)]
 pub(crate) struct Starts {
@@ -38,17 +35,6 @@ impl Starts {
             Some(place) => place,
             None => text.len(),
         }
-    }
-
-    /// Whether the bytes are so rare in this part of a text that a search for the next one is worth it.
-    pub(crate) fn are_rare_in(&self, sample: &[u8]) -> bool {
-        let mut count = 0;
-        for (place, byte) in sample.iter().enumerate() {
-            if self.set.has(*byte) {
-                count += 1;
-            }
-        }
-        count < sample.len() / RARE_STRETCH
     }
 
     /// The place of the first of the bytes in the text.

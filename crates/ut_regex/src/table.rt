@@ -23,6 +23,9 @@ const MAX_STEPS: usize = 256;
 /// The bytes of a text that are run over alone, before its halves: a line that is found among them costs no other work.
 const HEAD: usize = 1024;
 
+/// The bytes of a text that are taken to be like those that follow.
+const SAMPLE: usize = 128;
+
 /// An entry of a table that says that the line has the expression.
 pub(crate) const FOUND: u16 = 65_535;
 
@@ -124,8 +127,8 @@ fn left_in_text(next: &[u16], ends: &[bool], idle: &Option<Idle>, text: &[u8]) -
     }
 }
 
-/// How much is left of the tail of a text where a table shows a line, from the first state on. Where in its head bytes at which something
-/// may begin are rare, they are looked for.
+/// How much is left of the tail of a text where a table shows a line, from the first state on. Where a part of the head tells that it is
+/// worth it, bytes at which something may begin are looked for.
 fn left_in_tail(
     next: &[u16],
     ends: &[bool],
@@ -139,9 +142,9 @@ fn left_in_tail(
     ensures some { IfSome result (λ left. left ≤ length tail.now) }
 {
     match idle {
-        Some(idle) if idle.starts.are_rare_in(&head[..HEAD.min(head.len())]) => left_behind_starts(
-            next, ends, idle, tail,
-        ),
+        Some(idle) if idle.are_steps_rare(next, ends, &head[..SAMPLE.min(head.len())]) => {
+            left_behind_starts(next, ends, idle, tail)
+        }
         Some(_) | None => left_in_halves(next, ends, tail),
     }
 }

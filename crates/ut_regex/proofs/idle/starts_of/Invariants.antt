@@ -1,11 +1,7 @@
-use Rattle.std.proofs.Common.{◌≡◌, ◌<◌, ℕ, false}
+use Rattle.std.proofs.Common.{◌≡◌, ◌&&◌, ℕ, nat_lt, not}
 use Rattle.ps_lines.specs.ByteSet.{has_byte}
-use Rattle.ut_regex.specs.Idling.{idle_behind}
-use Rattle.ut_regex.specs.Tables.{text_entry}
+use Rattle.ut_regex.specs.Idling.{stays}
 use Rattle.ut_regex.proofs.idle.starts_of.Given as goal
 
 abbrev pub invariant-loop-code : goal.invariant-loop-code
-invariant-loop-code l = record {
-  first : (byte : ℕ) → byte < l.code → has_byte l.starts byte ≡ false → text_entry l.next l.ends 0 byte ≡ idle_behind l.state byte;
-  again : (byte : ℕ) → byte < l.code → has_byte l.starts byte ≡ false → text_entry l.next l.ends l.state byte ≡ idle_behind l.state byte;
-}
+invariant-loop-code l = (byte : ℕ) → has_byte l.starts byte ≡ (nat_lt byte l.code && not (stays l.next l.ends l.state byte))

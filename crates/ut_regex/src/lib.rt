@@ -3,7 +3,8 @@
 //! `read_bre` and `read_ere` read a text as a basic or an extended expression, or tell its first fault. `compile` makes a
 //! matcher of an expression, and `Matcher::has` answers whether a line has it. The matcher carries a set of places along the
 //! line, so no expression makes it go back, and it takes no memory for a line. `Matcher::first_having` finds the first line of a
-//! text that has it, and looks for the ends of lines only where a line may.
+//! text that has it, and looks for the ends of lines only where a line may; where the bytes at which a match may begin are rare, it
+//! looks for the next of them.
 //!
 //! `specs/Spans.antt` says which places of a line an expression spans, and which lines have it; `specs/Having.antt` says which
 //! line of a text is the first that has it; `specs/Reading.antt` says which texts are expressions, of which tree, and what the

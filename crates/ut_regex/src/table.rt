@@ -34,6 +34,7 @@ pub(crate) const FOUND: u16 = 65_535;
 pub(crate) struct Table {
     next: Vec<u16>,
     ends: Vec<bool>,
+    /// Where it waits for a byte at which something may begin, if there is such a state.
     idle: Option<Idle>,
     ghost idles: { ForSome idle (λ idle. Idles next.items ends.items idle.state idle.starts.set) },
 }

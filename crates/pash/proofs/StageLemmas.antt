@@ -1,10 +1,9 @@
 -- The words of trees, over lists of values of the code that stand for their parts.
-use Rattle.std.proofs.Common.{◌≡◌, ℕ, ◌<◌, Bool, true, false, ◌&&◌, List, [], ◌∷◌, map, length, nat_eq, Option, Some, None, refl, ap, arith, sym, ◌∙◌}
-use Rattle.std.specs.Option.{option_map}
+use Rattle.std.proofs.Common.{◌≡◌, ℕ, ◌<◌, Bool, true, false, ◌&&◌, List, [], ◌∷◌, map, length, nat_eq, Some, None, refl, ap, arith, sym, ◌∙◌}
 use Rattle.std.proofs.lemmas.List.{length-map}
 use Rattle.std.proofs.lemmas.Simd.{map-map}
 use Rattle.std.proofs.lemmas.Grind.{common_steps}
-use Rattle.sh_tree.specs.Trees.{WordTree, no_part, PartTree, ListTree, no_item, AndOrTree, and_or, none_joined, PipelineTree, pipeline, CommandTree, no_command, SimpleTree, simple_command, RedirTree, SubTrees, no_sub}
+use Rattle.sh_tree.specs.Trees.{WordTree, no_part, PartTree, ListTree, no_item, AndOrTree, and_or, none_joined, PipelineTree, pipeline, CommandTree, no_command, SimpleTree, simple_command, RedirTree, no_sub}
 use Rattle.sh_tree.specs.Views.{parts_onto, items_onto, commands_onto, joined_onto, subs_onto}
 use Rattle.sh_tree.specs.declared.commands.Join.{Join}
 use Rattle.pash.specs.Stages.{part_bytes, plain_bytes, has_no_sub, has_words_alone, arguments, simple_words, command_words, words_of_each, pipeline_stages, and_or_stages, list_stages, sole}

@@ -46,10 +46,9 @@ fn pipeline_stages(pipeline: &Pipeline) -> &[Command]
     ensures { map (λ stage. command_words_lem (command_tree stage)) result.now ≡ pipeline_stages_lem (pipeline_tree pipeline.now) }
 {
     if pipeline.negated {
-        &[]
-    } else {
-        pipeline.stages.as_slice()
+        return &[];
     }
+    pipeline.stages.as_slice()
 }
 
 /// The words of a simple command without assignments, redirections and command substitutions; none of any other.

@@ -1,14 +1,12 @@
 -- Every text has words, and they are one.
 use Rattle.std.proofs.Common.{◌≡◌, ℕ, false, List, length, refl, sym, ◌∙◌, ap}
-use Rattle.std.specs.declared.option.Option.{Option}
 use Rattle.sh_tree.specs.Trees.{WordTree}
 use Rattle.sh_words.specs.Words.{WordOutcome, ReadsBehind, ReadsWord, ReadsAssign, assigned_value}
 use Rattle.sh_words.proofs.Readings.{behind_one}
 use Rattle.sh_parse.specs.WordsOf.{word_of, value_of, words_of}
 use Rattle.sh_words.specs.Assigning.{word_assigns}
 use Rattle.sh_parse.specs.Pieces.{WordViews}
-use Rattle.sh_parse.specs.Outcomes.{bytes_at, in_text, IsReadAs, LooksAs, AreWordsOf}
-use Rattle.sh_parse.specs.declared.items.Span.{Span}
+use Rattle.sh_parse.specs.Outcomes.{bytes_at, in_text, IsReadAs, AreWordsOf}
 
 -- a word has one outcome
 behind_same : (first total : ℕ) (text : List ℕ) (one other : WordOutcome) → ReadsBehind first total text one

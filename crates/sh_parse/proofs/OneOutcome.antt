@@ -1,13 +1,12 @@
 -- Every text has exactly one outcome.
-use Rattle.std.proofs.Common.{◌≡◌, ℕ, ◌≤◌, ◌<◌, ◌⊎◌, inl, inr, List, refl, sym, ◌∙◌, ap, subst, arith}
+use Rattle.std.proofs.Common.{◌≡◌, ℕ, inl, inr, List, refl, sym, ◌∙◌, ap, subst, arith}
 use Rattle.std.specs.declared.option.Option.{Option}
 use Rattle.std.specs.declared.option.Option.TheVariants.{None, Some}
 use Rattle.sh_tree.specs.Trees.{ScriptTree}
-use Rattle.sh_lex.specs.Lexes.{Lexes, Offence, HasTokens, HasRefusal, HasOneReading}
+use Rattle.sh_lex.specs.Lexes.{Offence, HasOneReading}
 use Rattle.sh_lex.proofs.Scripts.{one_reading}
 use Rattle.sh_lex.specs.declared.refusals.Static.{Static}
 use Rattle.sh_lex.specs.declared.refusals.Static.TheVariants as static
-use Rattle.sh_lex.specs.declared.tokens.Token.{Token}
 use Rattle.sh_parse.specs.Pieces.{WordViews}
 use Rattle.sh_parse.specs.Stops.{HasScript, HasStop, IsSomeScript, HasOneOutcome}
 use Rattle.sh_parse.specs.Texts.{HasItems}

@@ -1,6 +1,5 @@
 -- A text is what its items are.
-use Rattle.std.proofs.Common.{◌≡◌, ℕ, List, Result, Ok, Err, IfOk, IfErr, sym, ◌∙◌, ap, subst}
-use Rattle.sh_tree.specs.Trees.{ScriptTree}
+use Rattle.std.proofs.Common.{ℕ, List, Result, Ok, Err, IfOk, IfErr}
 use Rattle.sh_tree.specs.Views.{script_tree}
 use Rattle.sh_tree.specs.declared.commands.Script.{Script}
 use Rattle.sh_lex.specs.Lexes.{Lexes, HasRefusal}

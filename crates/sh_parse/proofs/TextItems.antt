@@ -1,6 +1,5 @@
 -- Every text that is lexed has items.
-use Rattle.std.proofs.Common.{◌≡◌, ℕ, ◌-◌, ◌≤◌, List, [], ◌∷◌, ◌++◌, length, Result, Ok, Err, refl}
-use Rattle.sh_lex.specs.Acts.{Act}
+use Rattle.std.proofs.Common.{ℕ, ◌-◌, List, [], ◌∷◌, ◌++◌, length, Result, Ok, Err, refl}
 use Rattle.sh_lex.specs.Reads.{Reads, past, goes_on, reads_inner, has_ended}
 use Rattle.sh_lex.specs.Texts.{unspliced}
 use Rattle.sh_lex.specs.Lexes as lexed

@@ -1,5 +1,5 @@
 -- What a run of a graph's network leaves, from where it began.
-use Rattle.std.proofs.Common.{◌≡◌, ℕ, zero, suc, ◌<◌, List, [], ◌∷◌, Bool, true, false, length, map, slice_get, get_or, Option, Some, ap, sym, subst, ◌∙◌}
+use Rattle.std.proofs.Common.{◌≡◌, ℕ, zero, suc, ◌<◌, ◌≤◌, List, [], ◌∷◌, Bool, true, false, if◌then◌else◌, length, map, slice_get, get_or, IfSome, Option, Some, refl, ap, sym, subst, ◌∙◌, arith}
 use Rattle.std.proofs.lemmas.List.{length-map}
 use Rattle.std.proofs.lemmas.Option.{slice_get_within}
 use Rattle.ps_world.specs.Told.{then_bytes, GrewByPrefix, IsEnded}
@@ -8,18 +8,23 @@ use Rattle.fl_graph.specs.Runs.{State}
 use Rattle.fl_graph.specs.Valid.{Valid}
 use Rattle.fl_graph.specs.declared.graphs.StatusRule.{StatusRule}
 use Rattle.fl_graph.specs.declared.kinds.NodeKind.{NodeKind}
+use Rattle.fl_graph.specs.declared.pieces.Act.{Act}
+use Rattle.fl_graph.specs.declared.pieces.Act.TheVariants as doing
 use Rattle.fl_graph.specs.declared.pieces.Piece.{Piece}
 use Rattle.fl_classes.specs.Flow.{flow, is_source, only, selects, selections}
 use Rattle.fl_core.specs.Kinds.{is_sink}
-use Rattle.fl_core.specs.Plans.{AreTold, IsNetOf}
-use Rattle.fl_core.specs.Runs.{Halted, Halts, Leads}
+use Rattle.fl_core.specs.Plans.{outer_edge, AreTold, HasRooms, IsNetOf}
+use Rattle.fl_core.specs.Runs.{AreDrained, Follows, Halted, Halts, Leads}
 use Rattle.fl_core.specs.Steps.{waiting_on}
+use Rattle.fl_core.specs.Stuck.{IsStuck}
 use Rattle.fl_core.specs.declared.nets.Ports.{Ports}
 use Rattle.fl_core.proofs.FinishLemmas.{halted_writes, finished_reads, finished_writes, finished_selects}
 use Rattle.fl_core.proofs.HaltLemmas.{reached_halts}
 use Rattle.fl_core.proofs.LawLemmas.{selections_of_the_flow}
 use Rattle.fl_core.proofs.OutsideLemmas.{some_at}
+use Rattle.fl_core.proofs.ProgressLemmas.{never_stuck, shut_when_stuck}
 use Rattle.fl_core.proofs.StartLemmas.{net_plan}
+use Rattle.fl_core.proofs.StuckLemmas.{said_of}
 
 some_is : {X : Type 0} (one other : X) → Some one ≡ Some other → one ≡ other
 some_is one other is = cc
@@ -55,6 +60,28 @@ module _ {Machine : Type 0} (state : Machine → State) (cells : List (Cell Node
         let own = net_plan state cells status valid ports machines wires net left taken in
         (leads own.0 own.2 own.3 own.4).whole node machine at
 
+    -- a run in which nothing moves any more has stopped
+    module _ (act : Machine → Act) (cap : Option ℕ) (rooms rooms' : List (Option ℕ)) (has_rooms : HasRooms cells cap rooms) (some_room : IfSome cap (λ room. 1 ≤ room))
+        (width : length wires' ≡ length wires) (ports' : List Ports) (same_ports : ports' ≡ ports) (same_rooms : rooms' ≡ rooms)
+        (stuck : IsStuck (λ machine. (state machine).takes) (λ machine. (state machine).puts) act ports' machines' rooms' wires') where
+      stuck_here : IsStuck (λ machine. (state machine).takes) (λ machine. (state machine).puts) act ports machines' rooms wires'
+      stuck_here =
+          said_of (λ machine. (state machine).takes) (λ machine. (state machine).puts) act ports machines' rooms wires'
+          (IsStuck (λ machine. (state machine).takes) (λ machine. (state machine).puts) act) ports' machines' rooms' wires' same_ports refl same_rooms refl stuck
+
+      pub all_stop : (node : ℕ) (machine : Machine) → slice_get machines' node ≡ Some machine → act machine ≡ doing.Stop
+      all_stop =
+          let own = net_plan state cells status valid ports machines wires net left taken in
+          never_stuck state act cells status valid own.0 own.1 own.2 ports machines' rooms wires' left' taken'
+          (subst (λ (count : ℕ). Follows own.0 ports count) (sym width) own.3) (leads own.0 own.2 own.3 own.4) net.all_ports (counted ∙ net.all_machines) cap has_rooms some_room stuck_here
+
+      pub all_shut : (node : ℕ) (machine : Machine) → slice_get machines' node ≡ Some machine
+          → ((port : ℕ) → (state machine).takes port ≡ false) × ((port : ℕ) → (state machine).puts port ≡ false)
+      all_shut =
+          let own = net_plan state cells status valid ports machines wires net left taken in
+          shut_when_stuck state act cells status valid own.0 own.1 own.2 ports machines' rooms wires' left' taken'
+          (subst (λ (count : ℕ). Follows own.0 ports count) (sym width) own.3) (leads own.0 own.2 own.3 own.4) net.all_ports (counted ∙ net.all_machines) cap has_rooms some_room stuck_here
+
     -- a run that has finished
     module _ (stopped : (node : ℕ) (machine : Machine) → slice_get machines' node ≡ Some machine
         → ((port : ℕ) → (state machine).takes port ≡ false) × ((port : ℕ) → (state machine).puts port ≡ false)) where
@@ -64,11 +91,22 @@ module _ {Machine : Type 0} (state : Machine → State) (cells : List (Cell Node
           finished_reads state cells status own.0 valid own.1 machines' wires' left' taken' (leads own.0 own.2 own.3 own.4) (counted ∙ net.all_machines) stopped
 
       module _ (sources : List (List ℕ)) (told : AreTold sources cells left) where
-        pub done_writes : ((edge : ℕ) → waiting_on wires' edge ≡ []) → (node : ℕ) (cell : Cell NodeKind) → slice_get cells node ≡ Some cell → is_sink cell.kind ≡ true
+        pub done_writes : AreDrained ports wires' → (node : ℕ) (cell : Cell NodeKind) → slice_get cells node ≡ Some cell → is_sink cell.kind ≡ true
             → taken' node ≡ then_bytes (taken node) (only (map (flow cells sources) cell.ins))
-        done_writes =
+        done_writes drained node cell at sink =
             let own = net_plan state cells status valid ports machines wires net left taken in
-            finished_writes state cells status own.0 valid own.1 machines' wires' left' taken' (leads own.0 own.2 own.3 own.4) (counted ∙ net.all_machines) stopped sources told
+            finished_writes state cells status own.0 valid own.1 machines' wires' left' taken' (leads own.0 own.2 own.3 own.4) (counted ∙ net.all_machines) stopped sources told node cell at sink
+            (outer_drained node cell at sink)
+          where
+            outer_drained : (node : ℕ) (cell : Cell NodeKind) → slice_get cells node ≡ Some cell → is_sink cell.kind ≡ true → waiting_on wires' (outer_edge cells node) ≡ []
+            outer_drained node cell at sink =
+                let within = slice_get_within cells node cell at in
+                let all = net.all_ports in
+                let own = some_at ports node (omega (arith, within, all)) in
+                let outs : own.0.outs.items ≡ outer_edge cells node ∷ [] =
+                net.outs node cell own.0 at own.1 ∙ ap (λ (test : Bool). if test then outer_edge cells node ∷ [] else cell.outs) sink in
+                ap (waiting_on wires') (sym (ap (λ (edges : List ℕ). get_or edges 0 0) outs))
+                ∙ drained node own.0 own.1 (net.writes node cell own.0 at own.1 ∙ sink)
 
         -- what each node selects, in the order of the nodes
         pub done_selects : (node : ℕ) (machine : Machine) → slice_get machines' node ≡ Some machine

@@ -123,14 +123,14 @@ module _ {Machine : Type 0} (state : Machine → State) (cells : List (Cell Node
         ∙ stop.ended (reached.whole node found.0 found.1) 0 opened
 
     module _ (sources : List (List ℕ)) (told : AreTold sources cells plan.left) where
-      pub finished_writes : ((edge : ℕ) → waiting_on wires edge ≡ []) → (node : ℕ) (cell : Cell NodeKind) → slice_get cells node ≡ Some cell → is_sink cell.kind ≡ true
+      pub finished_writes : (node : ℕ) (cell : Cell NodeKind) → slice_get cells node ≡ Some cell → is_sink cell.kind ≡ true → waiting_on wires (outer_edge cells node) ≡ []
           → taken node ≡ then_bytes (plan.taken node) (only (map (flow cells sources) cell.ins))
-      finished_writes drained node cell at_node sink =
+      finished_writes node cell at_node sink drained =
           let outer : ℕ = outer_edge cells node in
           let outs = sink_edge cells status plan valid planned node cell at_node sink in
           let carries = sink_carries cells status plan valid planned taken (reached_halts state plan machines wires left taken reached (length cells) counted) sources told node cell at_node sink in
           let all_taken : reached.put outer ≡ reached.took outer =
-          reached.queued outer ∙ ap (λ (rest : List Piece). reached.took outer ++ rest) (drained outer) ∙ append-nil (reached.took outer) in
+          reached.queued outer ∙ ap (λ (rest : List Piece). reached.took outer ++ rest) drained ∙ append-nil (reached.took outer) in
           reached.written node outer (planned.writes node cell at_node ∙ sink) outs
           ∙ ap (λ (text : List ℕ). then_bytes (plan.taken node) text) (ap text_of (sym all_taken) ∙ sym (carries.whole (sink_ended node cell at_node sink)))
 

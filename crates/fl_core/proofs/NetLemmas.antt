@@ -5,13 +5,15 @@ use Rattle.std.proofs.lemmas.Bool.{true≢false, and_parts}
 use Rattle.std.proofs.lemmas.List.Folds.{list_all-append}
 use Rattle.std.proofs.Math.Dec.{eqb-suc-suc}
 use Rattle.ps_lines.specs.declared.memory.Memory.{Memory}
+use Rattle.fl_graph.specs.Net.{has}
 use Rattle.fl_graph.specs.Runs.{State}
 use Rattle.fl_graph.specs.declared.pieces.Piece.{Piece}
-use Rattle.fl_core.specs.Steps.{is_plain, waiting_on, has_moved, ArePlain, Fits, Took, Gave, Starves}
+use Rattle.fl_core.specs.Steps.{is_plain, waiting_on, has_moved, ArePlain, Fits, Took, TookFrom, Gave, GaveTo, Starves}
 use Rattle.fl_core.specs.Runs.{Reached, Leads, Goes}
 use Rattle.fl_core.specs.declared.nets.Ports.{Ports}
 use Rattle.fl_core.specs.declared.steps.Progress.{Progress}
 use Rattle.fl_core.specs.declared.steps.Progress.TheVariants as progress
+use Rattle.fl_core.proofs.PortLemmas.{stands-has}
 use Rattle.fl_core.proofs.ReachLemmas.{Replaced, reached_took, reached_gave}
 
 module _ {X : Type 0} where
@@ -93,6 +95,37 @@ module _ {Machine : Type 0} (state : Machine → State) (ports : List Ports) whe
       subst (λ (it : List (List Piece)). IfOk result (λ _. (left taken : ℕ → Option (List ℕ)) → Leads state ports machines machines' wires it left left taken taken)) (sym new_is)
       (subst (λ (it : List (List Piece)). IfOk result (λ _. (left taken : ℕ → Option (List ℕ)) → Leads state ports machines machines' it new left left taken taken)) old_is
       (step_leads machines machines' given new node machine machine' own result at at_own set took gave same))
+
+-- which edge a piece went from, and which one came to
+module _ (was now : State) (ports : List Ports) (wires wires' given new : List (List Piece)) (node : ℕ) (own : Ports) (result : Result Progress Memory)
+    (at_own : slice_get ports node ≡ Some own) (old_is : given ≡ wires) (new_is : wires' ≡ new) where
+  same_ports : (other : Ports) → slice_get ports node ≡ Some other → own ≡ other
+  same_ports other at_other = cc
+
+  over_wires : (P : List (List Piece) → List (List Piece) → Type 0) → P given new → P wires wires'
+  over_wires P holds = subst (λ (it : List (List Piece)). P wires it) (sym new_is) (subst (λ (it : List (List Piece)). P it new) old_is holds)
+
+  pub slice_took : (ins : List ℕ) → ins ≡ own.ins.items → (result ≡ Ok progress.Took → Took was now ins given new)
+      → result ≡ Ok progress.Took → (other : Ports) → slice_get ports node ≡ Some other → TookFrom other.ins.items wires wires'
+  slice_took ins ins_are took is other at_other =
+      let step = took is in
+      over_wires (TookFrom other.ins.items) (record {
+        edge = step.edge;
+        there = ap (has step.edge) (sym (ins_are ∙ ap (λ (it : Ports). it.ins.items) (same_ports other at_other))) ∙ stands-has ins step.port step.edge step.there;
+        others = step.others;
+      })
+
+  pub slice_gave : (outs : List ℕ) → outs ≡ own.outs.items → (result ≡ Ok progress.Gave → Gave was now outs given new)
+      → result ≡ Ok progress.Gave → (other : Ports) → slice_get ports node ≡ Some other → GaveTo other.outs.items wires wires'
+  slice_gave outs outs_are gave is other at_other =
+      let step = gave is in
+      over_wires (GaveTo other.outs.items) (record {
+        edge = step.edge;
+        piece = step.moved.piece;
+        there = ap (has step.edge) (sym (outs_are ∙ ap (λ (it : Ports). it.outs.items) (same_ports other at_other))) ∙ stands-has outs step.port step.edge step.there;
+        last = step.moved.last;
+        others = step.others;
+      })
 
 -- a step in which nothing moved has changed nothing
 pub slice_same : {Machine : Type 0} (machines : List Machine) (wires wires' given new : List (List Piece)) (node : ℕ) (machine machine' : Machine) (result : Result Progress Memory)

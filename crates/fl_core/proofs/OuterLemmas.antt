@@ -9,7 +9,7 @@ use Rattle.fl_graph.specs.declared.graphs.StatusRule.{StatusRule}
 use Rattle.fl_graph.specs.declared.kinds.NodeKind.{NodeKind}
 use Rattle.fl_graph.specs.declared.pieces.Piece.{Piece}
 use Rattle.fl_classes.specs.Flow.{flow, only}
-use Rattle.fl_core.specs.Inputs.{RunsOver}
+use Rattle.fl_core.specs.Inputs.{AreBrought, RunsOver}
 use Rattle.fl_core.specs.Kinds.{is_sink}
 use Rattle.fl_core.specs.Laws.{Carries}
 use Rattle.fl_core.specs.Plans.{outer_edge, AreTold}
@@ -38,8 +38,9 @@ has_end-behind (first ∷ front) back ended = by_test (is_end first) (has_end-be
 pub steps_over : {Machine : Type 0} (state : Machine → State) (ports : List Ports) (machines machines' : List Machine) (wires wires' : List (List Piece)) (result : Result Progress Memory)
     → IfOk result (λ _. (left taken : ℕ → Option (List ℕ)) → Leads state ports machines machines' wires wires' left left taken taken)
     → length machines' ≡ length machines → length wires' ≡ length wires
+    → IfOk result (λ _. (cells : List (Cell NodeKind)) (inputs : ℕ → List ℕ) → RunsOver state cells inputs ports machines wires → AreBrought state cells machines' wires')
     → IfOk result (λ _. (cells : List (Cell NodeKind)) (inputs : ℕ → List ℕ) → RunsOver state cells inputs ports machines wires → RunsOver state cells inputs ports machines' wires')
-steps_over state ports machines machines' wires wires' (Ok step) leads counted width = λ cells inputs runs. record {
+steps_over state ports machines machines' wires wires' (Ok step) leads counted width brings = λ cells inputs runs. record {
   goes = record {
     plan = runs.goes.plan;
     wired = runs.goes.wired;
@@ -50,8 +51,9 @@ steps_over state ports machines machines' wires wires' (Ok step) leads counted w
   counted = counted ∙ runs.counted;
   told = runs.told;
   untaken = runs.untaken;
+  brought = brings cells inputs runs;
 }
-steps_over state ports machines machines' wires wires' (Err memory) leads counted width = tt
+steps_over state ports machines machines' wires wires' (Err memory) leads counted width brings = tt
 
 module _ {Machine : Type 0} (state : Machine → State) (cells : List (Cell NodeKind)) (status : StatusRule) (valid : Valid cells status) (inputs : ℕ → List ℕ)
     (ports : List Ports) (machines : List Machine) (wires : List (List Piece)) (runs : RunsOver state cells inputs ports machines wires)

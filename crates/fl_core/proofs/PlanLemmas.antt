@@ -51,7 +51,7 @@ source_no_sink (kind.Source source) is = refl
 source_no_sink other is = absurd (true≢false (sym is))
 
 -- the one edge of a list
-sole_edge : (first edge : ℕ) → has edge (first ∷ []) ≡ true → edge ≡ first
+pub sole_edge : (first edge : ℕ) → has edge (first ∷ []) ≡ true → edge ≡ first
 sole_edge first edge there = sym (eqb-true first edge (alone (first == edge) there))
   where
     alone : (test : Bool) → (test || false) ≡ true → test ≡ true

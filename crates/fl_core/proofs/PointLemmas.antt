@@ -3,7 +3,7 @@ use Rattle.std.proofs.Common.{◌≡◌, ℕ, List, length, slice_get, ◌≤◌
 use Rattle.ps_world.specs.Counts.{Rose}
 use Rattle.fl_graph.specs.Runs.{State}
 use Rattle.fl_core.specs.Causes.{Causes}
-use Rattle.fl_core.specs.Runs.{Follows, Leads, Halts, Goes}
+use Rattle.fl_core.specs.Runs.{AreDrained, Follows, Leads, Halts, Goes}
 use Rattle.fl_core.specs.Points.{Point, IsUnderWay, Advances, HaltsFrom}
 use Rattle.fl_core.specs.declared.nets.Ports.{Ports}
 use Rattle.fl_core.specs.declared.outside.Halt.{Halt}
@@ -20,6 +20,7 @@ module _ {Machine : Type 0} (state : Machine → State) where
     reads = λ node. refl;
     writes = λ node. refl;
     faults = λ node. refl;
+    drained = λ drained. drained;
   }
 
   module _ (from mid : Point Machine) (advances : Advances state from mid) where
@@ -34,6 +35,7 @@ module _ {Machine : Type 0} (state : Machine → State) where
       reads = λ node. then.reads node ∙ advances.reads node;
       writes = λ node. then.writes node ∙ advances.writes node;
       faults = λ node. then.faults node ∙ advances.faults node;
+      drained = λ drained. then.drained (advances.drained drained);
     }
 
     pub halts_behind : (taken : ℕ → Option (List ℕ)) → HaltsFrom state mid taken → HaltsFrom state from taken
@@ -69,8 +71,8 @@ module _ {Machine : Type 0} (state : Machine → State) where
   pub turned : (from to : Point Machine) → Leads state from.ports from.machines to.machines from.wires to.wires from.left to.left from.taken to.taken
       → to.ports ≡ from.ports → length to.machines ≡ length from.machines → length to.wires ≡ length from.wires
       → ((node : ℕ) → to.reads node ≡ from.reads node) → ((node : ℕ) → to.writes node ≡ from.writes node) → ((node : ℕ) → to.faults node ≡ from.faults node)
-      → Advances state from to
-  turned from to leads ports machines wires reads writes faults = record {
+      → (AreDrained from.ports from.wires → AreDrained to.ports to.wires) → Advances state from to
+  turned from to leads ports machines wires reads writes faults drained = record {
     leads = leads;
     ports = ports;
     machines = machines;
@@ -78,6 +80,7 @@ module _ {Machine : Type 0} (state : Machine → State) where
     reads = reads;
     writes = writes;
     faults = faults;
+    drained = drained;
   }
 
 -- no count has changed where the answer is no halt

@@ -18,6 +18,7 @@ use Rattle.fl_core.specs.Plans.{outer_edge, IsNetOf, IsPlanOf}
 use Rattle.fl_core.specs.Runs.{Plan, Follows, IsWired, Reached}
 use Rattle.fl_core.specs.Steps.{is_plain, waiting_on}
 use Rattle.fl_core.specs.declared.nets.Ports.{Ports}
+use Rattle.fl_core.proofs.BroughtLemmas.{closed_by_end}
 use Rattle.fl_core.proofs.PlanLemmas.{source_at, source_edge}
 use Rattle.fl_core.proofs.StartLemmas.{start_plan, start_is_planned, start_is_wired, start_follows, start_runs, start_whole}
 
@@ -133,6 +134,7 @@ module _ {Machine : Type 0} (state : Machine → State) (cells : List (Cell Node
     counted = begins.net.all_machines;
     told = λ node. refl;
     untaken = λ node. refl;
+    brought = λ node cell machine at_node at_machine is opened. closed_by_end (waiting_on wires (outer_edge cells node)) (begins.loaded.source node cell at_node is).ended;
   }
 
 -- what has come on the wires of a graph's network is what it begins over

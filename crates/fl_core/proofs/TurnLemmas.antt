@@ -1,5 +1,5 @@
 -- What goes over a network's outer edges goes on with its run.
-use Rattle.std.proofs.Common.{◌≡◌, ℕ, ◌==◌, ◌<◌, List, [], ◌∷◌, ◌++◌, Bool, true, false, length, slice_get, slice_set, get_or, Option, Some, Result, Ok, Err, OnOk, OnErr, refl, ap, sym, subst, ◌∙◌, arith, eq-eqb}
+use Rattle.std.proofs.Common.{◌≡◌, ℕ, ◌==◌, ◌<◌, List, [], ◌∷◌, ◌++◌, Bool, true, false, length, slice_get, slice_set, get_or, drop, Option, Some, Result, Ok, Err, OnOk, OnErr, refl, ap, sym, subst, ◌∙◌, arith, eq-eqb}
 use Rattle.std.proofs.lemmas.Bool.{true≢false}
 use Rattle.std.proofs.lemmas.List.{get_or-set_same, get_or-set_other}
 use Rattle.std.proofs.lemmas.Option.{get_or_from_slice_get, slice_get_read}
@@ -7,7 +7,7 @@ use mathlib.Core.Path.{fun_ext}
 use Rattle.ps_world.specs.Told.{bytes_then, then_bytes, GrewByPrefix, IsEnded}
 use Rattle.fl_graph.specs.Runs.{text_of, is_end, State}
 use Rattle.fl_graph.specs.declared.pieces.Piece.{Piece}
-use Rattle.fl_core.specs.Steps.{is_plain, waiting_on, SameBut, Starves}
+use Rattle.fl_core.specs.Steps.{is_plain, waiting_on, SameBut, Starves, WentFrom}
 use Rattle.fl_core.specs.Runs.{Plan, IsWired, Follows, Reached, Halted, Leads, Halts, Goes, HasEnds}
 use Rattle.fl_core.specs.declared.nets.Ports.{Ports}
 use Rattle.fl_core.proofs.ReachLemmas.{reached_came}
@@ -136,6 +136,17 @@ module _ {Machine : Type 0} (state : Machine → State) (ports : List Ports) (ma
       let edge_here : edge ≡ get_or own.outs.items 0 0 = edge_is ∙ ap (λ (it : Ports). get_or it.outs.items 0 0) (same_own own at_own) in
       write_halts state ports machines wires left left' taken taken' node own at_own piece rest writes
       (subst (λ (it : ℕ). it < length wires) edge_here within) (ap (waiting_on wires) (sym edge_here) ∙ sym wire_is ∙ waits) elsewhere grew
+
+  -- which edge has changed
+  pub came_at : (wire : List Piece) → edge ≡ get_or found.ins.items 0 0 → (own : Ports) → slice_get ports node ≡ Some own → SameBut (get_or own.ins.items 0 0) wires (slice_set wires edge wire)
+  came_at wire edge_is own at_own =
+      subst (λ (it : ℕ). SameBut it wires (slice_set wires edge wire)) (edge_is ∙ ap (λ (it : Ports). get_or it.ins.items 0 0) (same_own own at_own)) (set_others wires edge wire)
+
+  pub went_at : (wire rest : List Piece) → edge ≡ get_or found.outs.items 0 0 → wire ≡ waiting_on wires edge → rest ≡ drop 1 wire
+      → (own : Ports) → slice_get ports node ≡ Some own → WentFrom (get_or own.outs.items 0 0) wires (slice_set wires edge rest)
+  went_at wire rest edge_is wire_is went own at_own =
+      subst (λ (it : ℕ). WentFrom it wires (slice_set wires edge rest)) (edge_is ∙ ap (λ (it : Ports). get_or it.outs.items 0 0) (same_own own at_own))
+      (record { here = set_there wires edge rest within ∙ went ∙ ap (drop 1) wire_is; others = set_others wires edge rest })
 
 -- one stretch after another
 module _ {Machine : Type 0} (state : Machine → State) (ports : List Ports) (start mid end : List Machine) (wires wires₁ wires₂ : List (List Piece))

@@ -1,20 +1,13 @@
 -- What a network is at its end (own).
-use Rattle.std.specs.Prelude.{◌≡◌, ℕ, List, Bool, true, false, map, slice_get, Option, Some}
+use Rattle.std.specs.Prelude.{◌≡◌, ℕ, List, true, map, slice_get, Option, Some}
 use Rattle.ps_world.specs.Told.{then_bytes, GrewByPrefix, IsEnded}
 use Rattle.fl_graph.specs.Net.{Cell}
 use Rattle.fl_graph.specs.declared.kinds.NodeKind.{NodeKind}
-use Rattle.fl_graph.specs.declared.pieces.Act.{Act}
-use Rattle.fl_graph.specs.declared.pieces.Act.TheVariants as act
 use Rattle.fl_classes.specs.Flow.{flow, is_source, only}
 use Rattle.fl_core.specs.Kinds.{is_sink}
 use Rattle.fl_core.specs.Plans.{AreTold}
 use Rattle.fl_core.specs.declared.engine.Ending.{Ending}
 use Rattle.fl_core.specs.declared.engine.Ending.TheVariants as ending
-
-abbrev pub is_stop : Act → Bool
-is_stop (act.Take port) = false
-is_stop (act.Put port) = false
-is_stop act.Stop = true
 
 -- each sink's end has grown by its text of the flow, where the ends of the sources tell theirs
 abbrev pub HasWritten : List (Cell NodeKind) → (ℕ → Option (List ℕ)) → (ℕ → Option (List ℕ)) → (ℕ → Option (List ℕ)) → Type 0

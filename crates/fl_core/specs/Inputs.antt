@@ -3,7 +3,7 @@ use Rattle.std.specs.Prelude.{◌≡◌, ℕ, List, [], ◌∷◌, true, ◌==�
 use Rattle.std.specs.Global.{Vec}
 use Rattle.std.specs.List.{list_all}
 use Rattle.fl_graph.specs.Net.{Cell}
-use Rattle.fl_graph.specs.Runs.{text_of, has_end, State}
+use Rattle.fl_graph.specs.Runs.{are_closed, text_of, has_end, State}
 use Rattle.fl_graph.specs.declared.kinds.NodeKind.{NodeKind}
 use Rattle.fl_graph.specs.declared.pieces.Piece.{Piece}
 use Rattle.fl_classes.specs.Flow.{is_source}
@@ -32,6 +32,12 @@ pub record IsLoaded (cells : List (Cell NodeKind)) (inputs : ℕ → List ℕ) (
   pub none : (edge : ℕ) → ((node : ℕ) (cell : Cell NodeKind) → slice_get cells node ≡ Some cell → is_source cell.kind ≡ true → edge ≡ outer_edge cells node → ⊥)
       → waiting_on wires edge ≡ []
 
+-- while a source hasn't taken its text to the end, the end waits on its edge from outside
+abbrev pub AreBrought : {Machine : Type 0} → (Machine → State) → List (Cell NodeKind) → List Machine → List (List Piece) → Type 0
+AreBrought {Machine} state cells machines wires =
+    (node : ℕ) (cell : Cell NodeKind) (machine : Machine) → slice_get cells node ≡ Some cell → slice_get machines node ≡ Some machine → is_source cell.kind ≡ true
+    → (state machine).takes 0 ≡ true → are_closed (waiting_on wires (outer_edge cells node)) ≡ true
+
 module _ {Machine : Type 0} (state : Machine → State) (cells : List (Cell NodeKind)) (inputs : ℕ → List ℕ) (ports : List Ports) (machines : List Machine) (wires : List (List Piece)) where
   -- the network of these nodes before anything has moved but its sources' texts, which have come
   pub record BeginsOver : Type 0 where
@@ -47,6 +53,7 @@ module _ {Machine : Type 0} (state : Machine → State) (cells : List (Cell Node
     pub counted : length machines ≡ length cells
     pub told : (node : ℕ) → goes.plan.left node ≡ Some (inputs node)
     pub untaken : (node : ℕ) → goes.plan.taken node ≡ Some []
+    pub brought : AreBrought state cells machines wires
 
 -- it runs over the texts of some graph: all that a step asks of any node
 pub record CanStep {Machine : Type 0} (state : Machine → State) (ports : List Ports) (machines : List Machine) (wires : List (List Piece)) : Type 0 where

@@ -2,7 +2,7 @@
 use Rattle.std.specs.Prelude.{◌≡◌, ℕ, List, Bool, length, Option}
 use Rattle.fl_graph.specs.Runs.{State}
 use Rattle.fl_graph.specs.declared.pieces.Piece.{Piece}
-use Rattle.fl_core.specs.Runs.{Goes, Halts, HasEnds, Leads}
+use Rattle.fl_core.specs.Runs.{AreDrained, Goes, Halts, HasEnds, Leads}
 use Rattle.fl_core.specs.declared.nets.Ports.{Ports}
 
 pub record Point (Machine : Type 0) : Type 0 where
@@ -31,6 +31,7 @@ module _ {Machine : Type 0} (state : Machine → State) where
     pub reads : (node : ℕ) → to.reads node ≡ from.reads node
     pub writes : (node : ℕ) → to.writes node ≡ from.writes node
     pub faults : (node : ℕ) → to.faults node ≡ from.faults node
+    pub drained : AreDrained from.ports from.wires → AreDrained to.ports to.wires
 
   -- it halted behind a point, where its ends had taken this
   abbrev pub HaltsFrom : Point Machine → (ℕ → Option (List ℕ)) → Type 0

@@ -93,3 +93,7 @@ module _ {Machine : Type 0} (state : Machine → State) (ports : List Ports) whe
 pub record HasEnds (ports : List Ports) (reads writes : ℕ → Bool) : Type 0 where
   pub reading : (node : ℕ) (own : Ports) → slice_get ports node ≡ Some own → own.reads ≡ true → reads node ≡ true
   pub writing : (node : ℕ) (own : Ports) → slice_get ports node ≡ Some own → own.writes ≡ true → writes node ≡ true
+
+-- nothing waits for the outside
+abbrev pub AreDrained : List Ports → List (List Piece) → Type 0
+AreDrained ports wires = (node : ℕ) (own : Ports) → slice_get ports node ≡ Some own → own.writes ≡ true → waiting_on wires (get_or own.outs.items 0 0) ≡ []

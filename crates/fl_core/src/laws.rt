@@ -1,7 +1,7 @@
 //! What the pieces on a graph's edges carry, in laws: each is the contract of a function that does nothing.
 #![tactic(auto, using(crate::proofs::LawLemmas::core_laws))]
 
-ghost use Rattle.std.specs.Prelude.{◌≡◌, ◌<◌, ℕ, List, length, map, slice_get, Some, true, false};
+ghost use Rattle.std.specs.Prelude.{◌≡◌, ◌<◌, ◌≤◌, ℕ, List, Option, length, map, slice_get, IfSome, Some, true, false};
 ghost use Rattle.std.specs.List.{flat_map};
 ghost use Rattle.fl_graph.specs.Cells.{cells};
 ghost use Rattle.fl_graph.specs.Net.{Cell, gives};
@@ -13,11 +13,13 @@ ghost use Rattle.fl_classes.specs.Flow.{flow, only, writes, writes_of, selection
 ghost use Rattle.fl_core.specs.Inputs.{RunsOver};
 ghost use Rattle.fl_core.specs.Kinds.{is_sink};
 ghost use Rattle.fl_core.specs.Laws.{Carries, NetKeeps};
-ghost use Rattle.fl_core.specs.Plans.{outer_edge, AreTold};
+ghost use Rattle.fl_core.specs.Plans.{outer_edge, AreTold, HasRooms, IsPlanOf};
+ghost use Rattle.fl_core.specs.Runs.{Goes};
 ghost use Rattle.fl_core.specs.Steps.{waiting_on};
+ghost use Rattle.fl_core.specs.Stuck.{IsStill, IsStuck};
 
 use crate::nets::Net;
-use fl_graph::{Graph, Machine};
+use fl_graph::{Act, Graph, Machine};
 
 /// Where what each node of a valid graph took and put meets its equation, each edge carries its flow: what was put on it, or taken from
 /// it, is a front of the flow's text, and all of it once the end is there.
@@ -63,4 +65,29 @@ pub fn what_waits_for_the_outside_is_of_the_flow<M: Machine>(graph: &Graph, net:
         (sources : List (List ℕ)) → AreTold sources (cells graph.now.nodes.items) (λ node. Some (inputs node)) →
         (node : ℕ) (cell : Cell NodeKind) → slice_get (cells graph.now.nodes.items) node ≡ Some cell → is_sink cell.kind ≡ true →
         only (map (flow (cells graph.now.nodes.items) sources) cell.ins) ≡ text_of (waiting_on net.now.wires.items (outer_edge (cells graph.now.nodes.items) node)) }
+{}
+
+/// A network of a valid graph is never stuck, in whatever order its nodes had their turns: where no node can move a piece, and none starves for what
+/// it could read from outside, each machine has stopped. Edges into nodes of many ins have no bound, and the others room for one piece or more.
+pub fn a_network_is_never_stuck<M: Machine>(graph: &Graph, net: &Net<M>)
+    requires { Valid (cells graph.now.nodes.items) graph.now.status }
+    ensures { let state : M → State = λ machine. record { takes = M.takes machine; puts = M.puts machine; broken = M.broken machine; due = M.due machine; selects = M.selects machine } in
+        (left taken : ℕ → Option (List ℕ)) (goes : Goes state net.now.ports.items net.now.machines.items net.now.wires.items left taken) →
+        IsPlanOf (cells graph.now.nodes.items) goes.plan →
+        length net.now.ports.items ≡ length (cells graph.now.nodes.items) → length net.now.machines.items ≡ length (cells graph.now.nodes.items) →
+        (cap : Option ℕ) → HasRooms (cells graph.now.nodes.items) cap net.now.rooms.items → IfSome cap (λ room. 1 ≤ room) →
+        IsStuck (λ machine. M.takes machine) (λ machine. M.puts machine) (λ machine. M.act machine) net.now.ports.items net.now.machines.items net.now.rooms.items net.now.wires.items →
+        (node : ℕ) (machine : M) → slice_get net.now.machines.items node ≡ Some machine → M.act machine ≡ Act.Stop }
+{}
+
+/// A network over texts that are there from the beginning is never stuck, whatever steps it has made: where no node's step moves a piece, each
+/// machine has stopped.
+pub fn a_network_over_texts_is_never_stuck<M: Machine>(graph: &Graph, net: &Net<M>)
+    requires { Valid (cells graph.now.nodes.items) graph.now.status }
+    ensures { let state : M → State = λ machine. record { takes = M.takes machine; puts = M.puts machine; broken = M.broken machine; due = M.due machine; selects = M.selects machine } in
+        (inputs : ℕ → List ℕ) → RunsOver state (cells graph.now.nodes.items) inputs net.now.ports.items net.now.machines.items net.now.wires.items →
+        length net.now.ports.items ≡ length (cells graph.now.nodes.items) →
+        (cap : Option ℕ) → HasRooms (cells graph.now.nodes.items) cap net.now.rooms.items → IfSome cap (λ room. 1 ≤ room) →
+        IsStill (λ machine. M.takes machine) (λ machine. M.puts machine) (λ machine. M.act machine) net.now.ports.items net.now.machines.items net.now.rooms.items net.now.wires.items →
+        (node : ℕ) (machine : M) → slice_get net.now.machines.items node ≡ Some machine → M.act machine ≡ Act.Stop }
 {}

@@ -3,7 +3,7 @@ ghost use Rattle.std.specs.Prelude.{◌≡◌, ◌<◌, ◌≤◌, ◌^◌, leng
 ghost use Rattle.fl_graph.specs.declared.pieces.TheConstants.{MAX_PIECE};
 ghost use Rattle.fl_core.specs.Causes.{Causes};
 ghost use Rattle.fl_core.specs.Points.{Advances, HaltsFrom, IsUnderWay};
-ghost use Rattle.fl_core.specs.Runs.{Goes, Halts, HasEnds, Leads};
+ghost use Rattle.fl_core.specs.Runs.{AreDrained, Goes, Halts, HasEnds, Leads};
 
 use crate::ends::NodeEnds;
 use crate::outside::{Halt, read_piece, write_piece};
@@ -39,11 +39,12 @@ pub struct Net<M: Machine> {
 
 impl<M: Machine> Net<M> {
     ghost use Rattle.std.specs.Prelude.{ℕ, List, Option};
+    ghost use Rattle.fl_graph.specs.Machines.{MayDo};
     ghost use Rattle.fl_graph.specs.Net.{Cell};
     ghost use Rattle.fl_graph.specs.Runs.{State};
     ghost use Rattle.fl_graph.specs.declared.kinds.NodeKind.{NodeKind};
     ghost use Rattle.fl_core.specs.Inputs.{RunsOver};
-    ghost use Rattle.fl_core.specs.Steps.{has_moved, progress_at, ArePlain, Fits, Starves};
+    ghost use Rattle.fl_core.specs.Steps.{has_moved, progress_at, ArePlain, Fits, GaveTo, SameBut, Starves, TookFrom, WentFrom};
     ghost use Rattle.fl_core.specs.Stuck.{IsStuck, IsStuckAt};
     ghost use Rattle.fl_core.specs.declared.nets.Ports.{Ports as Port};
 
@@ -70,6 +71,11 @@ impl<M: Machine> Net<M> {
             ((port : ℕ) → M.takes machine port ≡ false) × ((port : ℕ) → M.puts machine port ≡ false) }
         ensures answer { IfOk result (λ step. (machine : M) (own : Port) → slice_get self.old.machines.items node ≡ Some machine → slice_get self.old.ports.items node ≡ Some own →
             step ≡ progress_at (M.act machine) own.ins.items own.outs.items self.old.rooms.items self.old.wires.items) }
+        ensures may { (machine : M) → slice_get self.old.machines.items node ≡ Some machine → MayDo (M.takes machine) (M.puts machine) (M.act machine) }
+        ensures took { result ≡ Ok Progress.Took → (own : Port) → slice_get self.old.ports.items node ≡ Some own →
+            TookFrom own.ins.items self.old.wires.items self.new.wires.items }
+        ensures gave { result ≡ Ok Progress.Gave → (own : Port) → slice_get self.old.ports.items node ≡ Some own →
+            GaveTo own.outs.items self.old.wires.items self.new.wires.items }
         ensures memory { OnErr result ((machine : M) (own : Port) → slice_get self.old.machines.items node ≡ Some machine → slice_get self.old.ports.items node ≡ Some own →
             has_moved (progress_at (M.act machine) own.ins.items own.outs.items self.old.rooms.items self.old.wires.items) ≡ true) }
         ensures same { IfOk result (λ step. has_moved step ≡ false → (self.new.machines.items ≡ self.old.machines.items) × (self.new.wires.items ≡ self.old.wires.items)) }
@@ -107,6 +113,8 @@ impl<M: Machine> Net<M> {
             (E.left ends.old) (E.left ends.new) (E.taken ends.old) (E.taken ends.new)) }
         ensures halts { let state : M → State = λ machine. record { takes = M.takes machine; puts = M.puts machine; broken = M.broken machine; due = M.due machine; selects = M.selects machine } in
             OnErr result (Halts state self.old.ports.items self.old.machines.items self.old.wires.items (E.left ends.old) (E.taken ends.old) (E.taken ends.new)) }
+        ensures came { OnOk result ((own : Port) → slice_get self.old.ports.items node ≡ Some own →
+            SameBut (get_or own.ins.items 0 0) self.old.wires.items self.new.wires.items) }
         ensures ports { self.new.ports ≡ self.old.ports }
         ensures machines { self.new.machines ≡ self.old.machines }
         ensures wires { length self.new.wires.items ≡ length self.old.wires.items }
@@ -140,6 +148,8 @@ impl<M: Machine> Net<M> {
         ensures halts { let state : M → State = λ machine. record { takes = M.takes machine; puts = M.puts machine; broken = M.broken machine; due = M.due machine; selects = M.selects machine } in
             OnErr result ((own : Port) → slice_get self.old.ports.items node ≡ Some own → own.writes ≡ true →
             Halts state self.old.ports.items self.old.machines.items self.old.wires.items (E.left ends.old) (E.taken ends.old) (E.taken ends.new)) }
+        ensures went { OnOk result ((own : Port) → slice_get self.old.ports.items node ≡ Some own →
+            WentFrom (get_or own.outs.items 0 0) self.old.wires.items self.new.wires.items) }
         ensures ports { self.new.ports ≡ self.old.ports }
         ensures machines { self.new.machines ≡ self.old.machines }
         ensures wires { length self.new.wires.items ≡ length self.old.wires.items }
@@ -175,7 +185,8 @@ impl<M: Machine> Net<M> {
         ensures halts { let state : M → State = λ machine. record { takes = M.takes machine; puts = M.puts machine; broken = M.broken machine; due = M.due machine; selects = M.selects machine } in
             OnErr result (Halts state self.old.ports.items self.old.machines.items self.old.wires.items (E.left ends.old) (E.taken ends.old) (E.taken ends.new)) }
         ensures same { result ≡ Ok false → (self.new.machines.items ≡ self.old.machines.items) × (self.new.wires.items ≡ self.old.wires.items) × (ends.new ≡ ends.old) }
-        ensures stuck { result ≡ Ok false → IsStuckAt (λ machine. M.act machine) self.old.ports.items self.old.machines.items self.old.rooms.items self.old.wires.items node }
+        ensures drained { OnOk result (AreDrained self.old.ports.items self.old.wires.items → AreDrained self.new.ports.items self.new.wires.items) }
+        ensures stuck { result ≡ Ok false → IsStuckAt (λ machine. M.takes machine) (λ machine. M.puts machine) (λ machine. M.act machine) self.old.ports.items self.old.machines.items self.old.rooms.items self.old.wires.items node }
         ensures ports { self.new.ports ≡ self.old.ports }
         ensures machines { length self.new.machines.items ≡ length self.old.machines.items }
         ensures wires { length self.new.wires.items ≡ length self.old.wires.items }
@@ -199,7 +210,9 @@ impl<M: Machine> Net<M> {
                 Ok(()) => Ok(true),
                 Err(halt) => Err(halt),
             },
-            progress => Ok(progress.has_moved()),
+            Progress::Took => Ok(true),
+            Progress::Gave => Ok(true),
+            Progress::Starves | Progress::Waits | Progress::Ended => Ok(false),
         }
     }
 
@@ -223,7 +236,7 @@ impl<M: Machine> Net<M> {
             OnErr result (HaltsFrom state (record { ports = self.old.ports.items; machines = self.old.machines.items; wires = self.old.wires.items; left = E.left ends.old; taken = E.taken ends.old; reads = E.reads ends.old; writes = E.writes ends.old; faults = E.faults ends.old }) (E.taken ends.new)) }
         ensures rooms { self.new.rooms ≡ self.old.rooms }
         ensures same { result ≡ Ok false → (self.new.machines.items ≡ self.old.machines.items) × (self.new.wires.items ≡ self.old.wires.items) × (ends.new ≡ ends.old) }
-        ensures stuck { result ≡ Ok false → IsStuckAt (λ machine. M.act machine) self.old.ports.items self.old.machines.items self.old.rooms.items self.old.wires.items node }
+        ensures stuck { result ≡ Ok false → IsStuckAt (λ machine. M.takes machine) (λ machine. M.puts machine) (λ machine. M.act machine) self.old.ports.items self.old.machines.items self.old.rooms.items self.old.wires.items node }
         ensures buffer { length buffer.new ≡ length buffer.old }
         ensures borrows { E.borrows ends.new ≡ E.borrows ends.old }
         ensures cause { Causes (E.faults ends.old) (E.faults ends.new) result }
@@ -257,7 +270,7 @@ impl<M: Machine> Net<M> {
             OnErr result (HaltsFrom state (record { ports = self.old.ports.items; machines = self.old.machines.items; wires = self.old.wires.items; left = E.left ends.old; taken = E.taken ends.old; reads = E.reads ends.old; writes = E.writes ends.old; faults = E.faults ends.old }) (E.taken ends.new)) }
         ensures rooms { self.new.rooms ≡ self.old.rooms }
         ensures same { result ≡ Ok false → (self.new.machines.items ≡ self.old.machines.items) × (self.new.wires.items ≡ self.old.wires.items) × (ends.new ≡ ends.old) }
-        ensures stuck { result ≡ Ok false → IsStuck (λ machine. M.act machine) self.old.ports.items self.old.machines.items self.old.rooms.items self.old.wires.items }
+        ensures stuck { result ≡ Ok false → IsStuck (λ machine. M.takes machine) (λ machine. M.puts machine) (λ machine. M.act machine) self.old.ports.items self.old.machines.items self.old.rooms.items self.old.wires.items }
         ensures buffer { length buffer.new ≡ length buffer.old }
         ensures borrows { E.borrows ends.new ≡ E.borrows ends.old }
         ensures cause { Causes (E.faults ends.old) (E.faults ends.new) result }
@@ -288,7 +301,7 @@ impl<M: Machine> Net<M> {
             (record { ports = self.new.ports.items; machines = self.new.machines.items; wires = self.new.wires.items; left = E.left ends.new; taken = E.taken ends.new; reads = E.reads ends.new; writes = E.writes ends.new; faults = E.faults ends.new })) }
         ensures err { let state : M → State = λ machine. record { takes = M.takes machine; puts = M.puts machine; broken = M.broken machine; due = M.due machine; selects = M.selects machine } in
             OnErr result (HaltsFrom state (record { ports = self.old.ports.items; machines = self.old.machines.items; wires = self.old.wires.items; left = E.left ends.old; taken = E.taken ends.old; reads = E.reads ends.old; writes = E.writes ends.old; faults = E.faults ends.old }) (E.taken ends.new)) }
-        ensures stuck { OnOk result (IsStuck (λ machine. M.act machine) self.new.ports.items self.new.machines.items self.new.rooms.items self.new.wires.items) }
+        ensures stuck { OnOk result (IsStuck (λ machine. M.takes machine) (λ machine. M.puts machine) (λ machine. M.act machine) self.new.ports.items self.new.machines.items self.new.rooms.items self.new.wires.items) }
         ensures rooms { self.new.rooms ≡ self.old.rooms }
         ensures buffer { length buffer.new ≡ length buffer.old }
         ensures borrows { E.borrows ends.new ≡ E.borrows ends.old }

@@ -62,6 +62,7 @@ pub fn step<M: Machine>(
     ensures same { IfOk result (λ step. has_moved_lem step ≡ false → (machine.new ≡ machine.old) × (wires.new ≡ wires.old)) }
     ensures shut { result ≡ Ok Progress.Ended → ((port : ℕ) → M.takes machine.new port ≡ false) × ((port : ℕ) → M.puts machine.new port ≡ false) }
     ensures answer { IfOk result (λ step. step ≡ progress_at (M.act machine.old) ins.now outs.now rooms.now wires.old) }
+    ensures may { MayDo (M.takes machine.old) (M.puts machine.old) (M.act machine.old) }
     ensures memory { OnErr result (has_moved_lem (progress_at (M.act machine.old) ins.now outs.now rooms.now wires.old) ≡ true) }
     ensures width { length wires.new ≡ length wires.old }
 {

@@ -1,4 +1,7 @@
+use Rattle.std.proofs.Common.{ap, sym, ◌∙◌, Ok}
+use Rattle.fl_core.specs.Stuck.{IsStuck}
 use Rattle.fl_core.proofs.PointLemmas.{halts_behind}
+use Rattle.fl_core.proofs.StuckLemmas.{said_of}
 use Rattle.fl_core.proofs.TurnLemmas.{step_halts}
 use Rattle.fl_core.proofs.nets.Net.run.Goals as goal
 
@@ -7,3 +10,10 @@ returns-clause-err g c =
     halts_behind (λ machine. record { takes = g.M.Machine.takes machine; puts = g.M.Machine.puts machine; broken = g.M.Machine.broken machine; due = g.M.Machine.due machine; selects = g.M.Machine.selects machine })
     _ _ c.loop.invariant.0 (g.E.NodeEnds.taken c.loop.ends)
     (step_halts _ c.loop.self.ports.items c.loop.self.machines.items c.loop.self.wires.items (g.E.NodeEnds.left c.loop.ends) (g.E.NodeEnds.taken c.loop.ends))
+
+pub returns-in-Ok-false-clause-stuck : goal.returns-in-Ok-false-clause-stuck
+returns-in-Ok-false-clause-stuck g c =
+    let is = c.in-Ok-false.is ∙ ap (λ it. Ok it) c.in-Ok-false.field-0-test in
+    let same = c.sweep.ensures.same is in
+    said_of (λ machine. g.M.Machine.takes machine) (λ machine. g.M.Machine.puts machine) (λ machine. g.M.Machine.act machine) _ _ _ _ (IsStuck (λ machine. g.M.Machine.takes machine) (λ machine. g.M.Machine.puts machine) (λ machine. g.M.Machine.act machine)) _ _ _ _
+    (sym c.in-Ok-false.ensures.ok.ports) (sym same.0) (ap (λ it. it.items) (sym c.sweep.ensures.rooms)) (sym same.1) (c.sweep.ensures.stuck is)

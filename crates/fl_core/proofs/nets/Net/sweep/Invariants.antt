@@ -12,4 +12,4 @@ invariant-loop-node g l =
     × (g.E.NodeEnds.borrows l.ends ≡ g.E.NodeEnds.borrows l.fn.ends)
     × (l.self.rooms ≡ l.fn.self.rooms)
     × (l.moved ≡ false → (l.self.machines.items ≡ l.fn.self.machines.items) × (l.self.wires.items ≡ l.fn.self.wires.items) × (l.ends ≡ l.fn.ends)
-    × ((number : ℕ) → number < l.node → IsStuckAt (λ machine. g.M.Machine.act machine) l.fn.self.ports.items l.fn.self.machines.items l.fn.self.rooms.items l.fn.self.wires.items number))
+    × ((number : ℕ) → number < l.node → IsStuckAt (λ machine. g.M.Machine.takes machine) (λ machine. g.M.Machine.puts machine) (λ machine. g.M.Machine.act machine) l.fn.self.ports.items l.fn.self.machines.items l.fn.self.rooms.items l.fn.self.wires.items number))

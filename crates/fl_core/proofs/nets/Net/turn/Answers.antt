@@ -1,6 +1,9 @@
-use Rattle.std.proofs.Common.{ap, ◌∙◌, Ok}
+use Rattle.std.proofs.Common.{◌≡◌, refl, ap, sym, ◌∙◌, Ok}
 use Rattle.std.specs.Global.{Vec}
+use Rattle.fl_core.specs.Steps.{has_moved}
 use Rattle.fl_core.specs.declared.nets.Ports.{Ports}
+use Rattle.fl_core.specs.declared.steps.Progress.TheVariants.{Took, Gave}
+use Rattle.fl_core.proofs.DrainLemmas.{read_drained, step_drained, write_drained}
 use Rattle.fl_core.proofs.NetLemmas.{goes_fits}
 use Rattle.fl_core.proofs.TurnLemmas.{step_halts, turn_reads, turn_writes, turn_read_leads, turn_write_leads, turn_halts, turn_write_halts}
 use Rattle.fl_core.proofs.nets.Net.turn.Goals as goal
@@ -68,5 +71,42 @@ returns-in-Err-write-clause-halts g c =
     c.step.ensures.machines (c.in-Ok.ensures.leads (g.E.NodeEnds.left c.args.ends.now) (g.E.NodeEnds.taken c.args.ends.now))
     _ c.writes.result c.writes.ensures c.if-writes.true c.in-Err-write.ensures.halts
 
-pub returns-in_default-clause-leads : goal.returns-in_default-clause-leads
-returns-in_default-clause-leads g c = c.in-Ok.ensures.leads (g.E.NodeEnds.left c.args.ends.now) (g.E.NodeEnds.taken c.args.ends.now)
+pub returns-in-Took-clause-leads : goal.returns-in-Took-clause-leads
+returns-in-Took-clause-leads g c = c.in-Ok.ensures.leads (g.E.NodeEnds.left c.args.ends.now) (g.E.NodeEnds.taken c.args.ends.now)
+
+pub returns-in-Ok-read-clause-drained : goal.returns-in-Ok-read-clause-drained
+returns-in-Ok-read-clause-drained g c =
+    read_drained (λ machine. record { takes = g.M.Machine.takes machine; puts = g.M.Machine.puts machine; broken = g.M.Machine.broken machine; due = g.M.Machine.due machine; selects = g.M.Machine.selects machine })
+    c.args.self.now.ports.items c.step.new.self.ports.items c.read.new.self.ports.items (ap (λ (it : Vec Ports). it.items) c.step.ensures.ports) (ap (λ (it : Vec Ports). it.items) c.read.ensures.ports)
+    c.args.self.now.machines.items c.args.self.now.wires.items c.step.new.self.wires.items c.read.new.self.wires.items
+    (g.E.NodeEnds.left c.args.ends.now) (g.E.NodeEnds.taken c.args.ends.now) c.requires.goes c.args.node c.requires.node.1
+    (c.in-Ok.ensures.same (ap has_moved c.in-Starves.is)).1 c.reads.result c.reads.ensures c.if-reads.true c.in-Ok-read.ensures.came
+
+pub returns-in-Ok-write-clause-drained : goal.returns-in-Ok-write-clause-drained
+returns-in-Ok-write-clause-drained g c =
+    write_drained (λ machine. record { takes = g.M.Machine.takes machine; puts = g.M.Machine.puts machine; broken = g.M.Machine.broken machine; due = g.M.Machine.due machine; selects = g.M.Machine.selects machine })
+    c.args.self.now.ports.items c.step.new.self.ports.items c.write.new.self.ports.items (ap (λ (it : Vec Ports). it.items) c.step.ensures.ports) (ap (λ (it : Vec Ports). it.items) c.write.ensures.ports)
+    c.args.self.now.machines.items c.args.self.now.wires.items c.step.new.self.wires.items c.write.new.self.wires.items
+    (g.E.NodeEnds.left c.args.ends.now) (g.E.NodeEnds.taken c.args.ends.now) c.requires.goes c.args.node c.requires.node.1
+    (c.step.ensures.gave (c.in-Ok.is ∙ ap (λ it. Ok it) c.in-Gave.is)) c.writes.result c.writes.ensures c.if-writes.true c.in-Ok-write.ensures.went
+
+pub returns-in-Took-clause-drained : goal.returns-in-Took-clause-drained
+returns-in-Took-clause-drained g c =
+    step_drained (λ machine. record { takes = g.M.Machine.takes machine; puts = g.M.Machine.puts machine; broken = g.M.Machine.broken machine; due = g.M.Machine.due machine; selects = g.M.Machine.selects machine })
+    c.args.self.now.ports.items c.step.new.self.ports.items c.step.new.self.ports.items (ap (λ (it : Vec Ports). it.items) c.step.ensures.ports) refl
+    c.args.self.now.machines.items c.args.self.now.wires.items c.step.new.self.wires.items c.step.new.self.wires.items
+    (g.E.NodeEnds.left c.args.ends.now) (g.E.NodeEnds.taken c.args.ends.now) c.requires.goes c.args.node c.requires.node.1 c.in-Ok.progress
+    (λ is. c.step.ensures.took (c.in-Ok.is ∙ ap (λ it. Ok it) is)) (λ is. c.step.ensures.gave (c.in-Ok.is ∙ ap (λ it. Ok it) is))
+    (λ is own at. let differ : Took ≡ Gave = sym c.in-Took.is ∙ is in absurd (cc)) (λ rests. (c.in-Ok.ensures.same rests).1)
+
+pub returns-in-Gave-2-clause-drained : goal.returns-in-Gave-2-clause-drained
+returns-in-Gave-2-clause-drained g c =
+    step_drained (λ machine. record { takes = g.M.Machine.takes machine; puts = g.M.Machine.puts machine; broken = g.M.Machine.broken machine; due = g.M.Machine.due machine; selects = g.M.Machine.selects machine })
+    c.args.self.now.ports.items c.step.new.self.ports.items c.step.new.self.ports.items (ap (λ (it : Vec Ports). it.items) c.step.ensures.ports) refl
+    c.args.self.now.machines.items c.args.self.now.wires.items c.step.new.self.wires.items c.step.new.self.wires.items
+    (g.E.NodeEnds.left c.args.ends.now) (g.E.NodeEnds.taken c.args.ends.now) c.requires.goes c.args.node c.requires.node.1 c.in-Ok.progress
+    (λ is. c.step.ensures.took (c.in-Ok.is ∙ ap (λ it. Ok it) is)) (λ is. c.step.ensures.gave (c.in-Ok.is ∙ ap (λ it. Ok it) is))
+    (λ is own at. sym (c.writes.ensures own at) ∙ c.if-writes.false) (λ rests. (c.in-Ok.ensures.same rests).1)
+
+pub returns-in-Gave-2-clause-leads : goal.returns-in-Gave-2-clause-leads
+returns-in-Gave-2-clause-leads g c = c.in-Ok.ensures.leads (g.E.NodeEnds.left c.args.ends.now) (g.E.NodeEnds.taken c.args.ends.now)

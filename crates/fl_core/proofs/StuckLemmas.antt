@@ -1,0 +1,47 @@
+-- Nodes that can do nothing, one after another, up to all of them.
+use Rattle.std.proofs.Common.{◌≡◌, ℕ, ◌+◌, ◌<◌, ◌≤◌, List, Bool, length, Option, Result, Ok, subst, inl, inr, arith}
+use Rattle.std.proofs.lemmas.Bool.{cases_lt}
+use Rattle.std.proofs.lemmas.Option.{slice_get_within}
+use Rattle.fl_graph.specs.declared.pieces.Act.{Act}
+use Rattle.fl_graph.specs.declared.pieces.Piece.{Piece}
+use Rattle.fl_core.specs.Stuck.{IsStuck, IsStuckAt}
+use Rattle.fl_core.specs.declared.nets.Ports.{Ports}
+
+module _ {Machine : Type 0} (takes puts : Machine → ℕ → Bool) (act : Machine → Act) (ports : List Ports) (machines : List Machine) (rooms : List (Option ℕ)) (wires : List (List Piece)) where
+  -- whatever is said of a network is said of one that is the same
+  pub said_of : (P : List Ports → List Machine → List (Option ℕ) → List (List Piece) → Type 0)
+      (ports' : List Ports) (machines' : List Machine) (rooms' : List (Option ℕ)) (wires' : List (List Piece))
+      → ports' ≡ ports → machines' ≡ machines → rooms' ≡ rooms → wires' ≡ wires → P ports' machines' rooms' wires' → P ports machines rooms wires
+  said_of P ports' machines' rooms' wires' same_ports same_machines same_rooms same_wires said =
+      subst (λ (it : List (List Piece)). P ports machines rooms it) same_wires
+      (subst (λ (it : List (Option ℕ)). P ports machines it wires') same_rooms
+      (subst (λ (it : List Machine). P ports it rooms' wires') same_machines
+      (subst (λ (it : List Ports). P it machines' rooms' wires') same_ports said)))
+
+  pub one_more_stuck : (node : ℕ) → ((number : ℕ) → number < node → IsStuckAt takes puts act ports machines rooms wires number)
+      → IsStuckAt takes puts act ports machines rooms wires node
+      → (number : ℕ) → number < node + 1 → IsStuckAt takes puts act ports machines rooms wires number
+  one_more_stuck node before here number within =
+      elim (cases_lt number node) [
+        | inl earlier ↦ before number earlier
+        | inr later ↦
+            let same : node ≡ number = omega (arith, within, later) in
+            subst (IsStuckAt takes puts act ports machines rooms wires) same here
+      ]
+
+  pub all_stuck : (count : ℕ) → length machines ≤ count → ((number : ℕ) → number < count → IsStuckAt takes puts act ports machines rooms wires number)
+      → IsStuck takes puts act ports machines rooms wires
+  all_stuck count all each = record { each = stuck_at }
+    where
+      stuck_at : (node : ℕ) → IsStuckAt takes puts act ports machines rooms wires node
+      stuck_at node =
+          elim (cases_lt node count) [
+            | inl within ↦ each node within
+            | inr beyond ↦ record {
+              moves_none = λ machine own at at_own. let there = slice_get_within machines node machine at in absurd (omega (arith, there, all, beyond));
+              may = λ machine at. let there = slice_get_within machines node machine at in absurd (omega (arith, there, all, beyond));
+            }
+          ]
+
+pub told_ok : {E : Type 0} (one other : Bool) → ◌≡◌ {A = Result Bool E} (Ok one) (Ok other) → one ≡ other
+told_ok one other is = cc

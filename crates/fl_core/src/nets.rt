@@ -1,5 +1,5 @@
 //! Networks at work.
-ghost use Rattle.std.specs.Prelude.{◌≡◌, ◌<◌, ◌≤◌, ◌^◌, length, slice_get, get_or, true, false, Ok, Some, IfOk, OnOk, OnErr};
+ghost use Rattle.std.specs.Prelude.{◌≡◌, ◌<◌, ◌≤◌, ◌^◌, not, length, slice_get, get_or, true, false, Ok, Some, IfOk, OnOk, OnErr};
 ghost use Rattle.fl_graph.specs.declared.pieces.TheConstants.{MAX_PIECE};
 ghost use Rattle.fl_core.specs.Causes.{Causes};
 ghost use Rattle.fl_core.specs.Points.{Advances, HaltsFrom, IsUnderWay};
@@ -45,7 +45,7 @@ impl<M: Machine> Net<M> {
     ghost use Rattle.fl_graph.specs.declared.kinds.NodeKind.{NodeKind};
     ghost use Rattle.fl_core.specs.Inputs.{RunsOver};
     ghost use Rattle.fl_core.specs.Steps.{has_moved, progress_at, ArePlain, Fits, GaveTo, SameBut, Starves, TookFrom, WentFrom};
-    ghost use Rattle.fl_core.specs.Stuck.{IsStuck, IsStuckAt};
+    ghost use Rattle.fl_core.specs.Stuck.{is_stuck, IsStuck, IsStuckAt};
     ghost use Rattle.fl_core.specs.declared.nets.Ports.{Ports as Port};
 
     /// Does what the machine of a node does next, where it can: it starves, waits or has ended exactly where `progress_at` says so, and then
@@ -166,7 +166,7 @@ impl<M: Machine> Net<M> {
         write_piece(node, ends, &piece)
     }
 
-    /// Does one step of a node, and what it asks of the outside; answers whether a piece has moved, and where none has, nothing has changed.
+    /// Does one step of a node, and what it asks of the outside; answers whether the node could do anything, and where it couldn't, nothing has changed.
     pub fn turn<E: NodeEnds>(
         &mut self,
         alloc: Global,
@@ -186,6 +186,8 @@ impl<M: Machine> Net<M> {
             OnErr result (Halts state self.old.ports.items self.old.machines.items self.old.wires.items (E.left ends.old) (E.taken ends.old) (E.taken ends.new)) }
         ensures same { result ≡ Ok false → (self.new.machines.items ≡ self.old.machines.items) × (self.new.wires.items ≡ self.old.wires.items) × (ends.new ≡ ends.old) }
         ensures drained { OnOk result (AreDrained self.old.ports.items self.old.wires.items → AreDrained self.new.ports.items self.new.wires.items) }
+        ensures answer { IfOk result (λ moved. (machine : M) (own : Port) → slice_get self.old.machines.items node ≡ Some machine → slice_get self.old.ports.items node ≡ Some own →
+            moved ≡ not (is_stuck (progress_at (M.act machine) own.ins.items own.outs.items self.old.rooms.items self.old.wires.items) own.reads)) }
         ensures stuck { result ≡ Ok false → IsStuckAt (λ machine. M.takes machine) (λ machine. M.puts machine) (λ machine. M.act machine) self.old.ports.items self.old.machines.items self.old.rooms.items self.old.wires.items node }
         ensures ports { self.new.ports ≡ self.old.ports }
         ensures machines { length self.new.machines.items ≡ length self.old.machines.items }

@@ -104,3 +104,17 @@ pub record HasOneOutcome (text : List ℕ) : Type 0 where
   pub outcome : Outcome
   pub is : HasOutcome text outcome
   pub only : (other : Outcome) → HasOutcome text other → other ≡ outcome
+
+-- what is read of each text
+abbrev pub Readings : Type 0
+Readings = List ℕ → Outcome
+
+-- it is the one outcome of each text
+pub record AreOutcomes (reads : Readings) : Type 0 where
+  pub has : (text : List ℕ) → HasOutcome text (reads text)
+  pub only : (text : List ℕ) (other : Outcome) → HasOutcome text other → other ≡ reads text
+
+-- each text is read as something
+pub record TextsAreRead : Type 0 where
+  pub reads : Readings
+  pub are : AreOutcomes reads

@@ -5,7 +5,7 @@ ghost use Rattle.sh_parse.specs.Grammar.{Reads};
 ghost use Rattle.sh_parse.specs.Pieces.{WordViews};
 ghost use Rattle.sh_parse.specs.Stops.{HasOneOutcome};
 ghost use Rattle.sh_parse.specs.Texts.{HasItems};
-ghost use Rattle.sh_parse.specs.Outcomes.{HasOneOutcome as OneOutcome};
+ghost use Rattle.sh_parse.specs.Outcomes.{HasOneOutcome as OneOutcome, TextsAreRead};
 ghost use Rattle.sh_parse.specs.declared.items.Item as item;
 
 use crate::items::Item;
@@ -38,3 +38,8 @@ pub fn one_outcome_of_a_text(text: &[u8])
 {
     let _ = text;
 }
+
+/// What each text is, is a function of the text: meanings that take it as given are told of something.
+pub fn texts_are_read()
+    ensures { TextsAreRead }
+{}

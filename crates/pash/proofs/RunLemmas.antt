@@ -11,10 +11,10 @@ use Rattle.ps_world.proofs.ToldLemmas.{then_bytes-nil, grew_by_nothing}
 use Rattle.sh_lex.specs.declared.lexing.TheConstants.{MAX_SCRIPT}
 use Rattle.sh_lex.specs.declared.refusals.Static.{Static}
 use Rattle.sh_lex.specs.declared.refusals.Static.TheVariants.{ScriptTooLong}
-use Rattle.sh_parse.specs.Outcomes.{Outcome as TextOutcome, HasOutcome, refused}
+use Rattle.sh_parse.specs.Outcomes.{AreOutcomes, Outcome as TextOutcome, HasOutcome, Readings, refused}
 use Rattle.sh_parse.specs.declared.scripts.ParseRefusal.{ParseRefusal}
 use Rattle.sh_parse.specs.declared.scripts.ParseRefusal.TheVariants.{Refused}
-use Rattle.pash.specs.Readings.{Readings, AreOutcomes, AreReadAlike, IsUnread}
+use Rattle.pash.specs.Readings.{AreReadAlike, IsUnread}
 use Rattle.pash.proofs.CatLemmas.{moved}
 use Rattle.pash.specs.Meaning.{Reply, only_line, reply_of_text, reply_of_outcome}
 use Rattle.pash.specs.declared.answers.Outcome.{Outcome}

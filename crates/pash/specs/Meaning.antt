@@ -5,9 +5,8 @@ use Rattle.ps_world.specs.Files.{Files, bytes_at}
 use Rattle.ps_world.specs.Places.{resolve}
 use Rattle.ps_world.specs.declared.Place.{Place}
 use Rattle.ps_world.specs.declared.Place.TheVariants as place
-use Rattle.sh_parse.specs.Outcomes.{Outcome}
+use Rattle.sh_parse.specs.Outcomes.{Outcome, Readings}
 use Rattle.sh_parse.specs.Outcomes as parsed
-use Rattle.pash.specs.Readings.{Readings}
 use Rattle.pash.specs.Words.{RunCommand, command_of}
 use Rattle.pash.specs.Forms.{Form, Cat, Count, form_of}
 use Rattle.pash.specs.Pipeline.{pipeline_output}

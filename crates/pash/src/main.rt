@@ -1,7 +1,7 @@
 //! `pash` runs the data-parallel pipelines of a shell script in parallel without changing one byte of what it prints.
 //!
 //! `top::pash` is the call that this program makes, over the machine's files and streams, and its contract says what every run leaves:
-//! `specs/Meaning.antt` is the meaning of a command, `specs/Readings.antt` what each text is read as, and `specs/Runs.antt` how output,
+//! `specs/Meaning.antt` is the meaning of a command, `sh_parse/specs/Outcomes.antt` what each text is read as, and `specs/Runs.antt` how output,
 //! errors, files and answer are tied to the meaning.
 #![tactic(auto)]
 

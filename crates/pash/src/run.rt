@@ -6,9 +6,10 @@ ghost use Rattle.ps_world.specs.TreeState.{OnlyLent};
 ghost use Rattle.pash.specs.Words.{command_of, texts};
 ghost use Rattle.pash.specs.declared.command.TheConstants.{MOST_WIDTH};
 ghost use Rattle.pash.specs.Answers.{IsOfScript};
+ghost use Rattle.sh_parse.specs.Outcomes.{AreOutcomes, Readings};
 ghost use Rattle.sh_tree.specs.Views.{script_tree};
 ghost use Rattle.pash.specs.Forms.{as_form, form_of};
-ghost use Rattle.pash.specs.Readings.{Readings, AreOutcomes, AreReadAlike};
+ghost use Rattle.pash.specs.Readings.{AreReadAlike};
 ghost use Rattle.pash.specs.Meaning.{only_line, usage as usage_lem, refusal_reply, no_script as no_script_lem, file_of, reply_of_form, reply_of_text, reply_of_file, reply_of_script, reply_of_command};
 ghost use Rattle.pash.specs.Runs.{Meets, GrewByPrefixes, Stops};
 

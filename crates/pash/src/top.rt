@@ -5,7 +5,7 @@ ghost use Rattle.ps_world.specs.Files.{NoWriterOut};
 ghost use Rattle.ps_world.specs.TreeState.{OnlyLent};
 ghost use Rattle.pash.specs.Words.{command_of, texts};
 ghost use Rattle.pash.specs.Answers.{IsAnswer, IsOfScript, HasFaultStatus};
-ghost use Rattle.pash.specs.Readings.{Readings, AreOutcomes};
+ghost use Rattle.sh_parse.specs.Outcomes.{AreOutcomes, Readings};
 ghost use Rattle.pash.specs.Meaning.{meaning, usage as usage_lem, reply_of_command};
 ghost use Rattle.pash.specs.Runs.{Meets, Leaves, GrewByPrefixes, Stops};
 

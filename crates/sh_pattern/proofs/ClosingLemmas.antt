@@ -28,7 +28,7 @@ ends_further {end = end} at further = (at.0 ++ further.0, at.1 ∙ ap (λ (t : L
 pub ends_from : (text : List Mark) (place : ℕ) → EndsWith text (take (length text - place) (drop place text))
 ends_from text place = (take place text, sym (take-append-drop place text) ∙ ap (λ (t : List Mark). take place text ++ t) (sym (take_rest text place)))
 
-same_end : {text one other : List Mark} → EndsWith text one → EndsWith text other → length one ≡ length other → one ≡ other
+pub same_end : {text one other : List Mark} → EndsWith text one → EndsWith text other → length one ≡ length other → one ≡ other
 same_end {text} {one} {other} at there sizes =
     let first : length text ≡ length at.0 + length one = ap length at.1 ∙ length-append at.0 one in
     let second : length text ≡ length there.0 + length other = ap length there.1 ∙ length-append there.0 other in
@@ -112,7 +112,7 @@ items_end {text} (one_more next more) = ends_further (next_item_end text next) (
 list_end : {text after : List Mark} {items : List Item} → IsList text items after → EndsWith text after
 list_end {text} (a_list first more) = ends_further (first_item_end text first) (items_end more)
 
-set_end : {text after : List Mark} {set : Element} → IsSet text set after → EndsWith text after
+pub set_end : {text after : List Mark} {set : Element} → IsSet text set after → EndsWith text after
 set_end (matching none list) = list_end list
 set_end {text} (non_matching some list) = ends_further (past_end 33 text some) (list_end list)
 

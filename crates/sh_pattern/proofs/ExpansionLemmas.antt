@@ -127,7 +127,7 @@ as_written plain leads = elim leads.how [ inl written ↦ written | inr fit ↦ 
 by_pattern : {files : Files} {dir place : Components} {component : List Mark} {name : List ℕ} → has_special component ≡ true → Leads files dir component name place → LeadsByPattern files dir component name place
 by_pattern special leads = elim leads.how [ inl written ↦ absurd (false≢true (sym written.plain ∙ special)) | inr fit ↦ fit ]
 
-same_place : {one other : Components} → Some one ≡ Some other → one ≡ other
+pub same_place : {one other : Components} → Some one ≡ Some other → one ≡ other
 same_place is = cc
 
 pub written_on : (held : Option Files) (from : Found) (component : List Mark) (ending name : List ℕ) (there : Components) (old new : List Found)
@@ -212,7 +212,7 @@ each_name (first ∷ others) name all (inl is) = subst (λ n. is_name n ≡ true
 each_name (first ∷ others) name all (inr later) = each_name others name (both_true (is_name first) (list_all is_name others) all).1 later
 
 -- a name that may stand in a directory leads to what has it there
-place_of_name : (files : Files) (dir : Components) (name : List ℕ) → is_name name ≡ true → place_in files dir name ≡ existing (kind_at files (dir ++ name ∷ [])) (dir ++ name ∷ [])
+pub place_of_name : (files : Files) (dir : Components) (name : List ℕ) → is_name name ≡ true → place_in files dir name ≡ existing (kind_at files (dir ++ name ∷ [])) (dir ++ name ∷ [])
 place_of_name files dir name proper =
     let parts = both_true (not (stays name)) (not (goes_up name) && not (has_slash name)) proper in
     let others = both_true (not (goes_up name)) (not (has_slash name)) parts.1 in
@@ -224,7 +224,7 @@ there_exists (Some (Bytes bytes)) path some = refl
 there_exists (Some Directory) path some = refl
 there_exists (Some WriterOut) path some = refl
 
-exists_there : (node : Option Node) (path place : Components) → existing (kind_of node) path ≡ Some place → (is_some node ≡ true) × (path ≡ place)
+pub exists_there : (node : Option Node) (path place : Components) → existing (kind_of node) path ≡ Some place → (is_some node ≡ true) × (path ≡ place)
 exists_there None path place is = absurd (cc)
 exists_there (Some (Bytes bytes)) path place is = (refl, same_place is)
 exists_there (Some Directory) path place is = (refl, same_place is)

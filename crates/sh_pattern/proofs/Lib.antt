@@ -1,4 +1,6 @@
-mod FitLemmas
+pub mod FitLemmas
 pub mod ExpansionLemmas
 pub mod ReadingLemmas
 pub mod ClosingLemmas
+pub mod PatternLemmas
+pub mod NamingLemmas

@@ -17,7 +17,7 @@ ends_here : (close : Bool) (first : Mark) (text rest : List Mark) → is_close f
 ends_here true first text rest h e = rw h refl
 ends_here false first text rest h e = let k : None ≡ Some rest = rw h at e in cc
 
-no_item_at_end : (text rest : List Mark) → past 93 text ≡ Some rest → next_item text ≡ None
+pub no_item_at_end : (text rest : List Mark) → past 93 text ≡ Some rest → next_item text ≡ None
 no_item_at_end [] rest e = refl
 no_item_at_end (first ∷ text) rest e = ends_here (is_close first) first text rest refl e
 

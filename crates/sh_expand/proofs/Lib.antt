@@ -6,3 +6,4 @@ pub mod WordLemmas
 pub mod FieldLemmas
 pub mod LawLemmas
 pub mod UniqueLemmas
+pub mod SomeLemmas

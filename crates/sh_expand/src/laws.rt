@@ -1,5 +1,5 @@
 //! Laws of the definitions that belong to no single call.
-ghost use Rattle.std.specs.Prelude.{◌≡◌, ◌∷◌, [], ℕ, Bool, List, map, true, false};
+ghost use Rattle.std.specs.Prelude.{◌≡◌, ◌⊎◌, ◌∷◌, [], ℕ, Bool, List, map, true, false};
 ghost use Rattle.std.specs.List.{list_any};
 ghost use Rattle.ps_world.specs.Files.{Files};
 ghost use Rattle.ps_world.specs.Paths.{Components};
@@ -43,6 +43,20 @@ pub fn a_word_has_one_text()
         → TextStops given before word fault after → TextStops given before word other later → IsMeant fault → IsMeant other → (fault ≡ other) × (after ≡ later) }
     ensures either { (given : Given) (before after later : Variables) (word : WordTree) (text : List ℕ) (fault : ExpandFault)
         → TextGives given before word text after → TextStops given before word fault later → IsMeant fault → ⊥ }
+{}
+
+/// Words have an outcome: their fields, or the first fault that they mean, each with the variables then. So has a word of which nothing is
+/// split: a text or a fault. By the two laws before it is the only one.
+pub fn words_have_an_outcome()
+    ensures fields { (files : Files) (home : Components) (given : Given) (before : Variables) (words : List WordTree)
+        → ((fields : List (List ℕ)) × (after : Variables) × AreFields files home given before words fields after)
+        ⊎ ((fault : ExpandFault) × (after : Variables) × Stop given before words fault after × IsMeant fault) }
+    ensures passed { (given : Given) (before : Variables) (words : List WordTree)
+        → ((after : Variables) × Pass given before words after)
+        ⊎ ((fault : ExpandFault) × (after : Variables) × Stop given before words fault after × IsMeant fault) }
+    ensures text { (given : Given) (before : Variables) (word : WordTree)
+        → ((text : List ℕ) × (after : Variables) × TextGives given before word text after)
+        ⊎ ((fault : ExpandFault) × (after : Variables) × TextStops given before word fault after × IsMeant fault) }
 {}
 
 /// `"$@"` gives exactly the arguments, each a field of its own, whatever is in them and in IFS.

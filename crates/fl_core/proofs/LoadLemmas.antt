@@ -1,7 +1,7 @@
 -- Texts on edges from outside.
-use Rattle.std.proofs.Common.{◌≡◌, ℕ, ◌+◌, ◌-◌, ◌<◌, List, [], ◌∷◌, ◌++◌, Bool, true, false, ◌||◌, length, take, drop, get_or, ◌≤◌, slice_get, slice_set, Some, inl, inr, refl, ap, sym, subst, ◌∙◌, append_assoc, append-nil, arith}
+use Rattle.std.proofs.Common.{◌≡◌, ℕ, ◌+◌, ◌-◌, ◌<◌, List, [], ◌∷◌, ◌++◌, Bool, true, false, not, ◌||◌, length, take, drop, get_or, ◌≤◌, slice_get, slice_set, Some, inl, inr, refl, ap, sym, subst, ◌∙◌, append_assoc, append-nil, arith}
 use Rattle.std.specs.List.{list_all}
-use Rattle.std.proofs.lemmas.Bool.{cases_lt, or_parts}
+use Rattle.std.proofs.lemmas.Bool.{cases_lt, ne_eqb, or_parts}
 use Rattle.std.proofs.lemmas.List.{get_or-set_same, get_or-set_other, set-get_or, take_rest, take-append-drop}
 use Rattle.std.proofs.lemmas.List.{length-map}
 use Rattle.std.proofs.lemmas.Option.{slice_get_read, slice_get_within}
@@ -17,15 +17,15 @@ use Rattle.fl_graph.specs.declared.pieces.Piece.TheVariants as piece
 use Rattle.fl_core.specs.Inputs.{AreWhole, IsLoaded}
 use Rattle.fl_core.specs.Laws.{is_clean}
 use Rattle.fl_core.specs.Plans.{outer_edge}
-use Rattle.fl_core.specs.Steps.{is_plain, waiting_on}
+use Rattle.fl_core.specs.Steps.{has_bytes, is_plain, waiting_on}
 use Rattle.fl_core.proofs.GraphNetLemmas.{cell_at}
 use Rattle.fl_core.proofs.PieceLemmas.{text_of-append}
-use Rattle.fl_core.proofs.ReachLemmas.{clean-more, plain-more}
+use Rattle.fl_core.proofs.ReachLemmas.{all-more, clean-more}
 use Rattle.fl_core.proofs.TurnLemmas.{wire_at}
 
 -- the pieces, which nothing closes, and what is left are the text
 abbrev pub AreFront : List Piece → List ℕ → List ℕ → Type 0
-AreFront pieces left text = (text_of pieces ++ left ≡ text) × (are_closed pieces ≡ false) × (list_all is_plain pieces ≡ true)
+AreFront pieces left text = (text_of pieces ++ left ≡ text) × (are_closed pieces ≡ false) × (list_all is_plain pieces ≡ true) × (list_all has_bytes pieces ≡ true)
 
 unclosed-more : (pieces : List Piece) (bytes : List ℕ) → are_closed pieces ≡ false → are_closed (pieces ++ piece.Bytes bytes ∷ []) ≡ false
 unclosed-more [] bytes unclosed = refl
@@ -41,10 +41,13 @@ has_end-last (first ∷ pieces) = by_test (is_end first) (has_end-last pieces)
     by_test true is = refl
     by_test false is = is
 
+some_bytes : (bytes : List ℕ) → 0 < length bytes → has_bytes (piece.Bytes bytes) ≡ true
+some_bytes bytes some = ap not (ne_eqb (length bytes) 0 (λ none. omega (arith, some, none)))
+
 -- one more piece of what is left
-pub front_more : (pieces now : List Piece) (bytes left text : List ℕ) (count : ℕ) → now ≡ pieces ++ piece.Bytes bytes ∷ [] → bytes ≡ take count left
+pub front_more : (pieces now : List Piece) (bytes left text : List ℕ) (count : ℕ) → now ≡ pieces ++ piece.Bytes bytes ∷ [] → bytes ≡ take count left → 0 < length bytes
     → AreFront pieces left text → AreFront now (take (length left - count) (drop count left)) text
-front_more pieces now bytes left text count now_is bytes_are front = (
+front_more pieces now bytes left text count now_is bytes_are some front = (
   ap (λ (it : List Piece). text_of it ++ take (length left - count) (drop count left)) now_is
       ∙ ap (λ (rest : List ℕ). text_of (pieces ++ piece.Bytes bytes ∷ []) ++ rest) (take_rest left count)
       ∙ ap (λ (it : List ℕ). it ++ drop count left) (text_of-append pieces (piece.Bytes bytes ∷ []))
@@ -53,7 +56,8 @@ front_more pieces now bytes left text count now_is bytes_are front = (
       ∙ ap (λ (it : List ℕ). text_of pieces ++ it) (take-append-drop count left)
       ∙ front.0,
   ap are_closed now_is ∙ unclosed-more pieces bytes front.1,
-  ap (list_all is_plain) now_is ∙ plain-more pieces (piece.Bytes bytes) front.2 refl,
+  ap (list_all is_plain) now_is ∙ all-more is_plain pieces (piece.Bytes bytes) front.2 refl,
+  ap (list_all has_bytes) now_is ∙ all-more has_bytes pieces (piece.Bytes bytes) front.3 (some_bytes bytes some),
 )
 
 empty : (text : List ℕ) → length text ≡ 0 → text ≡ []
@@ -66,7 +70,8 @@ front_ended pieces now left text now_is none front = record {
   carries = ap text_of now_is ∙ text_of-append pieces (piece.End ∷ []) ∙ ap (λ (it : List ℕ). text_of pieces ++ it) (sym (empty left none)) ∙ front.0;
   ended = ap has_end now_is ∙ has_end-last pieces;
   clean = ap is_clean now_is ∙ clean-more pieces piece.End front.1;
-  plain = ap (list_all is_plain) now_is ∙ plain-more pieces piece.End front.2 refl;
+  plain = ap (list_all is_plain) now_is ∙ all-more is_plain pieces piece.End front.2 refl;
+  sized = ap (list_all has_bytes) now_is ∙ all-more has_bytes pieces piece.End front.3 refl;
 }
 
 module _ (cells : List (Cell NodeKind)) (inputs : ℕ → List ℕ) where

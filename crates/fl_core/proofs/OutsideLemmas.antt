@@ -46,6 +46,7 @@ module _ {Machine : Type 0} (state : Machine → State) (plan : Plan) (wired : I
     queued = λ other. queue other (other == edge) refl;
     clean = reached.clean;
     plain = reached.plain;
+    sized = reached.sized;
     runs = λ other now at.
         subst (λ (pieces : ℕ → List Piece). Run (plan.starts other) (state now) pieces (at_ports (plan.outs other) reached.put))
         (sym (at_ports-elsewhere (plan.ins other) edge first reached.took (wired.to_outside node other edge writes (only_has edge (plan.outs node) is))))

@@ -11,7 +11,7 @@ use Rattle.fl_graph.specs.Runs.{text_of, is_end, has_end, are_closed, add, State
 use Rattle.fl_graph.specs.declared.pieces.Piece.{Piece}
 use Rattle.fl_graph.specs.declared.pieces.Piece.TheVariants as piece
 use Rattle.fl_core.specs.Laws.{is_clean, at_ports}
-use Rattle.fl_core.specs.Steps.{is_plain, waiting_on, SameBut, Took, Gave, Starves}
+use Rattle.fl_core.specs.Steps.{has_bytes, is_plain, waiting_on, SameBut, Took, Gave, Starves}
 use Rattle.fl_core.specs.Runs.{Plan, IsWired, Reached}
 use Rattle.fl_core.proofs.PieceLemmas.{text_of-append}
 use Rattle.fl_core.proofs.PortLemmas.{stands-has, at_ports-stands, at_ports-add, at_ports-elsewhere}
@@ -28,10 +28,10 @@ clean-more (first ∷ next ∷ pieces) last unclosed =
     let parts = or_parts (closes first) (are_closed (next ∷ pieces)) unclosed in
     ap (λ (test : Bool). not test && is_clean (next ∷ pieces ++ last ∷ [])) parts.0 ∙ clean-more (next ∷ pieces) last parts.1
 
-pub plain-more : (pieces : List Piece) (last : Piece) → list_all is_plain pieces ≡ true → is_plain last ≡ true → list_all is_plain (pieces ++ last ∷ []) ≡ true
-plain-more pieces last plain is =
-    list_all-append is_plain pieces (last ∷ [])
-    ∙ and_from (list_all is_plain pieces) (is_plain last && true) plain (and_from (is_plain last) true is refl)
+-- a test that holds of pieces and of one more holds of all
+pub all-more : (test : Piece → Bool) (pieces : List Piece) (last : Piece) → list_all test pieces ≡ true → test last ≡ true → list_all test (pieces ++ last ∷ []) ≡ true
+all-more test pieces last all is =
+    list_all-append test pieces (last ∷ []) ∙ and_from (list_all test pieces) (test last && true) all (and_from (test last) true is refl)
 
 -- a port that is open hasn't been closed
 unclosed_at : (start now closed : Bool) → now ≡ (start && not closed) → now ≡ true → closed ≡ false
@@ -101,6 +101,7 @@ module _ {Machine : Type 0} (state : Machine → State) (plan : Plan) (wired : I
     queued = λ other. queue other (other == edge) refl;
     clean = reached.clean;
     plain = reached.plain;
+    sized = reached.sized;
     runs = λ other now is. run other now is (other == node) refl;
     whole = λ other now is. still other now is (other == node) refl;
     read = reached.read;
@@ -168,6 +169,7 @@ module _ {Machine : Type 0} (state : Machine → State) (plan : Plan) (wired : I
     queued = λ other. queue other (other == edge) refl;
     clean = λ other. tidy other (other == edge) refl;
     plain = λ other. even other (other == edge) refl;
+    sized = λ other. filled other (other == edge) refl;
     runs = λ other now is. run other now is (other == node) refl;
     whole = λ other now is. still other now is (other == node) refl;
     read = λ other into reads is. reached.read other into reads is
@@ -204,8 +206,12 @@ module _ {Machine : Type 0} (state : Machine → State) (plan : Plan) (wired : I
       tidy other false is = reached.clean other
 
       even : (other : ℕ) (here : Bool) → (other == edge) ≡ here → list_all is_plain (if here then reached.put other ++ last ∷ [] else reached.put other) ≡ true
-      even other true is = plain-more (reached.put other) last (reached.plain other) gave.moved.plain
+      even other true is = all-more is_plain (reached.put other) last (reached.plain other) gave.moved.plain
       even other false is = reached.plain other
+
+      filled : (other : ℕ) (here : Bool) → (other == edge) ≡ here → list_all has_bytes (if here then reached.put other ++ last ∷ [] else reached.put other) ≡ true
+      filled other true is = all-more has_bytes (reached.put other) last (reached.sized other) gave.moved.sized
+      filled other false is = reached.sized other
 
       run : (other : ℕ) (now : Machine) → slice_get machines' other ≡ Some now → (here : Bool) → (other == node) ≡ here
           → Run (plan.starts other) (state now) (at_ports (plan.ins other) reached.took) (at_ports (plan.outs other) (add edge last reached.put))
@@ -244,6 +250,7 @@ module _ {Machine : Type 0} (state : Machine → State) (plan : Plan) (wired : I
     pub last : waiting_on wires' edge ≡ waiting_on wires edge ++ piece ∷ []
     pub others : SameBut edge wires wires'
     pub plain : is_plain piece ≡ true
+    pub sized : has_bytes piece ≡ true
     pub bytes : left node ≡ bytes_then (text_of (piece ∷ [])) (left' node)
     pub ended : is_end piece ≡ true → IsEnded (left' node)
     pub elsewhere : (other : ℕ) → (other == node) ≡ false → left' other ≡ left other
@@ -258,6 +265,7 @@ module _ {Machine : Type 0} (state : Machine → State) (plan : Plan) (wired : I
     queued = λ other. queue other (other == edge) refl;
     clean = λ other. tidy other (other == edge) refl;
     plain = λ other. even other (other == edge) refl;
+    sized = λ other. filled other (other == edge) refl;
     runs = λ other now at.
         subst (λ (pieces : ℕ → List Piece). Run (plan.starts other) (state now) (at_ports (plan.ins other) reached.took) pieces)
         (sym (at_ports-elsewhere (plan.outs other) edge last reached.put (wired.from_outside node other edge reads there)))
@@ -302,8 +310,12 @@ module _ {Machine : Type 0} (state : Machine → State) (plan : Plan) (wired : I
       tidy other false same = reached.clean other
 
       even : (other : ℕ) (here : Bool) → (other == edge) ≡ here → list_all is_plain (if here then reached.put other ++ last ∷ [] else reached.put other) ≡ true
-      even other true same = plain-more (reached.put other) last (reached.plain other) came.plain
+      even other true same = all-more is_plain (reached.put other) last (reached.plain other) came.plain
       even other false same = reached.plain other
+
+      filled : (other : ℕ) (here : Bool) → (other == edge) ≡ here → list_all has_bytes (if here then reached.put other ++ last ∷ [] else reached.put other) ≡ true
+      filled other true same = all-more has_bytes (reached.put other) last (reached.sized other) came.sized
+      filled other false same = reached.sized other
 
       -- the in of another node is another edge
       into_differs : (other into : ℕ) → plan.ins other ≡ into ∷ [] → (other == node) ≡ false → (into == edge) ≡ false

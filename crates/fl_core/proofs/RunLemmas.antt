@@ -16,7 +16,7 @@ use Rattle.fl_core.specs.Inputs.{AreWhole, IsLoaded, BeginsOver, RunsOver}
 use Rattle.fl_core.specs.Laws.{is_clean, at_ports}
 use Rattle.fl_core.specs.Plans.{outer_edge, IsNetOf, IsPlanOf}
 use Rattle.fl_core.specs.Runs.{Plan, Follows, IsWired, Reached}
-use Rattle.fl_core.specs.Steps.{is_plain, waiting_on}
+use Rattle.fl_core.specs.Steps.{has_bytes, is_plain, waiting_on}
 use Rattle.fl_core.specs.declared.nets.Ports.{Ports}
 use Rattle.fl_core.proofs.BroughtLemmas.{closed_by_end}
 use Rattle.fl_core.proofs.PlanLemmas.{source_at, source_edge}
@@ -86,6 +86,10 @@ module _ {Machine : Type 0} (state : Machine → State) (cells : List (Cell Node
   waiting_plain edge (Nothing none) = ap (list_all is_plain) none
   waiting_plain edge (Whole text whole) = whole.plain
 
+  waiting_sized : (edge : ℕ) → Waits edge → list_all has_bytes (waiting_on wires edge) ≡ true
+  waiting_sized edge (Nothing none) = ap (list_all has_bytes) none
+  waiting_sized edge (Whole text whole) = whole.sized
+
   -- no node gave what waits
   none_given : (node edge : ℕ) → has edge (plan.outs node) ≡ true → [] ≡ waiting_on wires edge
   none_given node edge there = sym (begins.loaded.none edge (λ source cell at_source is same.
@@ -111,6 +115,7 @@ module _ {Machine : Type 0} (state : Machine → State) (cells : List (Cell Node
     queued = λ edge. refl;
     clean = λ edge. waiting_clean edge (waits edge);
     plain = λ edge. waiting_plain edge (waits edge);
+    sized = λ edge. waiting_sized edge (waits edge);
     runs = λ node machine at_machine.
         subst (λ (put : ℕ → List Piece). Run (plan.starts node) (state machine) (at_ports (plan.ins node) (λ (_ : ℕ). [])) put)
         (fun_ext (λ (port : ℕ). at_ports-same (plan.outs node) (λ (_ : ℕ). []) (waiting_on wires) (none_given node) port))

@@ -189,6 +189,7 @@ module _ {Machine : Type 0} (state : Machine → State) (cells : List (Cell Node
     queued = λ edge. sym (net.none_waits edge);
     clean = λ edge. refl;
     plain = λ edge. refl;
+    sized = λ edge. refl;
     runs = start_runs;
     whole = start_whole;
     read = λ node edge reads is. sym (bytes_then-nil (left node));

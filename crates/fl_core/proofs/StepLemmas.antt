@@ -9,7 +9,7 @@ use Rattle.fl_graph.specs.declared.pieces.Act.TheVariants as act
 use Rattle.fl_graph.specs.declared.pieces.Piece.{Piece}
 use Rattle.fl_graph.specs.declared.pieces.Piece.TheVariants as piece
 use Rattle.fl_graph.proofs.StateLemmas.{Run-take, Run-put}
-use Rattle.fl_core.specs.Steps.{is_plain, TookFirst, GaveLast}
+use Rattle.fl_core.specs.Steps.{has_bytes, is_plain, TookFirst, GaveLast}
 
 -- a plain piece is no break
 plain_whole : (first : Piece) → is_plain first ≡ true → is_broken first ≡ false
@@ -60,20 +60,21 @@ opened_put : (takes puts : ℕ → Bool) (next : Act) (port : ℕ) → next ≡ 
 opened_put takes puts next port turn may = subst (λ (it : Act). MayDo takes puts it) turn may
 
 pub gave_last : (was now : State) (next : Act) (port : ℕ) (last : Piece) (wire wire' : List Piece)
-    → next ≡ act.Put port → was.broken ≡ false → MayDo was.takes was.puts next → wire' ≡ wire ++ last ∷ []
+    → next ≡ act.Put port → was.broken ≡ false → MayDo was.takes was.puts next → has_bytes last ≡ true → wire' ≡ wire ++ last ∷ []
     → ((other : ℕ) → now.takes other ≡ was.takes other)
     → ((other : ℕ) → now.puts other ≡ shut_by (closes last) (port_put next) was.puts other)
     → DidPut was.due now.due was.broken (port_put next) last
     → ((texts : ℕ → List ℕ) → now.selects texts ≡ was.selects texts)
     → now.broken ≡ was.broken
     → GaveLast was now port wire wire'
-gave_last was now next port last wire wire' turn whole may is takes puts did selects broken =
+gave_last was now next port last wire wire' turn whole may sized is takes puts did selects broken =
     let here : port_put next ≡ port = ap port_put turn in
     let did_here : DidPut was.due now.due was.broken port last = subst (λ (at : ℕ). DidPut was.due now.due was.broken at last) here did in
     record {
       piece = last;
       last = is;
       plain = put_plain was.due now.due was.broken port last whole did_here;
+      sized = sized;
       runs = λ start taken put run. Run-put start was now taken put run port last
           (record {
             opened = opened_put was.takes was.puts next port turn may;

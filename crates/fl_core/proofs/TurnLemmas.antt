@@ -7,7 +7,7 @@ use mathlib.Core.Path.{fun_ext}
 use Rattle.ps_world.specs.Told.{bytes_then, then_bytes, GrewByPrefix, IsEnded}
 use Rattle.fl_graph.specs.Runs.{text_of, is_end, State}
 use Rattle.fl_graph.specs.declared.pieces.Piece.{Piece}
-use Rattle.fl_core.specs.Steps.{is_plain, waiting_on, SameBut, Starves, WentFrom}
+use Rattle.fl_core.specs.Steps.{has_bytes, is_plain, waiting_on, SameBut, Starves, WentFrom}
 use Rattle.fl_core.specs.Runs.{Plan, IsWired, Follows, Reached, Halted, Leads, Halts, Goes, HasEnds}
 use Rattle.fl_core.specs.declared.nets.Ports.{Ports}
 use Rattle.fl_core.proofs.ReachLemmas.{reached_came}
@@ -28,10 +28,10 @@ module _ {Machine : Type 0} (state : Machine → State) (ports : List Ports) (ma
   -- a piece was read
   pub read_leads : (machine : Machine) (piece : Piece) → slice_get machines node ≡ Some machine → own.reads ≡ true → Starves (state machine) own.ins.items wires
       → get_or own.ins.items 0 0 < length wires
-      → is_plain piece ≡ true → left node ≡ bytes_then (text_of (piece ∷ [])) (left' node) → (is_end piece ≡ true → IsEnded (left' node))
+      → is_plain piece ≡ true → has_bytes piece ≡ true → left node ≡ bytes_then (text_of (piece ∷ [])) (left' node) → (is_end piece ≡ true → IsEnded (left' node))
       → ((other : ℕ) → (other == node) ≡ false → left' other ≡ left other) → ((other : ℕ) → taken' other ≡ taken other)
       → Leads state ports machines machines wires (slice_set wires (get_or own.ins.items 0 0) (waiting_on wires (get_or own.ins.items 0 0) ++ piece ∷ [])) left left' taken taken'
-  read_leads machine piece at reads starves within plain bytes ended elsewhere same plan wired follows reached =
+  read_leads machine piece at reads starves within plain sized bytes ended elsewhere same plan wired follows reached =
       let reading = follows.reads node own at_own ∙ reads in
       let ins = follows.ins node own at_own in
       let one = wired.one_in node reading in
@@ -46,6 +46,7 @@ module _ {Machine : Type 0} (state : Machine → State) (ports : List Ports) (ma
         last = set_there wires (get_or own.ins.items 0 0) (waiting_on wires (get_or own.ins.items 0 0) ++ piece ∷ []) within;
         others = set_others wires (get_or own.ins.items 0 0) (waiting_on wires (get_or own.ins.items 0 0) ++ piece ∷ []);
         plain = plain;
+        sized = sized;
         bytes = bytes;
         ended = ended;
         elsewhere = elsewhere;
@@ -106,16 +107,16 @@ module _ {Machine : Type 0} (state : Machine → State) (ports : List Ports) (ma
   same_own own at_own = cc
 
   pub read_leads_at : (wire wire' : List Piece) (piece : Piece) → edge ≡ get_or found.ins.items 0 0 → wire ≡ waiting_on wires edge → wire' ≡ wire ++ piece ∷ []
-      → is_plain piece ≡ true → left node ≡ bytes_then (text_of (piece ∷ [])) (left' node) → (is_end piece ≡ true → IsEnded (left' node))
+      → is_plain piece ≡ true → has_bytes piece ≡ true → left node ≡ bytes_then (text_of (piece ∷ [])) (left' node) → (is_end piece ≡ true → IsEnded (left' node))
       → ((other : ℕ) → (other == node) ≡ false → left' other ≡ left other) → ((other : ℕ) → taken' other ≡ taken other)
       → (own : Ports) (machine : Machine) → slice_get ports node ≡ Some own → slice_get machines node ≡ Some machine → own.reads ≡ true → Starves (state machine) own.ins.items wires
       → Leads state ports machines machines wires (slice_set wires edge wire') left left' taken taken'
-  read_leads_at wire wire' piece edge_is wire_is more plain bytes ended elsewhere same own machine at_own at reads starves =
+  read_leads_at wire wire' piece edge_is wire_is more plain sized bytes ended elsewhere same own machine at_own at reads starves =
       let edge_here : edge ≡ get_or own.ins.items 0 0 = edge_is ∙ ap (λ (it : Ports). get_or it.ins.items 0 0) (same_own own at_own) in
       subst (λ (pieces : List Piece). Leads state ports machines machines wires (slice_set wires edge pieces) left left' taken taken') (sym (more ∙ ap (λ (pieces : List Piece). pieces ++ piece ∷ []) wire_is))
       (subst (λ (it : ℕ). Leads state ports machines machines wires (slice_set wires it (waiting_on wires it ++ piece ∷ [])) left left' taken taken') (sym edge_here)
       (read_leads state ports machines wires left left' taken taken' node own at_own machine piece at reads starves
-      (subst (λ (it : ℕ). it < length wires) edge_here within) plain bytes ended elsewhere same))
+      (subst (λ (it : ℕ). it < length wires) edge_here within) plain sized bytes ended elsewhere same))
 
   pub write_leads_at : (wire : List Piece) (piece : Piece) (rest : List Piece) → edge ≡ get_or found.outs.items 0 0 → wire ≡ waiting_on wires edge → wire ≡ piece ∷ rest
       → ((other : ℕ) → (other == node) ≡ false → taken' other ≡ taken other)

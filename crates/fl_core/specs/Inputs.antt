@@ -10,7 +10,7 @@ use Rattle.fl_classes.specs.Flow.{is_source}
 use Rattle.fl_core.specs.Laws.{is_clean}
 use Rattle.fl_core.specs.Plans.{outer_edge, IsNetOf, IsPlanOf}
 use Rattle.fl_core.specs.Runs.{Goes}
-use Rattle.fl_core.specs.Steps.{is_plain, waiting_on}
+use Rattle.fl_core.specs.Steps.{has_bytes, is_plain, waiting_on}
 use Rattle.fl_core.specs.declared.nets.Ports.{Ports}
 
 -- the text of a node among texts by node number: the first of that number, and where there is none the empty text
@@ -24,6 +24,7 @@ pub record AreWhole (pieces : List Piece) (text : List ℕ) : Type 0 where
   pub ended : has_end pieces ≡ true
   pub clean : is_clean pieces ≡ true
   pub plain : list_all is_plain pieces ≡ true
+  pub sized : list_all has_bytes pieces ≡ true
 
 -- each source's text waits on its edge from outside, and nothing elsewhere
 pub record IsLoaded (cells : List (Cell NodeKind)) (inputs : ℕ → List ℕ) (wires : List (List Piece)) : Type 0 where

@@ -6,7 +6,7 @@ use Rattle.fl_graph.specs.Net.{has, count}
 use Rattle.fl_graph.specs.Runs.{text_of, has_end, State, Run}
 use Rattle.fl_graph.specs.declared.pieces.Piece.{Piece}
 use Rattle.fl_core.specs.Laws.{is_clean, at_ports, Keeps}
-use Rattle.fl_core.specs.Steps.{is_plain, waiting_on}
+use Rattle.fl_core.specs.Steps.{has_bytes, is_plain, waiting_on}
 use Rattle.fl_core.specs.declared.nets.Ports.{Ports}
 
 -- what stays as it is while a network runs: the edges of each node, the machines' beginnings, and what the ends held then
@@ -51,6 +51,7 @@ module _ {Machine : Type 0} (state : Machine → State) where
     pub queued : (edge : ℕ) → put edge ≡ took edge ++ waiting_on wires edge
     pub clean : (edge : ℕ) → is_clean (put edge) ≡ true
     pub plain : (edge : ℕ) → list_all is_plain (put edge) ≡ true
+    pub sized : (edge : ℕ) → list_all has_bytes (put edge) ≡ true
     pub runs : (node : ℕ) (machine : Machine) → slice_get machines node ≡ Some machine
         → Run (plan.starts node) (state machine) (at_ports (plan.ins node) took) (at_ports (plan.outs node) put)
     pub whole : (node : ℕ) (machine : Machine) → slice_get machines node ≡ Some machine → (state machine).broken ≡ false

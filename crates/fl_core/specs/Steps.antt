@@ -7,12 +7,20 @@ use Rattle.fl_graph.specs.Runs.{add, State, Run}
 use Rattle.fl_graph.specs.declared.pieces.Act.{Act}
 use Rattle.fl_graph.specs.declared.pieces.Act.TheVariants as act
 use Rattle.fl_graph.specs.declared.pieces.Piece.{Piece}
+use Rattle.fl_graph.specs.declared.pieces.Piece.TheVariants as piece
 use Rattle.fl_core.specs.declared.steps.Progress.{Progress}
 use Rattle.fl_core.specs.declared.steps.Progress.TheVariants as progress
 
 -- bytes or an end
 abbrev pub is_plain : Piece → Bool
 is_plain piece = not (is_broken piece || is_mark piece)
+
+-- a piece of bytes has one at least
+abbrev pub has_bytes : Piece → Bool
+has_bytes (piece.Bytes bytes) = not (length bytes == 0)
+has_bytes piece.Mark = true
+has_bytes piece.End = true
+has_bytes piece.Broken = true
 
 abbrev pub is_empty : List Piece → Bool
 is_empty [] = true
@@ -30,6 +38,7 @@ pub record GaveLast (was now : State) (port : ℕ) (wire wire' : List Piece) : T
   pub piece : Piece
   pub last : wire' ≡ wire ++ piece ∷ []
   pub plain : is_plain piece ≡ true
+  pub sized : has_bytes piece ≡ true
   pub runs : (start : State) (taken put : ℕ → List Piece) → Run start was taken put → Run start now taken (add port piece put)
   pub broken : now.broken ≡ was.broken
 

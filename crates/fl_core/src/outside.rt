@@ -4,7 +4,7 @@ ghost use Rattle.ps_world.specs.Told.{bytes_then, then_bytes, GrewByPrefix, IsEn
 ghost use Rattle.fl_graph.specs.Runs.{is_end, text_of};
 ghost use Rattle.fl_graph.specs.declared.pieces.TheConstants.{MAX_PIECE};
 ghost use Rattle.fl_core.specs.Causes.{Causes};
-ghost use Rattle.fl_core.specs.Steps.{is_plain};
+ghost use Rattle.fl_core.specs.Steps.{has_bytes, is_plain};
 
 use crate::ends::NodeEnds;
 use fl_graph::{Bytes, MAX_PIECE, Piece};
@@ -41,6 +41,7 @@ pub(crate) fn read_piece<E: NodeEnds>(
     requires reads { E.reads ends.old node ≡ true }
     requires room { (0 < length buffer.old) × (length buffer.old ≤ MAX_PIECE) }
     ensures plain { IfOk result (λ piece. is_plain piece ≡ true) }
+    ensures sized { IfOk result (λ piece. has_bytes piece ≡ true) }
     ensures bytes { IfOk result (λ piece. E.left ends.old node ≡ bytes_then (text_of (piece ∷ [])) (E.left ends.new node)) }
     ensures ended { IfOk result (λ piece. is_end piece ≡ true → IsEnded (E.left ends.new node)) }
     ensures left { (other : ℕ) → (other == node) ≡ false → E.left ends.new other ≡ E.left ends.old other }

@@ -3,10 +3,10 @@ ghost use Rattle.std.specs.Prelude.{◌≡◌, ℕ, true, false, [], if◌then�
 ghost use Rattle.std.specs.List.{list_all};
 ghost use Rattle.fl_graph.specs.Machines.{MayDo};
 ghost use Rattle.fl_graph.specs.Runs.{State};
-ghost use Rattle.fl_core.specs.Steps.{is_empty, is_full, is_plain, progress_at, room_on as room_on_lem, has_moved as has_moved_lem, ArePlain, Fits, Gave, GaveLast, Starves, Took, TookFirst};
+ghost use Rattle.fl_core.specs.Steps.{has_bytes, is_empty, is_full, is_plain, progress_at, room_on as room_on_lem, has_moved as has_moved_lem, ArePlain, Fits, Gave, GaveLast, Starves, Took, TookFirst};
 
 use crate::wires::Wire;
-use fl_graph::{Act, Machine};
+use fl_graph::{Act, Machine, Piece};
 use ps_lines::Memory;
 
 /// What came of a step.
@@ -141,8 +141,18 @@ fn give_last<M: Machine>(
         Ok(piece) => piece,
         Err(memory) => return Err(memory),
     };
+    show_bytes(&piece);
     match wire.push(piece) {
         Ok(()) => Ok(Progress::Gave),
         Err(memory) => Err(memory),
+    }
+}
+
+/// Does nothing: a piece of bytes has one at least, since its type says so.
+fn show_bytes(piece: &Piece)
+    ensures { has_bytes piece.now ≡ true }
+{
+    if let Piece::Bytes(bytes) = piece {
+        let _ = bytes.as_slice();
     }
 }

@@ -6,7 +6,7 @@ use Rattle.fl_core.proofs.inputs.fill.Goals as goal
 pub loop-left-preserved : goal.loop-left-preserved
 loop-left-preserved c =
     front_more c.loop-left.wire c.push.new.self c.in_ok-bytes.bytes.items c.loop-left.left.now c.args.text.now c.min-count.result
-    (search rules) (search rules) c.loop-left.invariant
+    (search rules) (search rules) (search rules) c.loop-left.invariant
 
 pub returns : goal.returns
 returns c = on_ok_map c.push-2.result c.push-2.ensures.ok (λ pushed.

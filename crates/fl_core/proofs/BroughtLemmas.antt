@@ -51,7 +51,7 @@ only_port sole (suc port) edge at = absurd (cc)
 module _ {Machine : Type 0} (state : Machine → State) (ports : List Ports) (machines machines' : List Machine) (given new : List (List Piece)) (node : ℕ) (machine machine' : Machine)
     (own : Ports) (at : slice_get machines node ≡ Some machine) (at_own : slice_get ports node ≡ Some own) (set : machines' ≡ slice_set machines node machine')
     (ins outs : List ℕ) (ins_are : ins ≡ own.ins.items) (outs_are : outs ≡ own.outs.items) where
-  module _ (cells : List (Cell NodeKind)) (inputs : ℕ → List ℕ) (runs : RunsOver state cells inputs ports machines given) where
+  module _ (cells : List (Cell NodeKind)) (inputs : ℕ → List ℕ) (moves : ℕ) (runs : RunsOver state cells inputs moves ports machines given) where
     whole : (state machine).broken ≡ false
     whole = runs.goes.reached.whole node machine at
 
@@ -140,17 +140,17 @@ module _ {Machine : Type 0} (state : Machine → State) (ports : List Ports) (ma
       → (result ≡ Ok progress.Took → Took (state machine) (state machine') ins given new)
       → (result ≡ Ok progress.Gave → Gave (state machine) (state machine') outs given new)
       → IfOk result (λ step. has_moved step ≡ false → (machine' ≡ machine) × (new ≡ given))
-      → IfOk result (λ _. (cells : List (Cell NodeKind)) (inputs : ℕ → List ℕ) → RunsOver state cells inputs ports machines given → AreBrought state cells machines' new)
-  step_brings (Ok progress.Took) took gave same = λ cells inputs runs source cell found at_cell at_found is opened.
-      took_brings cells inputs runs source cell found at_cell at_found is opened (took refl)
-  step_brings (Ok progress.Gave) took gave same = λ cells inputs runs source cell found at_cell at_found is opened.
-      gave_brings cells inputs runs source cell found at_cell at_found is opened (gave refl)
-  step_brings (Ok progress.Starves) took gave same = λ cells inputs runs source cell found at_cell at_found is opened.
-      same_brings cells inputs runs source cell found at_cell at_found is opened (same refl)
-  step_brings (Ok progress.Waits) took gave same = λ cells inputs runs source cell found at_cell at_found is opened.
-      same_brings cells inputs runs source cell found at_cell at_found is opened (same refl)
-  step_brings (Ok progress.Ended) took gave same = λ cells inputs runs source cell found at_cell at_found is opened.
-      same_brings cells inputs runs source cell found at_cell at_found is opened (same refl)
+      → IfOk result (λ _. (cells : List (Cell NodeKind)) (inputs : ℕ → List ℕ) (moves : ℕ) → RunsOver state cells inputs moves ports machines given → AreBrought state cells machines' new)
+  step_brings (Ok progress.Took) took gave same = λ cells inputs moves runs source cell found at_cell at_found is opened.
+      took_brings cells inputs moves runs source cell found at_cell at_found is opened (took refl)
+  step_brings (Ok progress.Gave) took gave same = λ cells inputs moves runs source cell found at_cell at_found is opened.
+      gave_brings cells inputs moves runs source cell found at_cell at_found is opened (gave refl)
+  step_brings (Ok progress.Starves) took gave same = λ cells inputs moves runs source cell found at_cell at_found is opened.
+      same_brings cells inputs moves runs source cell found at_cell at_found is opened (same refl)
+  step_brings (Ok progress.Waits) took gave same = λ cells inputs moves runs source cell found at_cell at_found is opened.
+      same_brings cells inputs moves runs source cell found at_cell at_found is opened (same refl)
+  step_brings (Ok progress.Ended) took gave same = λ cells inputs moves runs source cell found at_cell at_found is opened.
+      same_brings cells inputs moves runs source cell found at_cell at_found is opened (same refl)
   step_brings (Err memory) took gave same = tt
 
   -- the same where a step was made over the wires' slice
@@ -158,8 +158,8 @@ module _ {Machine : Type 0} (state : Machine → State) (ports : List Ports) (ma
       → (result ≡ Ok progress.Took → Took (state machine) (state machine') ins given new)
       → (result ≡ Ok progress.Gave → Gave (state machine) (state machine') outs given new)
       → IfOk result (λ step. has_moved step ≡ false → (machine' ≡ machine) × (new ≡ given))
-      → IfOk result (λ _. (cells : List (Cell NodeKind)) (inputs : ℕ → List ℕ) → RunsOver state cells inputs ports machines wires → AreBrought state cells machines' wires')
+      → IfOk result (λ _. (cells : List (Cell NodeKind)) (inputs : ℕ → List ℕ) (moves : ℕ) → RunsOver state cells inputs moves ports machines wires → AreBrought state cells machines' wires')
   slice_brings wires wires' old_is new_is result took gave same =
-      subst (λ (it : List (List Piece)). IfOk result (λ _. (cells : List (Cell NodeKind)) (inputs : ℕ → List ℕ) → RunsOver state cells inputs ports machines it → AreBrought state cells machines' wires')) old_is
-      (subst (λ (it : List (List Piece)). IfOk result (λ _. (cells : List (Cell NodeKind)) (inputs : ℕ → List ℕ) → RunsOver state cells inputs ports machines given → AreBrought state cells machines' it)) (sym new_is)
+      subst (λ (it : List (List Piece)). IfOk result (λ _. (cells : List (Cell NodeKind)) (inputs : ℕ → List ℕ) (moves : ℕ) → RunsOver state cells inputs moves ports machines it → AreBrought state cells machines' wires')) old_is
+      (subst (λ (it : List (List Piece)). IfOk result (λ _. (cells : List (Cell NodeKind)) (inputs : ℕ → List ℕ) (moves : ℕ) → RunsOver state cells inputs moves ports machines given → AreBrought state cells machines' it)) (sym new_is)
       (step_brings result took gave same))

@@ -100,10 +100,10 @@ module _ (due : (ℕ → List ℕ) → ℕ → List ℕ) (took put waiting : ℕ
       }
 
 -- a node and the number of sources before it stand where the node stands
-abbrev unplaced : Cell Placed → Cell NodeKind
+abbrev pub unplaced : Cell Placed → Cell NodeKind
 unplaced cell = record { kind = cell.kind.1; ins = cell.ins; outs = cell.outs; stage = cell.stage }
 
-at_unplaced : (number : ℕ) (cells : List (Cell NodeKind)) (node : ℕ) (cell : Cell Placed) → slice_get (placed_from number cells) node ≡ Some cell
+pub at_unplaced : (number : ℕ) (cells : List (Cell NodeKind)) (node : ℕ) (cell : Cell Placed) → slice_get (placed_from number cells) node ≡ Some cell
     → slice_get cells node ≡ Some (unplaced cell)
 at_unplaced number [] node cell at_node = absurd (cc)
 at_unplaced number (first ∷ cells) zero cell at_node = ap (λ (found : Option (Cell Placed)). elim found as (λ it. Option (Cell NodeKind)) [ Some it ↦ Some (unplaced it) | None ↦ None ]) at_node

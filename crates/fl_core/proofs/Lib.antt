@@ -3,6 +3,7 @@ pub mod PieceLemmas
 pub mod PlacedLemmas
 pub mod PortLemmas
 pub mod LawLemmas
+pub mod SumLemmas
 pub mod ReachLemmas
 pub mod OutsideLemmas
 pub mod NetLemmas
@@ -21,6 +22,7 @@ pub mod LoadLemmas
 pub mod RunLemmas
 pub mod BroughtLemmas
 pub mod OuterLemmas
+pub mod MoveLemmas
 pub mod GraphNetLemmas
 pub mod EngineLemmas
 pub mod RoleLemmas

@@ -1,20 +1,22 @@
 -- A network's step goes on with its run.
-use Rattle.std.proofs.Common.{◌≡◌, ℕ, zero, suc, ◌==◌, List, [], ◌∷◌, ◌++◌, Bool, true, false, not, ◌&&◌, length, slice_get, slice_set, Option, Some, Result, Ok, Err, IfOk, refl, ap, sym, subst, ◌∙◌, arith, take, drop, append-nil}
+use Rattle.std.proofs.Common.{◌≡◌, ℕ, zero, suc, ◌==◌, List, [], ◌∷◌, ◌++◌, Bool, true, false, not, ◌&&◌, if◌then◌else◌, length, slice_get, slice_set, Option, Some, Result, Ok, Err, IfOk, refl, ap, sym, subst, ◌∙◌, arith, take, drop, append-nil}
 use Rattle.std.specs.List.{list_all}
 use Rattle.std.proofs.lemmas.Bool.{true≢false, and_parts}
 use Rattle.std.proofs.lemmas.List.Folds.{list_all-append}
+use Rattle.std.proofs.lemmas.Option.{slice_get_within}
 use Rattle.std.proofs.Math.Dec.{eqb-suc-suc}
 use Rattle.ps_lines.specs.declared.memory.Memory.{Memory}
 use Rattle.fl_graph.specs.Net.{has}
 use Rattle.fl_graph.specs.Runs.{State}
 use Rattle.fl_graph.specs.declared.pieces.Piece.{Piece}
 use Rattle.fl_core.specs.Steps.{is_plain, waiting_on, has_moved, ArePlain, Fits, Took, TookFrom, Gave, GaveTo, Starves}
-use Rattle.fl_core.specs.Runs.{Reached, Leads, Goes}
+use Rattle.fl_core.specs.Moves.{moves_of}
+use Rattle.fl_core.specs.Runs.{Plan, IsWired, Follows, Reached, Leads, Goes}
 use Rattle.fl_core.specs.declared.nets.Ports.{Ports}
 use Rattle.fl_core.specs.declared.steps.Progress.{Progress}
 use Rattle.fl_core.specs.declared.steps.Progress.TheVariants as progress
 use Rattle.fl_core.proofs.PortLemmas.{stands-has}
-use Rattle.fl_core.proofs.ReachLemmas.{Replaced, reached_took, reached_gave}
+use Rattle.fl_core.proofs.ReachLemmas.{Replaced, gave_moves, reached_gave, reached_took, took_moves}
 
 module _ {X : Type 0} where
   set_here : (items : List X) (place : ℕ) (item now : X) → slice_get (slice_set items place item) place ≡ Some now → now ≡ item
@@ -42,34 +44,66 @@ module _ {X : Type 0} where
   }
 
 module _ {Machine : Type 0} (state : Machine → State) (ports : List Ports) where
-  -- a step that changes nothing
-  stays : (machines machines' : List Machine) (wires wires' : List (List Piece)) (left taken : ℕ → Option (List ℕ)) → machines' ≡ machines → wires' ≡ wires
-      → Leads state ports machines machines' wires wires' left left taken taken
-  stays machines machines' wires wires' left taken same_machines same_wires plan wired follows reached =
-      subst (λ (it : List Machine). Reached state plan it wires' left taken) (sym same_machines)
-      (subst (λ (it : List (List Piece)). Reached state plan machines it left taken) (sym same_wires) reached)
+  -- a run goes on from one point to the other, by one move more where the step has moved a piece
+  pub record GoesOn (step : Progress) (plan : Plan) (machines machines' : List Machine) (wires wires' : List (List Piece)) (left taken : ℕ → Option (List ℕ))
+      (reached : Reached state plan machines wires left taken) : Type 0 where
+    pub after : Reached state plan machines' wires' left taken
+    pub moves : moves_of plan (length machines) after.took after.put
+        ≡ (if has_moved step then suc (moves_of plan (length machines) reached.took reached.put) else moves_of plan (length machines) reached.took reached.put)
 
-  pub step_leads : (machines machines' : List Machine) (wires wires' : List (List Piece)) (node : ℕ) (machine machine' : Machine) (own : Ports) (result : Result Progress Memory)
+  -- so it does from whatever was taken and put
+  abbrev pub LeadsBy : Progress → List Machine → List Machine → List (List Piece) → List (List Piece) → Type 0
+  LeadsBy step machines machines' wires wires' =
+      (left taken : ℕ → Option (List ℕ)) (plan : Plan) → IsWired plan → Follows plan ports (length wires) → (reached : Reached state plan machines wires left taken)
+      → GoesOn step plan machines machines' wires wires' left taken reached
+
+  -- and so it has come there
+  pub leads_of : (machines machines' : List Machine) (wires wires' : List (List Piece)) (result : Result Progress Memory)
+      → IfOk result (λ step. LeadsBy step machines machines' wires wires')
+      → IfOk result (λ _. (left taken : ℕ → Option (List ℕ)) → Leads state ports machines machines' wires wires' left left taken taken)
+  leads_of machines machines' wires wires' (Ok step) on = λ left taken plan wired follows reached. (on left taken plan wired follows reached).after
+  leads_of machines machines' wires wires' (Err memory) on = tt
+
+  -- a step that changes nothing
+  stays : (step : Progress) (machines machines' : List Machine) (wires wires' : List (List Piece)) → has_moved step ≡ false → machines' ≡ machines → wires' ≡ wires
+      → LeadsBy step machines machines' wires wires'
+  stays step machines machines' wires wires' rests same_machines same_wires left taken plan wired follows reached =
+      subst (λ (it : List Machine). GoesOn step plan machines it wires wires' left taken reached) (sym same_machines)
+      (subst (λ (it : List (List Piece)). GoesOn step plan machines machines wires it left taken reached) (sym same_wires)
+      (record {
+        after = reached;
+        moves = ap (λ (moved : Bool). if moved then suc (moves_of plan (length machines) reached.took reached.put) else moves_of plan (length machines) reached.took reached.put) (sym rests);
+      }))
+
+  step_leads : (machines machines' : List Machine) (wires wires' : List (List Piece)) (node : ℕ) (machine machine' : Machine) (own : Ports) (result : Result Progress Memory)
       → slice_get machines node ≡ Some machine → slice_get ports node ≡ Some own → machines' ≡ slice_set machines node machine'
       → (result ≡ Ok progress.Took → Took (state machine) (state machine') own.ins.items wires wires')
       → (result ≡ Ok progress.Gave → Gave (state machine) (state machine') own.outs.items wires wires')
       → IfOk result (λ step. has_moved step ≡ false → (machine' ≡ machine) × (wires' ≡ wires))
-      → IfOk result (λ _. (left taken : ℕ → Option (List ℕ)) → Leads state ports machines machines' wires wires' left left taken taken)
+      → IfOk result (λ step. LeadsBy step machines machines' wires wires')
   step_leads machines machines' wires wires' node machine machine' own (Ok progress.Took) at at_own set took gave same = λ left taken plan wired follows reached.
-      reached_took state plan wired machines machines' wires wires' left taken node machine machine' (replaced_by machines machines' node machine machine' at set)
-      (subst (λ (ins : List ℕ). Took (state machine) (state machine') ins wires wires') (sym (follows.ins node own at_own)) (took refl)) reached
+      let replaced = replaced_by machines machines' node machine machine' at set in
+      let here = subst (λ (ins : List ℕ). Took (state machine) (state machine') ins wires wires') (sym (follows.ins node own at_own)) (took refl) in
+      record {
+        after = reached_took state plan wired machines machines' wires wires' left taken node machine machine' replaced here reached;
+        moves = took_moves state plan wired machines machines' wires wires' left taken node machine machine' replaced here reached (length machines) (slice_get_within machines node machine at);
+      }
   step_leads machines machines' wires wires' node machine machine' own (Ok progress.Gave) at at_own set took gave same = λ left taken plan wired follows reached.
-      reached_gave state plan wired machines machines' wires wires' left taken node machine machine' (replaced_by machines machines' node machine machine' at set)
-      (subst (λ (outs : List ℕ). Gave (state machine) (state machine') outs wires wires') (sym (follows.outs node own at_own)) (gave refl)) reached
-  step_leads machines machines' wires wires' node machine machine' own (Ok progress.Starves) at at_own set took gave same = λ left taken.
+      let replaced = replaced_by machines machines' node machine machine' at set in
+      let here = subst (λ (outs : List ℕ). Gave (state machine) (state machine') outs wires wires') (sym (follows.outs node own at_own)) (gave refl) in
+      record {
+        after = reached_gave state plan wired machines machines' wires wires' left taken node machine machine' replaced here reached;
+        moves = gave_moves state plan wired machines machines' wires wires' left taken node machine machine' replaced here reached (length machines) (slice_get_within machines node machine at);
+      }
+  step_leads machines machines' wires wires' node machine machine' own (Ok progress.Starves) at at_own set took gave same =
       let as_before = same refl in
-      stays machines machines' wires wires' left taken (set ∙ ap (slice_set machines node) as_before.0 ∙ set_same machines node machine at) as_before.1
-  step_leads machines machines' wires wires' node machine machine' own (Ok progress.Waits) at at_own set took gave same = λ left taken.
+      stays progress.Starves machines machines' wires wires' refl (set ∙ ap (slice_set machines node) as_before.0 ∙ set_same machines node machine at) as_before.1
+  step_leads machines machines' wires wires' node machine machine' own (Ok progress.Waits) at at_own set took gave same =
       let as_before = same refl in
-      stays machines machines' wires wires' left taken (set ∙ ap (slice_set machines node) as_before.0 ∙ set_same machines node machine at) as_before.1
-  step_leads machines machines' wires wires' node machine machine' own (Ok progress.Ended) at at_own set took gave same = λ left taken.
+      stays progress.Waits machines machines' wires wires' refl (set ∙ ap (slice_set machines node) as_before.0 ∙ set_same machines node machine at) as_before.1
+  step_leads machines machines' wires wires' node machine machine' own (Ok progress.Ended) at at_own set took gave same =
       let as_before = same refl in
-      stays machines machines' wires wires' left taken (set ∙ ap (slice_set machines node) as_before.0 ∙ set_same machines node machine at) as_before.1
+      stays progress.Ended machines machines' wires wires' refl (set ∙ ap (slice_set machines node) as_before.0 ∙ set_same machines node machine at) as_before.1
   step_leads machines machines' wires wires' node machine machine' own (Err memory) at at_own set took gave same = tt
 
   pub slice_starves : (machines : List Machine) (wires' new : List (List Piece)) (node : ℕ) (machine' : Machine) (own : Ports) (result : Result Progress Memory)
@@ -90,10 +124,10 @@ module _ {Machine : Type 0} (state : Machine → State) (ports : List Ports) whe
       → (result ≡ Ok progress.Took → Took (state machine) (state machine') own.ins.items given new)
       → (result ≡ Ok progress.Gave → Gave (state machine) (state machine') own.outs.items given new)
       → IfOk result (λ step. has_moved step ≡ false → (machine' ≡ machine) × (new ≡ given))
-      → IfOk result (λ _. (left taken : ℕ → Option (List ℕ)) → Leads state ports machines machines' wires wires' left left taken taken)
+      → IfOk result (λ step. LeadsBy step machines machines' wires wires')
   slice_step_leads machines machines' wires wires' given new node machine machine' own result at at_own set old_is new_is took gave same =
-      subst (λ (it : List (List Piece)). IfOk result (λ _. (left taken : ℕ → Option (List ℕ)) → Leads state ports machines machines' wires it left left taken taken)) (sym new_is)
-      (subst (λ (it : List (List Piece)). IfOk result (λ _. (left taken : ℕ → Option (List ℕ)) → Leads state ports machines machines' it new left left taken taken)) old_is
+      subst (λ (it : List (List Piece)). IfOk result (λ step. LeadsBy step machines machines' wires it)) (sym new_is)
+      (subst (λ (it : List (List Piece)). IfOk result (λ step. LeadsBy step machines machines' it new)) old_is
       (step_leads machines machines' given new node machine machine' own result at at_own set took gave same))
 
 -- which edge a piece went from, and which one came to

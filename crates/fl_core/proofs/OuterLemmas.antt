@@ -1,5 +1,5 @@
 -- What waits for the outside in a network over texts.
-use Rattle.std.proofs.Common.{◌≡◌, ℕ, List, [], ◌∷◌, ◌++◌, Bool, true, false, ◌||◌, length, map, slice_get, Some, IfOk, Result, Ok, Err, Option, refl, ap, sym, subst, ◌∙◌}
+use Rattle.std.proofs.Common.{◌≡◌, ℕ, suc, List, [], ◌∷◌, ◌++◌, Bool, true, false, ◌||◌, if◌then◌else◌, length, map, slice_get, Some, IfOk, Result, Ok, Err, Option, refl, ap, sym, subst, ◌∙◌}
 use Rattle.ps_lines.specs.declared.memory.Memory.{Memory}
 use Rattle.ps_world.specs.Told.{then_bytes}
 use Rattle.fl_graph.specs.Net.{Cell}
@@ -13,12 +13,14 @@ use Rattle.fl_core.specs.Inputs.{AreBrought, RunsOver}
 use Rattle.fl_core.specs.Kinds.{is_sink}
 use Rattle.fl_core.specs.Laws.{Carries}
 use Rattle.fl_core.specs.Plans.{outer_edge, AreTold}
-use Rattle.fl_core.specs.Runs.{Plan, Follows, Reached, Leads}
-use Rattle.fl_core.specs.Steps.{waiting_on}
+use Rattle.fl_core.specs.Moves.{moves_of}
+use Rattle.fl_core.specs.Runs.{Plan, Follows, Reached}
+use Rattle.fl_core.specs.Steps.{has_moved, waiting_on}
 use Rattle.fl_core.specs.declared.nets.Ports.{Ports}
 use Rattle.fl_core.specs.declared.steps.Progress.{Progress}
 use Rattle.fl_core.proofs.FinishLemmas.{sink_carries, sink_ended}
 use Rattle.fl_core.proofs.HaltLemmas.{reached_halts}
+use Rattle.fl_core.proofs.NetLemmas.{LeadsBy}
 use Rattle.fl_core.proofs.PieceLemmas.{text_of-append}
 use Rattle.fl_core.proofs.PlanLemmas.{sink_edge}
 
@@ -36,27 +38,34 @@ has_end-behind (first ∷ front) back ended = by_test (is_end first) (has_end-be
 
 -- a step goes on with a run over texts
 pub steps_over : {Machine : Type 0} (state : Machine → State) (ports : List Ports) (machines machines' : List Machine) (wires wires' : List (List Piece)) (result : Result Progress Memory)
-    → IfOk result (λ _. (left taken : ℕ → Option (List ℕ)) → Leads state ports machines machines' wires wires' left left taken taken)
+    → IfOk result (λ step. LeadsBy state ports step machines machines' wires wires')
     → length machines' ≡ length machines → length wires' ≡ length wires
-    → IfOk result (λ _. (cells : List (Cell NodeKind)) (inputs : ℕ → List ℕ) → RunsOver state cells inputs ports machines wires → AreBrought state cells machines' wires')
-    → IfOk result (λ _. (cells : List (Cell NodeKind)) (inputs : ℕ → List ℕ) → RunsOver state cells inputs ports machines wires → RunsOver state cells inputs ports machines' wires')
-steps_over state ports machines machines' wires wires' (Ok step) leads counted width brings = λ cells inputs runs. record {
-  goes = record {
-    plan = runs.goes.plan;
-    wired = runs.goes.wired;
-    follows = subst (λ (count : ℕ). Follows runs.goes.plan ports count) (sym width) runs.goes.follows;
-    reached = leads (λ _. Some []) (λ _. Some []) runs.goes.plan runs.goes.wired runs.goes.follows runs.goes.reached;
-  };
-  planned = runs.planned;
-  counted = counted ∙ runs.counted;
-  told = runs.told;
-  untaken = runs.untaken;
-  brought = brings cells inputs runs;
-}
+    → IfOk result (λ _. (cells : List (Cell NodeKind)) (inputs : ℕ → List ℕ) (moves : ℕ) → RunsOver state cells inputs moves ports machines wires → AreBrought state cells machines' wires')
+    → IfOk result (λ step. (cells : List (Cell NodeKind)) (inputs : ℕ → List ℕ) (moves : ℕ) → RunsOver state cells inputs moves ports machines wires
+    → RunsOver state cells inputs (if has_moved step then suc moves else moves) ports machines' wires')
+steps_over state ports machines machines' wires wires' (Ok step) leads counted width brings = λ cells inputs moves runs.
+    let on = leads (λ _. Some []) (λ _. Some []) runs.goes.plan runs.goes.wired runs.goes.follows runs.goes.reached in
+    record {
+      goes = record {
+        plan = runs.goes.plan;
+        wired = runs.goes.wired;
+        follows = subst (λ (count : ℕ). Follows runs.goes.plan ports count) (sym width) runs.goes.follows;
+        reached = on.after;
+      };
+      planned = runs.planned;
+      counted = counted ∙ runs.counted;
+      told = runs.told;
+      untaken = runs.untaken;
+      brought = brings cells inputs moves runs;
+      moved =
+          ap (λ (it : ℕ). if has_moved step then suc it else it)
+          (runs.moved ∙ ap (λ (nodes : ℕ). moves_of runs.goes.plan nodes runs.goes.reached.took runs.goes.reached.put) (sym runs.counted))
+          ∙ sym on.moves ∙ ap (λ (nodes : ℕ). moves_of runs.goes.plan nodes on.after.took on.after.put) runs.counted;
+    }
 steps_over state ports machines machines' wires wires' (Err memory) leads counted width brings = tt
 
 module _ {Machine : Type 0} (state : Machine → State) (cells : List (Cell NodeKind)) (status : StatusRule) (valid : Valid cells status) (inputs : ℕ → List ℕ)
-    (ports : List Ports) (machines : List Machine) (wires : List (List Piece)) (runs : RunsOver state cells inputs ports machines wires)
+    (moves : ℕ) (ports : List Ports) (machines : List Machine) (wires : List (List Piece)) (runs : RunsOver state cells inputs moves ports machines wires)
     (sources : List (List ℕ)) (told : AreTold sources cells (λ node. Some (inputs node)))
     (node : ℕ) (cell : Cell NodeKind) (at_node : slice_get cells node ≡ Some cell) (sink : is_sink cell.kind ≡ true) where
   abbrev plan : Plan
@@ -65,7 +74,7 @@ module _ {Machine : Type 0} (state : Machine → State) (cells : List (Cell Node
   abbrev reached : Reached state plan machines wires (λ node. Some []) (λ node. Some [])
   reached = runs.goes.reached
 
-  put_carries : Carries (reached.put (outer_edge cells node)) (only (map (flow cells sources) cell.ins))
+  pub put_carries : Carries (reached.put (outer_edge cells node)) (only (map (flow cells sources) cell.ins))
   put_carries =
       sink_carries cells status plan valid runs.planned (λ node. Some [])
       (reached_halts state plan machines wires (λ node. Some []) (λ node. Some []) reached (length cells) runs.counted) sources

@@ -1,8 +1,8 @@
 -- The places of sources change neither a graph's edges nor their order nor what its nodes tell.
-use Rattle.std.proofs.Common.{◌≡◌, ℕ, ◌+◌, ◌&&◌, List, [], ◌∷◌, ◌++◌, if◌then◌else◌, map, refl, ap, sym, ◌∙◌}
+use Rattle.std.proofs.Common.{◌≡◌, ℕ, suc, ◌+◌, length, ◌&&◌, List, [], ◌∷◌, ◌++◌, if◌then◌else◌, map, refl, ap, sym, ◌∙◌}
 use Rattle.std.specs.List.{list_all, flat_map}
 use Rattle.std.proofs.lemmas.Grind.{flat_map-append}
-use Rattle.fl_graph.specs.Net.{Cell, has, gives}
+use Rattle.fl_graph.specs.Net.{Cell, has, gives, takes}
 use Rattle.fl_graph.specs.Checks.{takes_given, each_after}
 use Rattle.fl_graph.specs.declared.kinds.NodeKind.{NodeKind}
 use Rattle.fl_classes.specs.Flow.{Placed, placed_from, is_source}
@@ -10,6 +10,14 @@ use Rattle.fl_classes.specs.Flow.{Placed, placed_from, is_source}
 pub gives-placed : (number : ℕ) (cells : List (Cell NodeKind)) → gives (placed_from number cells) ≡ gives cells
 gives-placed number [] = refl
 gives-placed number (cell ∷ cells) = ap (λ (others : List ℕ). cell.outs ++ others) (gives-placed (if is_source cell.kind then number + 1 else number) cells)
+
+pub takes-placed : (number : ℕ) (cells : List (Cell NodeKind)) → takes (placed_from number cells) ≡ takes cells
+takes-placed number [] = refl
+takes-placed number (cell ∷ cells) = ap (λ (others : List ℕ). cell.ins ++ others) (takes-placed (if is_source cell.kind then number + 1 else number) cells)
+
+pub length-placed : (number : ℕ) (cells : List (Cell NodeKind)) → length (placed_from number cells) ≡ length cells
+length-placed number [] = refl
+length-placed number (cell ∷ cells) = ap (λ (others : ℕ). suc others) (length-placed (if is_source cell.kind then number + 1 else number) cells)
 
 pub order-placed : (number : ℕ) (before : List (Cell Placed)) (others cells : List (Cell NodeKind)) → gives before ≡ gives others
     → each_after takes_given before (placed_from number cells) ≡ each_after takes_given others cells

@@ -128,7 +128,7 @@ module _ (cells : List (Cell NodeKind)) (status : StatusRule) (plan : Plan) (val
   pub sink_has : (node : ℕ) (cell : Cell NodeKind) → slice_get cells node ≡ Some cell → is_sink cell.kind ≡ true → (cell.outs ≡ []) × ((edge : ℕ) × (cell.ins ≡ edge ∷ []))
   sink_has node cell at_node is = sink_ports cell.kind cell.ins cell.outs is (holds_at has_its_ports cells node cell valid.ports at_node)
 
-  given_below : (edge : ℕ) → 1 ≤ count edge (gives cells) → edge < length (gives cells)
+  pub given_below : (edge : ℕ) → 1 ≤ count edge (gives cells) → edge < length (gives cells)
   given_below edge some =
       valid.edges.below edge (true_from_ne_false (has edge (gives cells)) (λ none. let absent = count-none edge (gives cells) none in omega (arith, absent, some)))
 
@@ -179,6 +179,9 @@ module _ (cells : List (Cell NodeKind)) (status : StatusRule) (plan : Plan) (val
 
   pub own_in_below : (node edge : ℕ) (cell : Cell NodeKind) → slice_get cells node ≡ Some cell → has edge cell.ins ≡ true → edge < length (gives cells)
   own_in_below node edge cell at_node there = inside_below cells (λ (cell : Cell NodeKind). cell.ins) is_source plan.ins ins_side node edge cell at_node there
+
+  pub own_out_below : (node edge : ℕ) (cell : Cell NodeKind) → slice_get cells node ≡ Some cell → has edge cell.outs ≡ true → edge < length (gives cells)
+  own_out_below node edge cell at_node there = inside_below cells (λ (cell : Cell NodeKind). cell.outs) is_sink plan.outs outs_side node edge cell at_node there
 
   -- an edge from outside isn't one to the outside
   ends_apart : (node other : ℕ) → IsEndAt is_source node → IsEndAt is_sink other → outer_edge cells node ≡ outer_edge cells other → ⊥

@@ -44,10 +44,10 @@ uncounted edge edges none = by_test (has edge edges) refl
     by_test false is = refl
 
 -- the edge in front is counted, or it is another
-count-first : (first edge : ℕ) (edges : List ℕ) → (first == edge) ≡ true → count edge (first ∷ edges) ≡ 1 + count edge edges
+pub count-first : (first edge : ℕ) (edges : List ℕ) → (first == edge) ≡ true → count edge (first ∷ edges) ≡ 1 + count edge edges
 count-first first edge edges here = ap (λ (test : Bool). (if test then 1 else 0) + count edge edges) here
 
-count-other : (first edge : ℕ) (edges : List ℕ) → (first == edge) ≡ false → count edge (first ∷ edges) ≡ count edge edges
+pub count-other : (first edge : ℕ) (edges : List ℕ) → (first == edge) ≡ false → count edge (first ∷ edges) ≡ count edge edges
 count-other first edge edges elsewhere =
     let none = ap (λ (test : Bool). (if test then 1 else 0) + count edge edges) elsewhere in omega (arith, none)
 

@@ -391,7 +391,7 @@ module _ {Machine : Type 0} (state : Machine → State) (act : Machine → Act) 
 
 -- in a network over texts no source starves, so it is stuck where no step moves a piece
 module _ {Machine : Type 0} (state : Machine → State) (act : Machine → Act) (cells : List (Cell NodeKind)) (status : StatusRule) (valid : Valid cells status) (inputs : ℕ → List ℕ)
-    (ports : List Ports) (machines : List Machine) (rooms : List (Option ℕ)) (wires : List (List Piece)) (runs : RunsOver state cells inputs ports machines wires)
+    (moves : ℕ) (ports : List Ports) (machines : List Machine) (rooms : List (Option ℕ)) (wires : List (List Piece)) (runs : RunsOver state cells inputs moves ports machines wires)
     (still : IsStill (λ machine. (state machine).takes) (λ machine. (state machine).puts) act ports machines rooms wires) where
   module _ (node : ℕ) (machine : Machine) (own : Ports) (at : slice_get machines node ≡ Some machine) (at_own : slice_get ports node ≡ Some own) where
     -- a node that would take from an edge on which nothing waits is no source

@@ -1,5 +1,5 @@
 -- What a piece over an edge makes of how far a network has run.
-use Rattle.std.proofs.Common.{◌≡◌, ℕ, ◌==◌, List, [], ◌∷◌, ◌++◌, Bool, true, false, not, ◌&&◌, ◌||◌, if◌then◌else◌, slice_get, Option, Some, refl, ap, sym, subst, ◌∙◌, append_assoc, append-nil, zero, suc, eq-eqb}
+use Rattle.std.proofs.Common.{◌≡◌, ℕ, ◌<◌, ◌==◌, arith, List, [], ◌∷◌, ◌++◌, Bool, true, false, not, ◌&&◌, ◌||◌, if◌then◌else◌, slice_get, Option, Some, refl, ap, sym, subst, ◌∙◌, append_assoc, append-nil, zero, suc, eq-eqb}
 use Rattle.std.specs.List.{list_all}
 use Rattle.std.proofs.lemmas.Bool.{and_parts, and_from, or_parts, or_left, true≢false, eqb-true}
 use Rattle.std.proofs.lemmas.List.Folds.{list_all-append}
@@ -11,10 +11,12 @@ use Rattle.fl_graph.specs.Runs.{text_of, is_end, has_end, are_closed, add, State
 use Rattle.fl_graph.specs.declared.pieces.Piece.{Piece}
 use Rattle.fl_graph.specs.declared.pieces.Piece.TheVariants as piece
 use Rattle.fl_core.specs.Laws.{is_clean, at_ports}
+use Rattle.fl_core.specs.Moves.{moves_of}
 use Rattle.fl_core.specs.Steps.{has_bytes, is_plain, waiting_on, SameBut, Took, Gave, Starves}
 use Rattle.fl_core.specs.Runs.{Plan, IsWired, Reached}
 use Rattle.fl_core.proofs.PieceLemmas.{text_of-append}
 use Rattle.fl_core.proofs.PortLemmas.{stands-has, at_ports-stands, at_ports-add, at_ports-elsewhere}
+use Rattle.fl_core.proofs.SumLemmas.{moves-took, moves-put}
 
 -- a piece behind pieces that aren't closed closes them at their end at most
 pub clean-more : (pieces : List Piece) (last : Piece) → are_closed pieces ≡ false → is_clean (pieces ++ last ∷ []) ≡ true
@@ -159,6 +161,18 @@ module _ {Machine : Type 0} (state : Machine → State) (plan : Plan) (wired : I
               ∙ wired.to_outside other node out writes (only_has out (plan.outs other) is)))
           sees false same = refl
 
+  -- by one move
+  pub took_moves : (machines machines' : List Machine) (wires wires' : List (List Piece)) (left taken : ℕ → Option (List ℕ)) (node : ℕ) (machine machine' : Machine)
+      → (replaced : Replaced machines machines' node machine machine') (took : Took (state machine) (state machine') (plan.ins node) wires wires')
+      → (reached : Reached state plan machines wires left taken) (nodes : ℕ) → node < nodes
+      → moves_of plan nodes (reached_took machines machines' wires wires' left taken node machine machine' replaced took reached).took
+      (reached_took machines machines' wires wires' left taken node machine machine' replaced took reached).put ≡ suc (moves_of plan nodes reached.took reached.put)
+  unfolding reached_took
+  took_moves machines machines' wires wires' left taken node machine machine' replaced took reached nodes within =
+      let there = stands-has (plan.ins node) took.port took.edge took.there in
+      let more = moves-took plan reached.took reached.put nodes node took.edge took.moved.piece within (wired.in_once node took.edge there) (λ other. not_taken node other took.edge there) in
+      more ∙ omega arith
+
   -- a machine put a piece
   pub reached_gave : (machines machines' : List Machine) (wires wires' : List (List Piece)) (left taken : ℕ → Option (List ℕ)) (node : ℕ) (machine machine' : Machine)
       → Replaced machines machines' node machine machine' → Gave (state machine) (state machine') (plan.outs node) wires wires'
@@ -244,6 +258,18 @@ module _ {Machine : Type 0} (state : Machine → State) (plan : Plan) (wired : I
               absurd (true≢false (sym there ∙ ap (λ (it : ℕ). has it (plan.outs node)) (sym (eqb-true into edge same))
               ∙ wired.from_outside other node into reads (only_has into (plan.ins other) is)))
           sees false same = refl
+
+  -- by one move
+  pub gave_moves : (machines machines' : List Machine) (wires wires' : List (List Piece)) (left taken : ℕ → Option (List ℕ)) (node : ℕ) (machine machine' : Machine)
+      → (replaced : Replaced machines machines' node machine machine') (gave : Gave (state machine) (state machine') (plan.outs node) wires wires')
+      → (reached : Reached state plan machines wires left taken) (nodes : ℕ) → node < nodes
+      → moves_of plan nodes (reached_gave machines machines' wires wires' left taken node machine machine' replaced gave reached).took
+      (reached_gave machines machines' wires wires' left taken node machine machine' replaced gave reached).put ≡ suc (moves_of plan nodes reached.took reached.put)
+  unfolding reached_gave
+  gave_moves machines machines' wires wires' left taken node machine machine' replaced gave reached nodes within =
+      let there = stands-has (plan.outs node) gave.port gave.edge gave.there in
+      let more = moves-put plan reached.took reached.put nodes node gave.edge gave.moved.piece within (wired.out_once node gave.edge there) (λ other. not_given node other gave.edge there) in
+      more ∙ omega arith
 
   -- a piece came from outside
   pub record Came (wires wires' : List (List Piece)) (left left' : ℕ → Option (List ℕ)) (node edge : ℕ) (piece : Piece) : Type 0 where

@@ -1,7 +1,7 @@
 -- Networks over texts that are there from the beginning.
 use Rattle.std.proofs.Common.{◌≡◌, ℕ, zero, suc, ◌-◌, ◌==◌, List, [], ◌∷◌, ◌++◌, Bool, true, false, ◌||◌, length, slice_get, get_or, Option, Some, None, inl, inr, refl, ap, sym, subst, ◌∙◌, append-nil, arith, eq-eqb}
 use mathlib.Core.Path.{fun_ext}
-use Rattle.std.specs.List.{list_all}
+use Rattle.std.specs.List.{list_all, range_with_len}
 use Rattle.std.proofs.lemmas.Bool.{cases_lt, true≢false}
 use Rattle.fl_graph.specs.Cells.{cells}
 use Rattle.fl_graph.specs.Net.{Cell, has, gives}
@@ -14,6 +14,7 @@ use Rattle.fl_graph.specs.declared.pieces.Piece.{Piece}
 use Rattle.fl_classes.specs.Flow.{is_source}
 use Rattle.fl_core.specs.Inputs.{AreWhole, IsLoaded, BeginsOver, RunsOver}
 use Rattle.fl_core.specs.Laws.{is_clean, at_ports}
+use Rattle.fl_core.specs.Moves.{moves_at, moves_of}
 use Rattle.fl_core.specs.Plans.{outer_edge, IsNetOf, IsPlanOf}
 use Rattle.fl_core.specs.Runs.{Plan, Follows, IsWired, Reached}
 use Rattle.fl_core.specs.Steps.{has_bytes, is_plain, waiting_on}
@@ -21,6 +22,7 @@ use Rattle.fl_core.specs.declared.nets.Ports.{Ports}
 use Rattle.fl_core.proofs.BroughtLemmas.{closed_by_end}
 use Rattle.fl_core.proofs.PlanLemmas.{source_at, source_edge}
 use Rattle.fl_core.proofs.StartLemmas.{start_plan, start_is_planned, start_is_wired, start_follows, start_runs, start_whole}
+use Rattle.fl_core.proofs.SumLemmas.{sum-none}
 
 -- pieces that are the same on the edges of a node are so at its ports
 at_ports-same : (edges : List ℕ) (one other : ℕ → List Piece) → ((edge : ℕ) → has edge edges ≡ true → one edge ≡ other edge) → (port : ℕ) → at_ports edges one port ≡ at_ports edges other port
@@ -126,8 +128,17 @@ module _ {Machine : Type 0} (state : Machine → State) (cells : List (Cell Node
     written = λ node edge writes is. refl;
   }
 
+  -- no step has been made
+  no_moves : 0 ≡ moves_of plan (length cells) (λ (_ : ℕ). []) (waiting_on wires)
+  no_moves =
+      sym (sum-none (moves_at plan (λ (_ : ℕ). []) (waiting_on wires)) (range_with_len 0 (length cells)) (λ node within.
+      let taken = sum-none (λ (edge : ℕ). 0) (plan.ins node) (λ edge there. refl) in
+      let given = sum-none (λ (edge : ℕ). length (waiting_on wires edge)) (plan.outs node) (λ edge there. ap (λ (pieces : List Piece). length pieces) (sym (none_given node edge there))) in
+      omega (arith, taken, given)))
+
   -- the network is under way from where its texts came
-  pub runs_over : RunsOver state cells inputs ports machines wires
+  pub runs_over : RunsOver state cells inputs 0 ports machines wires
+  unfolding reached
   runs_over = record {
     goes = record {
       plan = plan;
@@ -140,6 +151,7 @@ module _ {Machine : Type 0} (state : Machine → State) (cells : List (Cell Node
     told = λ node. refl;
     untaken = λ node. refl;
     brought = λ node cell machine at_node at_machine is opened. closed_by_end (waiting_on wires (outer_edge cells node)) (begins.loaded.source node cell at_node is).ended;
+    moved = no_moves;
   }
 
 -- what has come on the wires of a graph's network is what it begins over

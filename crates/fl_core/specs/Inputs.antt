@@ -8,6 +8,7 @@ use Rattle.fl_graph.specs.declared.kinds.NodeKind.{NodeKind}
 use Rattle.fl_graph.specs.declared.pieces.Piece.{Piece}
 use Rattle.fl_classes.specs.Flow.{is_source}
 use Rattle.fl_core.specs.Laws.{is_clean}
+use Rattle.fl_core.specs.Moves.{moves_of}
 use Rattle.fl_core.specs.Plans.{outer_edge, IsNetOf, IsPlanOf}
 use Rattle.fl_core.specs.Runs.{Goes}
 use Rattle.fl_core.specs.Steps.{has_bytes, is_plain, waiting_on}
@@ -39,26 +40,28 @@ AreBrought {Machine} state cells machines wires =
     (node : ℕ) (cell : Cell NodeKind) (machine : Machine) → slice_get cells node ≡ Some cell → slice_get machines node ≡ Some machine → is_source cell.kind ≡ true
     → (state machine).takes 0 ≡ true → are_closed (waiting_on wires (outer_edge cells node)) ≡ true
 
-module _ {Machine : Type 0} (state : Machine → State) (cells : List (Cell NodeKind)) (inputs : ℕ → List ℕ) (ports : List Ports) (machines : List Machine) (wires : List (List Piece)) where
+module _ {Machine : Type 0} (state : Machine → State) (cells : List (Cell NodeKind)) (inputs : ℕ → List ℕ) where
   -- the network of these nodes before anything has moved but its sources' texts, which have come
-  pub record BeginsOver : Type 0 where
+  pub record BeginsOver (ports : List Ports) (machines : List Machine) (wires : List (List Piece)) : Type 0 where
     pub empty : List (List Piece)
     pub net : IsNetOf state cells ports machines empty
     pub all_wires : length wires ≡ length empty
     pub loaded : IsLoaded cells inputs wires
 
-  -- it has come from there to here: all was read at its beginning, and nothing was taken from its sinks
-  pub record RunsOver : Type 0 where
+  -- it has come from there to here by so many moves: all was read at its beginning, and nothing was taken from its sinks
+  pub record RunsOver (moves : ℕ) (ports : List Ports) (machines : List Machine) (wires : List (List Piece)) : Type 0 where
     pub goes : Goes state ports machines wires (λ node. Some []) (λ node. Some [])
     pub planned : IsPlanOf cells goes.plan
     pub counted : length machines ≡ length cells
     pub told : (node : ℕ) → goes.plan.left node ≡ Some (inputs node)
     pub untaken : (node : ℕ) → goes.plan.taken node ≡ Some []
     pub brought : AreBrought state cells machines wires
+    pub moved : moves ≡ moves_of goes.plan (length cells) goes.reached.took goes.reached.put
 
 -- it runs over the texts of some graph: all that a step asks of any node
 pub record CanStep {Machine : Type 0} (state : Machine → State) (ports : List Ports) (machines : List Machine) (wires : List (List Piece)) : Type 0 where
   pub cells : List (Cell NodeKind)
   pub inputs : ℕ → List ℕ
-  pub over : RunsOver state cells inputs ports machines wires
+  pub moves : ℕ
+  pub over : RunsOver state cells inputs moves ports machines wires
   pub all_ports : length ports ≡ length machines

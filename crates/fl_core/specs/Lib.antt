@@ -7,6 +7,7 @@ pub mod Causes
 pub mod Points
 pub mod Ends
 pub mod Starts
+pub mod Moves
 pub mod Inputs
 pub mod EndLists
 pub mod Roles

@@ -45,7 +45,7 @@ impl Net<NodeMachine> {
           broken = ⟦<NodeMachine as Machine>⟧.broken machine;
           due = ⟦<NodeMachine as Machine>⟧.due machine;
           selects = ⟦<NodeMachine as Machine>⟧.selects machine;
-        }) (cells graph.now.nodes.items) (input_of_lem inputs.items) net.ports.items net.machines.items net.wires.items) }
+        }) (cells graph.now.nodes.items) (input_of_lem inputs.items) 0 net.ports.items net.machines.items net.wires.items) }
         ensures rooms { IfOk result (λ net. HasRooms (cells graph.now.nodes.items) cap net.rooms.items) }
         ensures few { IfOk result (λ net. length net.machines.items < 2 ^ 32) }
     {

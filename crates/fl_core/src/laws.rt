@@ -13,6 +13,7 @@ ghost use Rattle.fl_classes.specs.Flow.{flow, only, writes, writes_of, selection
 ghost use Rattle.fl_core.specs.Inputs.{RunsOver};
 ghost use Rattle.fl_core.specs.Kinds.{is_sink};
 ghost use Rattle.fl_core.specs.Laws.{Carries, NetKeeps};
+ghost use Rattle.fl_core.specs.Moves.{most_moves};
 ghost use Rattle.fl_core.specs.Plans.{outer_edge, AreTold, HasRooms, IsPlanOf};
 ghost use Rattle.fl_core.specs.Runs.{Goes};
 ghost use Rattle.fl_core.specs.Steps.{waiting_on};
@@ -55,12 +56,12 @@ pub fn what_a_graph_leaves_is_of_the_flow(graph: &Graph)
 pub fn what_waits_for_the_outside_is_of_the_flow<M: Machine>(graph: &Graph, net: &Net<M>)
     requires { Valid (cells graph.now.nodes.items) graph.now.status }
     ensures carries { let state : M → State = λ machine. record { takes = M.takes machine; puts = M.puts machine; broken = M.broken machine; due = M.due machine; selects = M.selects machine } in
-        (inputs : ℕ → List ℕ) → RunsOver state (cells graph.now.nodes.items) inputs net.now.ports.items net.now.machines.items net.now.wires.items →
+        (inputs : ℕ → List ℕ) (moves : ℕ) → RunsOver state (cells graph.now.nodes.items) inputs moves net.now.ports.items net.now.machines.items net.now.wires.items →
         (sources : List (List ℕ)) → AreTold sources (cells graph.now.nodes.items) (λ node. Some (inputs node)) →
         (node : ℕ) (cell : Cell NodeKind) → slice_get (cells graph.now.nodes.items) node ≡ Some cell → is_sink cell.kind ≡ true →
         Carries (waiting_on net.now.wires.items (outer_edge (cells graph.now.nodes.items) node)) (only (map (flow (cells graph.now.nodes.items) sources) cell.ins)) }
     ensures whole { let state : M → State = λ machine. record { takes = M.takes machine; puts = M.puts machine; broken = M.broken machine; due = M.due machine; selects = M.selects machine } in
-        (inputs : ℕ → List ℕ) → RunsOver state (cells graph.now.nodes.items) inputs net.now.ports.items net.now.machines.items net.now.wires.items →
+        (inputs : ℕ → List ℕ) (moves : ℕ) → RunsOver state (cells graph.now.nodes.items) inputs moves net.now.ports.items net.now.machines.items net.now.wires.items →
         ((number : ℕ) (machine : M) → slice_get net.now.machines.items number ≡ Some machine → ((port : ℕ) → M.takes machine port ≡ false) × ((port : ℕ) → M.puts machine port ≡ false)) →
         (sources : List (List ℕ)) → AreTold sources (cells graph.now.nodes.items) (λ node. Some (inputs node)) →
         (node : ℕ) (cell : Cell NodeKind) → slice_get (cells graph.now.nodes.items) node ≡ Some cell → is_sink cell.kind ≡ true →
@@ -85,9 +86,20 @@ pub fn a_network_is_never_stuck<M: Machine>(graph: &Graph, net: &Net<M>)
 pub fn a_network_over_texts_is_never_stuck<M: Machine>(graph: &Graph, net: &Net<M>)
     requires { Valid (cells graph.now.nodes.items) graph.now.status }
     ensures { let state : M → State = λ machine. record { takes = M.takes machine; puts = M.puts machine; broken = M.broken machine; due = M.due machine; selects = M.selects machine } in
-        (inputs : ℕ → List ℕ) → RunsOver state (cells graph.now.nodes.items) inputs net.now.ports.items net.now.machines.items net.now.wires.items →
+        (inputs : ℕ → List ℕ) (moves : ℕ) → RunsOver state (cells graph.now.nodes.items) inputs moves net.now.ports.items net.now.machines.items net.now.wires.items →
         length net.now.ports.items ≡ length (cells graph.now.nodes.items) →
         (cap : Option ℕ) → HasRooms (cells graph.now.nodes.items) cap net.now.rooms.items → IfSome cap (λ room. 1 ≤ room) →
         IsStill (λ machine. M.takes machine) (λ machine. M.puts machine) (λ machine. M.act machine) net.now.ports.items net.now.machines.items net.now.rooms.items net.now.wires.items →
         (node : ℕ) (machine : M) → slice_get net.now.machines.items node ≡ Some machine → M.act machine ≡ Act.Stop }
+{}
+
+/// A run over texts that are there from the beginning makes few moves, in whatever order its nodes have their turns: over an edge go no more
+/// pieces than its flow has bytes, and an end. Each is put by one step and taken by another, but for those that came from outside, which are
+/// only taken, and those for the outside, which are only put.
+pub fn a_run_makes_few_moves<M: Machine>(graph: &Graph, net: &Net<M>)
+    requires { Valid (cells graph.now.nodes.items) graph.now.status }
+    ensures { let state : M → State = λ machine. record { takes = M.takes machine; puts = M.puts machine; broken = M.broken machine; due = M.due machine; selects = M.selects machine } in
+        (inputs : ℕ → List ℕ) (moves : ℕ) → RunsOver state (cells graph.now.nodes.items) inputs moves net.now.ports.items net.now.machines.items net.now.wires.items →
+        (sources : List (List ℕ)) → AreTold sources (cells graph.now.nodes.items) (λ node. Some (inputs node)) →
+        moves ≤ most_moves (cells graph.now.nodes.items) sources }
 {}

@@ -6,8 +6,8 @@
 //! step at a time, in an order of the caller's own.
 //!
 //! `specs/Laws.antt` says what the pieces on a graph's edges carry, `specs/Steps.antt` what comes of a step, `specs/Runs.antt` and
-//! `specs/Points.antt` how far a network has run, `specs/Inputs.antt` what a network over texts is, `specs/Kinds.antt` which nodes the
-//! engine runs, and `specs/EndLists.antt` which end of the lists each node has.
+//! `specs/Points.antt` how far a network has run, `specs/Inputs.antt` what a network over texts is, `specs/Moves.antt` how many
+//! pieces its steps move, `specs/Kinds.antt` which nodes the engine runs, and `specs/EndLists.antt` which end of the lists each node has.
 #![tactic(auto)]
 
 #[cfg(test)]

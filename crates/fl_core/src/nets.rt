@@ -38,7 +38,7 @@ pub struct Net<M: Machine> {
 }
 
 impl<M: Machine> Net<M> {
-    ghost use Rattle.std.specs.Prelude.{ℕ, List, Option};
+    ghost use Rattle.std.specs.Prelude.{ℕ, suc, if◌then◌else◌, List, Option};
     ghost use Rattle.fl_graph.specs.Machines.{MayDo};
     ghost use Rattle.fl_graph.specs.Net.{Cell};
     ghost use Rattle.fl_graph.specs.Runs.{State};
@@ -64,9 +64,9 @@ impl<M: Machine> Net<M> {
             result ≡ Ok Progress.Starves → (machine : M) (own : Port) → slice_get self.new.machines.items node ≡ Some machine → slice_get self.new.ports.items node ≡ Some own →
             Starves (state machine) own.ins.items self.new.wires.items }
         ensures over { let state : M → State = λ machine. record { takes = M.takes machine; puts = M.puts machine; broken = M.broken machine; due = M.due machine; selects = M.selects machine } in
-            IfOk result (λ _. (cells : List (Cell NodeKind)) (inputs : ℕ → List ℕ) →
-            RunsOver state cells inputs self.old.ports.items self.old.machines.items self.old.wires.items →
-            RunsOver state cells inputs self.new.ports.items self.new.machines.items self.new.wires.items) }
+            IfOk result (λ step. (cells : List (Cell NodeKind)) (inputs : ℕ → List ℕ) (moves : ℕ) →
+            RunsOver state cells inputs moves self.old.ports.items self.old.machines.items self.old.wires.items →
+            RunsOver state cells inputs (if has_moved step then suc moves else moves) self.new.ports.items self.new.machines.items self.new.wires.items) }
         ensures shut { result ≡ Ok Progress.Ended → (machine : M) → slice_get self.new.machines.items node ≡ Some machine →
             ((port : ℕ) → M.takes machine port ≡ false) × ((port : ℕ) → M.puts machine port ≡ false) }
         ensures answer { IfOk result (λ step. (machine : M) (own : Port) → slice_get self.old.machines.items node ≡ Some machine → slice_get self.old.ports.items node ≡ Some own →

@@ -3,5 +3,5 @@ use Rattle.fl_graph.specs.Cells.{cells}
 use Rattle.fl_core.proofs.laws.a_network_over_texts_is_never_stuck.Goals as goal
 
 pub returns : goal.returns
-returns g c = λ inputs runs all_ports cap has_rooms some_room still.
-    still_stops _ _ (cells c.args.graph.now.nodes.items) c.args.graph.now.status c.requires inputs _ _ _ _ runs still all_ports cap has_rooms some_room
+returns g c = λ inputs moves runs all_ports cap has_rooms some_room still.
+    still_stops _ _ (cells c.args.graph.now.nodes.items) c.args.graph.now.status c.requires inputs moves _ _ _ _ runs still all_ports cap has_rooms some_room

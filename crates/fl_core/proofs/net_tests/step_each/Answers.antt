@@ -1,5 +1,6 @@
-use Rattle.std.proofs.Common.{ap, sym, ◌∙◌, [], Some, length}
+use Rattle.std.proofs.Common.{ap, sym, ◌∙◌, [], if◌then◌else◌, suc, Some, length}
 use Rattle.std.specs.Global.{Vec}
+use Rattle.fl_core.specs.Steps.{has_moved}
 use Rattle.fl_core.specs.declared.nets.Ports.{Ports}
 use Rattle.fl_core.proofs.GraphNetLemmas.{state_of}
 use Rattle.fl_core.proofs.NetLemmas.{goes_whole, goes_plain, goes_fits}
@@ -24,7 +25,8 @@ loop-node-preserved c =
       record {
         cells = before.cells;
         inputs = before.inputs;
-        over = c.in-Ok.ensures.over before.cells before.inputs before.over;
+        moves = if has_moved c.in-Ok.progress then suc before.moves else before.moves;
+        over = c.in-Ok.ensures.over before.cells before.inputs before.moves before.over;
         all_ports = ap (λ (ports : Vec Ports). length ports.items) c.step.ensures.ports ∙ before.all_ports ∙ sym c.step.ensures.machines;
       },
     )

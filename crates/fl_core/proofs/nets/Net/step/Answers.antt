@@ -2,19 +2,20 @@ use Rattle.std.proofs.Common.{rules, ap, ◌∙◌, refl, List, length}
 use Rattle.std.proofs.lemmas.Option.{slice_get_read}
 use Rattle.fl_graph.specs.declared.pieces.Piece.{Piece}
 use Rattle.fl_core.proofs.BroughtLemmas.{slice_brings}
-use Rattle.fl_core.proofs.NetLemmas.{slice_gave, slice_same, slice_starves, slice_step_leads, slice_took, written_back}
+use Rattle.fl_core.proofs.NetLemmas.{leads_of, slice_gave, slice_same, slice_starves, slice_step_leads, slice_took, written_back}
 use Rattle.fl_core.proofs.OuterLemmas.{steps_over}
 use Rattle.fl_core.proofs.nets.Net.step.Goals as goal
 
 pub returns-clause-leads : goal.returns-clause-leads
 returns-clause-leads g c =
-    slice_step_leads _ c.args.self.now.ports.items c.args.self.now.machines.items _ c.args.self.now.wires.items _ c.as_mut_slice.result.now c.step.new.wires c.args.node
+    leads_of _ c.args.self.now.ports.items c.args.self.now.machines.items _ c.args.self.now.wires.items _ c.step.result
+    (slice_step_leads _ c.args.self.now.ports.items c.args.self.now.machines.items _ c.args.self.now.wires.items _ c.as_mut_slice.result.now c.step.new.wires c.args.node
     c.index_mut.result.now c.step.new.machine c.index-ports.result.now c.step.result
     (slice_get_read c.args.self.now.machines.items (length c.args.self.now.machines.items) c.args.node c.index_mut.result.now refl c.requires.node.0 (search rules))
     (slice_get_read c.args.self.now.ports.items (length c.args.self.now.ports.items) c.args.node c.index-ports.result.now refl c.requires.node.1 (search rules))
     refl c.as_mut_slice.ensures.value
     (written_back c.args.self.now.wires.items c.step.new.wires c.args.self.now.wires.len (search rules) (search rules))
-    (search rules) (search rules) (search rules)
+    (search rules) (search rules) (search rules))
 
 pub returns-clause-starves : goal.returns-clause-starves
 returns-clause-starves g c =
@@ -33,7 +34,15 @@ returns-clause-same g c =
 
 pub returns-clause-over : goal.returns-clause-over
 returns-clause-over g c =
-    steps_over _ c.args.self.now.ports.items c.args.self.now.machines.items _ c.args.self.now.wires.items _ c.step.result (returns-clause-leads g c) (search rules)
+    steps_over _ c.args.self.now.ports.items c.args.self.now.machines.items _ c.args.self.now.wires.items _ c.step.result
+    (slice_step_leads _ c.args.self.now.ports.items c.args.self.now.machines.items _ c.args.self.now.wires.items _ c.as_mut_slice.result.now c.step.new.wires c.args.node
+    c.index_mut.result.now c.step.new.machine c.index-ports.result.now c.step.result
+    (slice_get_read c.args.self.now.machines.items (length c.args.self.now.machines.items) c.args.node c.index_mut.result.now refl c.requires.node.0 (search rules))
+    (slice_get_read c.args.self.now.ports.items (length c.args.self.now.ports.items) c.args.node c.index-ports.result.now refl c.requires.node.1 (search rules))
+    refl c.as_mut_slice.ensures.value
+    (written_back c.args.self.now.wires.items c.step.new.wires c.args.self.now.wires.len (search rules) (search rules))
+    (search rules) (search rules) (search rules))
+    (search rules)
     (ap (λ (wires : List (List Piece)). length wires) (written_back c.args.self.now.wires.items c.step.new.wires c.args.self.now.wires.len (search rules) (search rules)) ∙ (search rules))
     (slice_brings _ c.args.self.now.ports.items c.args.self.now.machines.items _ c.as_mut_slice.result.now c.step.new.wires c.args.node c.index_mut.result.now c.step.new.machine c.index-ports.result.now
     (slice_get_read c.args.self.now.machines.items (length c.args.self.now.machines.items) c.args.node c.index_mut.result.now refl c.requires.node.0 (search rules))

@@ -1,0 +1,5 @@
+pub mod Echo
+pub mod Numbers
+pub mod Operators
+pub mod Tests
+pub mod Questions

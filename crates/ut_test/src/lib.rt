@@ -1,0 +1,20 @@
+//! The shell's utilities that need no stream: `echo` and `test`.
+//!
+//! Words and texts are lists of bytes, in the C locale: one byte is one character. `test` takes the words behind its name, without the
+//! `]` of `[`, and looks at one place of the tree at most. No call keeps memory but that of its result.
+//!
+//! `specs/Tests.antt` says what `test` answers, and `specs/Echo.antt` what `echo` writes.
+#![tactic(auto)]
+
+mod evaluation;
+mod numbers;
+mod operators;
+mod outcomes;
+mod questions;
+#[cfg(test)]
+mod tests;
+mod writing;
+
+pub use evaluation::test;
+pub use outcomes::Tested;
+pub use writing::echo;

@@ -1,3 +1,4 @@
 pub mod DigitLemmas
 pub mod EchoLemmas
 pub mod QuestionLemmas
+pub mod FieldLemmas

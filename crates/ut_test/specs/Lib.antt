@@ -3,3 +3,4 @@ pub mod Numbers
 pub mod Operators
 pub mod Tests
 pub mod Questions
+pub mod Fields

@@ -1,5 +1,6 @@
 //! Calls and what they answer, in tables.
 mod answers;
+mod lines;
 
 use crate::echo;
 use std::alloc::{AllocError, Global};

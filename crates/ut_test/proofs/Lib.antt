@@ -2,3 +2,4 @@ pub mod DigitLemmas
 pub mod EchoLemmas
 pub mod QuestionLemmas
 pub mod FieldLemmas
+pub mod LineLaws

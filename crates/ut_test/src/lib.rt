@@ -8,6 +8,7 @@
 
 mod evaluation;
 mod fields;
+pub mod laws;
 mod numbers;
 mod operators;
 mod outcomes;

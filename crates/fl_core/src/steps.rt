@@ -141,7 +141,7 @@ fn give_last<M: Machine>(
         Ok(piece) => piece,
         Err(memory) => return Err(memory),
     };
-    show_bytes(&piece);
+    a_piece_has_bytes(&piece);
     match wire.push(piece) {
         Ok(()) => Ok(Progress::Gave),
         Err(memory) => Err(memory),
@@ -149,7 +149,7 @@ fn give_last<M: Machine>(
 }
 
 /// Does nothing: a piece of bytes has one at least, since its type says so.
-fn show_bytes(piece: &Piece)
+fn a_piece_has_bytes(piece: &Piece)
     ensures { has_bytes piece.now ≡ true }
 {
     if let Piece::Bytes(bytes) = piece {

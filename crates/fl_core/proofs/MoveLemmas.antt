@@ -28,20 +28,23 @@ use Rattle.fl_core.proofs.PlacedLemmas.{gives-placed, length-placed, takes-place
 use Rattle.fl_core.proofs.PlanLemmas.{given_below, own_in_below, own_ins, own_out_below, own_outs, sink_edge, source_edge, source_no_sink}
 use Rattle.fl_core.proofs.SumLemmas.{edges-le, nodes-le, once-le, sum_by-both, sum_by-flat_map}
 
+has_some : (bytes : List ℕ) → has_bytes (piece.Bytes bytes) ≡ true → 1 ≤ length bytes
+has_some [] none = absurd (true≢false (sym none))
+has_some (byte ∷ bytes) some = omega arith
+
 -- each piece but the end has a byte, and nothing stands behind the end
 pieces-few : (pieces : List Piece) → is_clean pieces ≡ true → list_all is_plain pieces ≡ true → list_all has_bytes pieces ≡ true → length pieces ≤ most_pieces (text_of pieces)
 pieces-few [] clean plain sized = omega arith
-pieces-few (piece.Bytes bytes ∷ []) clean plain sized = omega arith
+pieces-few (piece.Bytes bytes ∷ []) clean plain sized =
+    let some = has_some bytes (and_parts (has_bytes (piece.Bytes bytes)) true sized).0 in
+    let all = length-append bytes [] in
+    omega (arith, some, all)
 pieces-few (piece.Bytes bytes ∷ next ∷ pieces) clean plain sized =
     let parts = and_parts (has_bytes (piece.Bytes bytes)) (list_all has_bytes (next ∷ pieces)) sized in
     let rest = pieces-few (next ∷ pieces) clean plain parts.1 in
     let all = length-append bytes (text_of (next ∷ pieces)) in
     let some = has_some bytes parts.0 in
     omega (arith, rest, all, some)
-  where
-    has_some : (bytes : List ℕ) → has_bytes (piece.Bytes bytes) ≡ true → 1 ≤ length bytes
-    has_some [] none = absurd (true≢false (sym none))
-    has_some (byte ∷ bytes) some = omega arith
 pieces-few (piece.Mark ∷ pieces) clean plain sized = absurd (true≢false (sym plain))
 pieces-few (piece.End ∷ []) clean plain sized = omega arith
 pieces-few (piece.End ∷ next ∷ pieces) clean plain sized = absurd (true≢false (sym clean))

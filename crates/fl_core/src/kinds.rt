@@ -23,11 +23,10 @@ pub fn is_run(kind: &NodeKind) -> bool
     ensures { result ≡ is_run_lem kind.now }
 {
     match kind {
-        NodeKind::Cat { close } => !*close,
         NodeKind::Agg(Inv::Wc(_)) => true,
         NodeKind::Agg(_) | NodeKind::TeeFile(..) => false,
         NodeKind::Source(_) | NodeKind::Sink(_) | NodeKind::Text(_) => true,
-        NodeKind::Split | NodeKind::Drain => true,
+        NodeKind::Split | NodeKind::Cat { .. } | NodeKind::Drain => true,
         NodeKind::Map(_) | NodeKind::Whole(_) | NodeKind::Finish(_) => true,
     }
 }

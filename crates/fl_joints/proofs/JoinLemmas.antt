@@ -59,5 +59,3 @@ pub joined-given : (texts : ℕ → List ℕ) (ins : ℕ) (port : ℕ)
 joined-given texts ins port =
     let all : ins - 0 ≡ ins = omega arith in
     ap (λ text. if port == 0 then text else []) (ap (joined_from texts 0) all ∙ joined-all texts 0 ins) ∙ sym (get_or-one (concat (texts_at ins texts)) port)
-
-pub ruleset joins = (joined-bytes, joined-end)

@@ -1,4 +1,5 @@
 pub mod JoinLemmas
+pub mod ClosingLemmas
 pub mod FrontLemmas
 pub mod SumLemmas
 pub mod PartLemmas

@@ -1,6 +1,6 @@
 -- At its beginning all of a joint's equation is due.
-use Rattle.fl_joints.proofs.JoinLemmas.{joined-given}
+use Rattle.fl_joints.proofs.ClosingLemmas.{joined_by-given}
 use Rattle.fl_joints.proofs.FrontLemmas.{text-given}
 use Rattle.fl_joints.proofs.SumLemmas.{counts-given}
 
-pub ruleset begins = (joined-given, text-given, counts-given)
+pub ruleset begins = (joined_by-given, text-given, counts-given)

@@ -1,5 +1,7 @@
 -- The nodes that join and split (own), and what is due of them. The machines keep what is due at each piece.
-use Rattle.std.specs.Prelude.{ℕ, zero, suc, ◌+◌, ◌==◌, nat_lt, List, [], ◌++◌, Bool, true, false, get_or, if◌then◌else◌}
+use Rattle.std.specs.Prelude.{ℕ, zero, suc, ◌+◌, ◌==◌, nat_lt, List, [], ◌∷◌, ◌++◌, Bool, true, false, get_or, if◌then◌else◌}
+use Rattle.ps_lines.specs.Lines.{closing}
+use Rattle.ps_lines.specs.declared.newlines.TheConstants.{NEWLINE}
 use Rattle.ut_args.specs.declared.invocations.Inv.TheVariants as inv
 use Rattle.fl_graph.specs.declared.kinds.NodeKind.{NodeKind}
 use Rattle.fl_graph.specs.declared.kinds.NodeKind.TheVariants as kind
@@ -8,7 +10,7 @@ use Rattle.fl_classes.specs.Parts.{slice, parts_of}
 
 -- the node has a joint
 abbrev pub is_joint : NodeKind → Bool
-is_joint (kind.Cat false) = true
+is_joint (kind.Cat close) = true
 is_joint kind.Drain = true
 is_joint kind.Split = true
 is_joint (kind.Text text) = true
@@ -19,6 +21,21 @@ is_joint other = false
 abbrev pub joined_from : (ℕ → List ℕ) → ℕ → ℕ → List ℕ
 joined_from texts port zero = []
 joined_from texts port (suc count) = texts port ++ joined_from texts (port + 1) count
+
+-- the rest of a text, closed, where what came before it ends within a line or doesn't
+abbrev pub closing_rest : Bool → List ℕ → List ℕ
+closing_rest within [] = if within then NEWLINE ∷ [] else []
+closing_rest within (byte ∷ rest) = closing (byte ∷ rest)
+
+-- the texts at so many ports from one on, joined, each but the last closed, where what has come of the first ends within a line or doesn't
+abbrev pub joined_lines_from : Bool → (ℕ → List ℕ) → ℕ → ℕ → List ℕ
+joined_lines_from within texts port zero = []
+joined_lines_from within texts port (suc zero) = texts port
+joined_lines_from within texts port (suc (suc count)) = closing_rest within (texts port) ++ joined_lines_from false texts (port + 1) (suc count)
+
+-- these texts, joined in the one way or the other
+abbrev pub joined_by : Bool → Bool → (ℕ → List ℕ) → ℕ → ℕ → List ℕ
+joined_by close within texts port count = if close then joined_lines_from within texts port count else joined_from texts port count
 
 -- the sum of the counts of the texts at so many ports from one on, where this of the first has come
 abbrev pub counts_from : List ℕ → (ℕ → List ℕ) → ℕ → ℕ → ℕ

@@ -10,7 +10,7 @@ use ps_lines::Memory;
 /// The machine of a node that joins or splits.
 #[derive(Drop)]
 pub enum Joint {
-    /// Inputs joined in order.
+    /// Inputs joined in order, closed or not.
     InOrder(InOrder),
     /// A text that is given, or an input that nothing is done with.
     Fixed(Fixed),

@@ -25,7 +25,7 @@ pub fn joint(alloc: Global, kind: &NodeKind, ins: u32, outs: u32) -> Result<Join
         (⟦<Joint as Machine>⟧.broken joint) (⟦<Joint as Machine>⟧.due joint) (⟦<Joint as Machine>⟧.selects joint)) }
 {
     match kind {
-        NodeKind::Cat { close: false } => Ok(Joint::InOrder(InOrder::new(ins))),
+        NodeKind::Cat { close } => Ok(Joint::InOrder(InOrder::new(alloc, ins, *close))),
         NodeKind::Drain => Ok(Joint::Fixed(Fixed::draining(alloc)?)),
         NodeKind::Text(text) => Ok(Joint::Fixed(Fixed::giving(alloc, text)?)),
         NodeKind::Agg(Inv::Wc(_)) => Ok(Joint::CountSum(CountSum::new(alloc, ins))),

@@ -157,6 +157,55 @@ fn inputs_are_joined_in_order(rt: HostRuntime) -> Result<(), Fail> {
     Ok(())
 }
 
+#[test]
+fn inputs_but_the_last_are_closed(rt: HostRuntime) -> Result<(), Fail> {
+    let alloc = rt.alloc();
+    for (texts, whole, broken) in [
+        (("a", "b", "c"), "a\nb\nc.#", "a\nb!#"),
+        (("a\n", "b\n", "c\n"), "a\nb\nc\n.#", "a\nb\n!#"),
+        (("a\nb", "c\n\n", "\n"), "a\nb\nc\n\n\n.#", "a\nb\nc\n\n!#"),
+        (("\n", "\nab", "\n"), "\n\nab\n\n.#", "\n\nab!#"),
+        (("", "a", "b"), "a\nb.#", "a!#"),
+        (("a", "", "b\n"), "a\nb\n.#", "a\n!#"),
+        (("a\n", "", "b"), "a\nb.#", "a\n!#"),
+        (("a", "bc", ""), "a\nbc\n.#", "a\nbc!#"),
+        (("", "", "ab"), "ab.#", "!#"),
+        (("ab", "", ""), "ab\n.#", "ab\n!#"),
+        (("", "", ""), ".#", "!#"),
+    ] {
+        for cuts in 0..8 {
+            let texts = (texts.0.as_bytes(), texts.1.as_bytes(), texts.2.as_bytes());
+            for (second, wanted) in [(Piece::End, whole), (Piece::Broken, broken)] {
+                let cat = joint(alloc, &NodeKind::Cat { close: true }, 3, 1)?;
+                let inputs = three_inputs(alloc, texts, cuts, second)?;
+                assert_eq!(rt;
+                    put_for(alloc, cat, inputs, 1)?.as_slice(),
+                    wanted.as_bytes(),
+                    "at {cuts}"
+                );
+            }
+        }
+    }
+    Ok(())
+}
+
+#[test]
+fn an_input_alone_stays_as_it_is(rt: HostRuntime) -> Result<(), Fail> {
+    let alloc = rt.alloc();
+    for (text, wanted) in [("a\nb", "a\nb.#"), ("a\nb\n", "a\nb\n.#"), ("", ".#")] {
+        for cuts in 0..8 {
+            let cat = joint(alloc, &NodeKind::Cat { close: true }, 1, 1)?;
+            let inputs = one_input(alloc, text.as_bytes(), cuts)?;
+            assert_eq!(rt;
+                put_for(alloc, cat, inputs, 1)?.as_slice(),
+                wanted.as_bytes(),
+                "at {cuts}"
+            );
+        }
+    }
+    Ok(())
+}
+
 /// `wc -l`, if that is a command.
 fn count_lines(alloc: Global) -> Result<Option<WcInv>, Memory> {
     let mut words = Vec::new(alloc);

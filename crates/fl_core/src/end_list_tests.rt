@@ -129,3 +129,62 @@ fn a_failed_end_is_that_of_its_node(rt: HostRuntime) -> Result<(), Fail> {
     }
     Ok(())
 }
+
+/// The graph that hands standard input and, behind it, the file `/f` to the output, the input closed.
+fn joined(rt: &(impl Abort + AllocGlobal)) -> Result<Graph, AllocError> {
+    let alloc = rt.alloc();
+    let read = Path::read(alloc, b"/f")?.expect(rt, "a path");
+    let mut nodes = Vec::new(alloc);
+    nodes.push(node(alloc, NodeKind::Source(From::Input), &[], &[0])?)?;
+    nodes.push(node(alloc, NodeKind::Source(From::File(read)), &[], &[1])?)?;
+    nodes.push(node(alloc, NodeKind::Cat { close: true }, &[0, 1], &[2])?)?;
+    nodes.push(node(alloc, NodeKind::Sink(To::Output), &[2], &[])?)?;
+    Ok(Graph {
+        nodes,
+        status: StatusRule::Fixed(0),
+    })
+}
+
+/// What it leaves at the output, for these texts of the input and the file.
+fn joined_over(
+    rt: &(impl Abort + AllocGlobal),
+    input: &[u8],
+    file: &[u8],
+) -> Result<Option<Vec<u8>>, AllocError> {
+    let alloc = rt.alloc();
+    let graph = joined(rt)?;
+    let mut readers = Vec::new(alloc);
+    let text = Vec::from_slice(alloc, file)?;
+    readers.push((1, MemSource::new(text, Vec::new(alloc))))?;
+    let writers: Vec<(u32, MemSink)> = Vec::new(alloc);
+    let text = Vec::from_slice(alloc, input)?;
+    let ends = Ends {
+        readers,
+        writers,
+        input: MemSource::new(text, Vec::new(alloc)),
+        out: MemSink::new(alloc, Vec::new(alloc)),
+    };
+    assert!(rt; validate(&graph));
+    assert!(rt; are_run(graph.nodes.as_slice()));
+    assert!(rt; have_ends(&graph, &ends));
+    let Ran::Done(_, ends) = run_in_turn(alloc, &graph, ends) else {
+        return Ok(None);
+    };
+    Ok(Some(Vec::from_slice(alloc, ends.out.taken())?))
+}
+
+#[test]
+fn inputs_are_closed_where_they_are_joined(rt: HostRuntime) -> Result<(), Fail> {
+    for (input, file, wanted) in [
+        ("a", "b\n", "a\nb\n"),
+        ("a\n", "b", "a\nb"),
+        ("", "b", "b"),
+        ("a", "", "a\n"),
+    ] {
+        let Some(text) = joined_over(&rt, input.as_bytes(), file.as_bytes())? else {
+            return Err(Fail::new("it is not done"));
+        };
+        assert_eq!(rt; text.as_slice(), wanted.as_bytes());
+    }
+    Ok(())
+}

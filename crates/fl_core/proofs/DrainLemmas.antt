@@ -5,7 +5,7 @@ use Rattle.fl_graph.specs.Net.{has}
 use Rattle.fl_graph.specs.Runs.{State}
 use Rattle.fl_graph.specs.declared.pieces.Piece.{Piece}
 use Rattle.fl_core.specs.Runs.{AreDrained, Goes}
-use Rattle.fl_core.specs.Steps.{waiting_on, has_moved, SameBut, GaveTo, TookFrom, WentFrom}
+use Rattle.fl_core.specs.Steps.{waiting_on, has_moved, CameTo, SameBut, GaveTo, TookFrom, WentFrom}
 use Rattle.fl_core.specs.declared.nets.Ports.{Ports}
 use Rattle.fl_core.specs.declared.steps.Progress.{Progress}
 use Rattle.fl_core.specs.declared.steps.Progress.TheVariants as progress
@@ -52,7 +52,7 @@ module _ {Machine : Type 0} (state : Machine → State) (ports : List Ports) (ma
     -- nor is one that a node gives which writes nothing
     pub gave_drained : (wires' : List (List Piece)) → own.writes ≡ false → GaveTo own.outs.items wires wires' → AreDrained ports wires → AreDrained ports wires'
     gave_drained wires' silent gave =
-        elsewhere gave.edge wires' gave.others (λ writer other at writes same.
+        elsewhere gave.edge wires' gave.came.others (λ writer other at writes same.
         let alone = goes.wired.one_giver writer node gave.edge
         (ap (λ (it : ℕ). has it (goes.plan.outs writer)) (sym same) ∙ outer_there writer other at writes)
         (ap (has gave.edge) (goes.follows.outs node own at_own) ∙ gave.there) in
@@ -74,11 +74,11 @@ module _ {Machine : Type 0} (state : Machine → State) (ports : List Ports) (ma
         by_test : (test : Bool) → (get_or other.outs.items 0 0 == outer) ≡ test → waiting_on wires₂ (get_or other.outs.items 0 0) ≡ []
         by_test true is =
             ap (waiting_on wires₂) (eqb-true (get_or other.outs.items 0 0) outer is) ∙ went.here
-            ∙ ap (λ (edge : ℕ). drop 1 (waiting_on wires₁ edge)) (sym its) ∙ ap (drop 1) gave.last
-            ∙ ap (λ (pieces : List Piece). drop 1 (pieces ++ gave.piece ∷ [])) (ap (waiting_on wires) its ∙ drained node own at_own writing)
+            ∙ ap (λ (edge : ℕ). drop 1 (waiting_on wires₁ edge)) (sym its) ∙ ap (drop 1) gave.came.last
+            ∙ ap (λ (pieces : List Piece). drop 1 (pieces ++ gave.came.piece ∷ [])) (ap (waiting_on wires) its ∙ drained node own at_own writing)
         by_test false is =
             went.others (get_or other.outs.items 0 0) is
-            ∙ gave.others (get_or other.outs.items 0 0) (ap (λ (edge : ℕ). get_or other.outs.items 0 0 == edge) its ∙ is)
+            ∙ gave.came.others (get_or other.outs.items 0 0) (ap (λ (edge : ℕ). get_or other.outs.items 0 0 == edge) its ∙ is)
             ∙ drained writer other at writes
 
 -- a turn of a node, whose step led to the middle
@@ -94,7 +94,7 @@ module _ {Machine : Type 0} (state : Machine → State) (ports ports₁ ports₂
 
   -- a piece came from outside
   pub read_drained : wires₁ ≡ wires → (reading : Bool) → ((own : Ports) → slice_get ports₁ node ≡ Some own → reading ≡ own.reads) → reading ≡ true
-      → ((own : Ports) → slice_get ports₁ node ≡ Some own → SameBut (get_or own.ins.items 0 0) wires₁ wires₂)
+      → ((own : Ports) → slice_get ports₁ node ≡ Some own → CameTo (get_or own.ins.items 0 0) wires₁ wires₂)
       → AreDrained ports wires → AreDrained ports₂ wires₂
   read_drained same reading told is came drained =
       let one = goes.wired.one_in node (goes.follows.reads node here.own here.at ∙ sym (told here.own here.at_middle) ∙ is) in
@@ -103,7 +103,7 @@ module _ {Machine : Type 0} (state : Machine → State) (ports ports₁ ports₂
       ap (λ (edges : List ℕ). slice_get edges 0) ins ∙ ap (λ (edges : List ℕ). Some (get_or edges 0 0)) (sym ins) in
       subst (λ (it : List Ports). AreDrained it wires₂) (sym (same₂ ∙ same₁))
       (in_drained state ports machines wires left taken goes node here.own here.at (get_or here.own.ins.items 0 0) wires₂ (stands-has here.own.ins.items 0 (get_or here.own.ins.items 0 0) first)
-      (subst (λ (it : List (List Piece)). SameBut (get_or here.own.ins.items 0 0) it wires₂) same (came here.own here.at_middle)) drained)
+      (subst (λ (it : List (List Piece)). SameBut (get_or here.own.ins.items 0 0) it wires₂) same (came here.own here.at_middle).others) drained)
 
   -- one went there
   pub write_drained : ((own : Ports) → slice_get ports node ≡ Some own → GaveTo own.outs.items wires wires₁)

@@ -155,10 +155,8 @@ module _ (was now : State) (ports : List Ports) (wires wires' given new : List (
       let step = gave is in
       over_wires (GaveTo other.outs.items) (record {
         edge = step.edge;
-        piece = step.moved.piece;
         there = ap (has step.edge) (sym (outs_are ∙ ap (λ (it : Ports). it.outs.items) (same_ports other at_other))) ∙ stands-has outs step.port step.edge step.there;
-        last = step.moved.last;
-        others = step.others;
+        came = record { piece = step.moved.piece; last = step.moved.last; others = step.others };
       })
 
 -- a step in which nothing moved has changed nothing

@@ -1,11 +1,13 @@
 -- Nodes that can do nothing, one after another, up to all of them.
-use Rattle.std.proofs.Common.{◌≡◌, ℕ, ◌+◌, ◌<◌, ◌≤◌, List, Bool, length, Option, Result, Ok, subst, inl, inr, arith}
-use Rattle.std.proofs.lemmas.Bool.{cases_lt}
+use Rattle.std.proofs.Common.{◌≡◌, ℕ, ◌+◌, ◌<◌, ◌≤◌, List, Bool, true, false, not, ◌||◌, length, slice_get, Option, Some, Result, Ok, refl, ap, sym, ◌∙◌, subst, inl, inr, arith}
+use Rattle.std.proofs.lemmas.Bool.{cases_lt, true≢false}
 use Rattle.std.proofs.lemmas.Option.{slice_get_within}
 use Rattle.fl_graph.specs.declared.pieces.Act.{Act}
 use Rattle.fl_graph.specs.declared.pieces.Piece.{Piece}
-use Rattle.fl_core.specs.Stuck.{IsStuck, IsStuckAt}
+use Rattle.fl_core.specs.Steps.{progress_at}
+use Rattle.fl_core.specs.Stuck.{is_stuck, IsStuck, IsStuckAt}
 use Rattle.fl_core.specs.declared.nets.Ports.{Ports}
+use Rattle.fl_core.proofs.OutsideLemmas.{some_at}
 
 module _ {Machine : Type 0} (takes puts : Machine → ℕ → Bool) (act : Machine → Act) (ports : List Ports) (machines : List Machine) (rooms : List (Option ℕ)) (wires : List (List Piece)) where
   -- whatever is said of a network is said of one that is the same
@@ -42,6 +44,21 @@ module _ {Machine : Type 0} (takes puts : Machine → ℕ → Bool) (act : Machi
               may = λ machine at. let there = slice_get_within machines node machine at in absurd (omega (arith, there, all, beyond));
             }
           ]
+
+  -- the answer of a node's turn: whether it could do anything
+  abbrev pub Answers : ℕ → Bool → Type 0
+  Answers node moved = (machine : Machine) (own : Ports) → slice_get machines node ≡ Some machine → slice_get ports node ≡ Some own
+      → moved ≡ not (is_stuck (progress_at (act machine) own.ins.items own.outs.items rooms wires) own.reads)
+
+  -- a piece moved before this node's turn or in it, so that one could move
+  pub one_moved : (node : ℕ) (moved here : Bool) → (moved || here) ≡ true → node < length machines → node < length ports
+      → (moved ≡ true → IsStuck takes puts act ports machines rooms wires → ⊥) → (moved ≡ false → Answers node here)
+      → IsStuck takes puts act ports machines rooms wires → ⊥
+  one_moved node true here is within has_ports before answer stuck = before refl stuck
+  one_moved node false here is within has_ports before answer stuck =
+      let machine = some_at machines node within in
+      let own = some_at ports node has_ports in
+      true≢false (sym is ∙ answer refl machine.0 own.0 machine.1 own.1 ∙ ap not ((stuck.each node).moves_none machine.0 own.0 machine.1 own.1))
 
 pub told_ok : {E : Type 0} (one other : Bool) → ◌≡◌ {A = Result Bool E} (Ok one) (Ok other) → one ≡ other
 told_ok one other is = cc

@@ -7,7 +7,7 @@ use mathlib.Core.Path.{fun_ext}
 use Rattle.ps_world.specs.Told.{bytes_then, then_bytes, GrewByPrefix, IsEnded}
 use Rattle.fl_graph.specs.Runs.{text_of, is_end, State}
 use Rattle.fl_graph.specs.declared.pieces.Piece.{Piece}
-use Rattle.fl_core.specs.Steps.{has_bytes, is_plain, waiting_on, SameBut, Starves, WentFrom}
+use Rattle.fl_core.specs.Steps.{has_bytes, is_plain, waiting_on, CameTo, SameBut, Starves, WentFrom}
 use Rattle.fl_core.specs.Runs.{Plan, IsWired, Follows, Reached, Halted, Leads, Halts, Goes, HasEnds}
 use Rattle.fl_core.specs.declared.nets.Ports.{Ports}
 use Rattle.fl_core.proofs.ReachLemmas.{reached_came}
@@ -139,9 +139,15 @@ module _ {Machine : Type 0} (state : Machine → State) (ports : List Ports) (ma
       (subst (λ (it : ℕ). it < length wires) edge_here within) (ap (waiting_on wires) (sym edge_here) ∙ sym wire_is ∙ waits) elsewhere grew
 
   -- which edge has changed
-  pub came_at : (wire : List Piece) → edge ≡ get_or found.ins.items 0 0 → (own : Ports) → slice_get ports node ≡ Some own → SameBut (get_or own.ins.items 0 0) wires (slice_set wires edge wire)
-  came_at wire edge_is own at_own =
-      subst (λ (it : ℕ). SameBut it wires (slice_set wires edge wire)) (edge_is ∙ ap (λ (it : Ports). get_or it.ins.items 0 0) (same_own own at_own)) (set_others wires edge wire)
+  pub came_at : (wire wire' : List Piece) (piece : Piece) → edge ≡ get_or found.ins.items 0 0 → wire ≡ waiting_on wires edge → wire' ≡ wire ++ piece ∷ []
+      → (own : Ports) → slice_get ports node ≡ Some own → CameTo (get_or own.ins.items 0 0) wires (slice_set wires edge wire')
+  came_at wire wire' piece edge_is wire_is more own at_own =
+      subst (λ (it : ℕ). CameTo it wires (slice_set wires edge wire')) (edge_is ∙ ap (λ (it : Ports). get_or it.ins.items 0 0) (same_own own at_own))
+      (record {
+        piece = piece;
+        last = set_there wires edge wire' within ∙ more ∙ ap (λ (pieces : List Piece). pieces ++ piece ∷ []) wire_is;
+        others = set_others wires edge wire';
+      })
 
   pub went_at : (wire rest : List Piece) → edge ≡ get_or found.outs.items 0 0 → wire ≡ waiting_on wires edge → rest ≡ drop 1 wire
       → (own : Ports) → slice_get ports node ≡ Some own → WentFrom (get_or own.outs.items 0 0) wires (slice_set wires edge rest)

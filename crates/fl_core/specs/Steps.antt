@@ -81,13 +81,17 @@ pub record TookFrom (ins : List ℕ) (wires wires' : List (List Piece)) : Type 0
   pub there : has edge ins ≡ true
   pub others : SameBut edge wires wires'
 
--- a piece came to an edge among these outs
-pub record GaveTo (outs : List ℕ) (wires wires' : List (List Piece)) : Type 0 where
-  pub edge : ℕ
+-- a piece came to this edge, behind those that wait
+pub record CameTo (edge : ℕ) (wires wires' : List (List Piece)) : Type 0 where
   pub piece : Piece
-  pub there : has edge outs ≡ true
   pub last : waiting_on wires' edge ≡ waiting_on wires edge ++ piece ∷ []
   pub others : SameBut edge wires wires'
+
+-- one came to an edge among these outs
+pub record GaveTo (outs : List ℕ) (wires wires' : List (List Piece)) : Type 0 where
+  pub edge : ℕ
+  pub there : has edge outs ≡ true
+  pub came : CameTo edge wires wires'
 
 -- the first piece that waited on this edge went, if one did
 pub record WentFrom (edge : ℕ) (wires wires' : List (List Piece)) : Type 0 where

@@ -44,7 +44,7 @@ impl<M: Machine> Net<M> {
     ghost use Rattle.fl_graph.specs.Runs.{State};
     ghost use Rattle.fl_graph.specs.declared.kinds.NodeKind.{NodeKind};
     ghost use Rattle.fl_core.specs.Inputs.{RunsOver};
-    ghost use Rattle.fl_core.specs.Steps.{has_moved, progress_at, ArePlain, Fits, GaveTo, SameBut, Starves, TookFrom, WentFrom};
+    ghost use Rattle.fl_core.specs.Steps.{has_moved, progress_at, ArePlain, CameTo, Fits, GaveTo, Starves, TookFrom, WentFrom};
     ghost use Rattle.fl_core.specs.Stuck.{is_stuck, IsStuck, IsStuckAt};
     ghost use Rattle.fl_core.specs.declared.nets.Ports.{Ports as Port};
 
@@ -114,7 +114,7 @@ impl<M: Machine> Net<M> {
         ensures halts { let state : M → State = λ machine. record { takes = M.takes machine; puts = M.puts machine; broken = M.broken machine; due = M.due machine; selects = M.selects machine } in
             OnErr result (Halts state self.old.ports.items self.old.machines.items self.old.wires.items (E.left ends.old) (E.taken ends.old) (E.taken ends.new)) }
         ensures came { OnOk result ((own : Port) → slice_get self.old.ports.items node ≡ Some own →
-            SameBut (get_or own.ins.items 0 0) self.old.wires.items self.new.wires.items) }
+            CameTo (get_or own.ins.items 0 0) self.old.wires.items self.new.wires.items) }
         ensures ports { self.new.ports ≡ self.old.ports }
         ensures machines { self.new.machines ≡ self.old.machines }
         ensures wires { length self.new.wires.items ≡ length self.old.wires.items }
@@ -218,7 +218,7 @@ impl<M: Machine> Net<M> {
         }
     }
 
-    /// Lets a node go on for so many steps at most, as long as it can; answers whether a piece has moved, and where none has, nothing has
+    /// Lets a node go on for so many steps at most, as long as it can; answers whether it could do anything, and where it couldn't, nothing has
     /// changed.
     fn run_node<E: NodeEnds>(
         &mut self,
@@ -238,16 +238,22 @@ impl<M: Machine> Net<M> {
             OnErr result (HaltsFrom state (record { ports = self.old.ports.items; machines = self.old.machines.items; wires = self.old.wires.items; left = E.left ends.old; taken = E.taken ends.old; reads = E.reads ends.old; writes = E.writes ends.old; faults = E.faults ends.old }) (E.taken ends.new)) }
         ensures rooms { self.new.rooms ≡ self.old.rooms }
         ensures same { result ≡ Ok false → (self.new.machines.items ≡ self.old.machines.items) × (self.new.wires.items ≡ self.old.wires.items) × (ends.new ≡ ends.old) }
+        ensures answer { IfOk result (λ moved. (machine : M) (own : Port) → slice_get self.old.machines.items node ≡ Some machine → slice_get self.old.ports.items node ≡ Some own →
+            moved ≡ not (is_stuck (progress_at (M.act machine) own.ins.items own.outs.items self.old.rooms.items self.old.wires.items) own.reads)) }
         ensures stuck { result ≡ Ok false → IsStuckAt (λ machine. M.takes machine) (λ machine. M.puts machine) (λ machine. M.act machine) self.old.ports.items self.old.machines.items self.old.rooms.items self.old.wires.items node }
         ensures buffer { length buffer.new ≡ length buffer.old }
         ensures borrows { E.borrows ends.new ≡ E.borrows ends.old }
         ensures cause { Causes (E.faults ends.old) (E.faults ends.new) result }
     {
-        let mut moved = false;
-        for _ in 0..STEPS_OF_A_TURN {
+        match self.turn(alloc, node, ends, buffer) {
+            Ok(true) => {}
+            Ok(false) => return Ok(false),
+            Err(halt) => return Err(halt),
+        }
+        for _ in 1..STEPS_OF_A_TURN {
             match self.turn(alloc, node, ends, buffer) {
-                Ok(true) => moved = true,
-                Ok(false) => return Ok(moved),
+                Ok(true) => continue,
+                Ok(false) => break,
                 Err(halt) => return Err(halt),
             }
         }
@@ -273,6 +279,7 @@ impl<M: Machine> Net<M> {
         ensures rooms { self.new.rooms ≡ self.old.rooms }
         ensures same { result ≡ Ok false → (self.new.machines.items ≡ self.old.machines.items) × (self.new.wires.items ≡ self.old.wires.items) × (ends.new ≡ ends.old) }
         ensures stuck { result ≡ Ok false → IsStuck (λ machine. M.takes machine) (λ machine. M.puts machine) (λ machine. M.act machine) self.old.ports.items self.old.machines.items self.old.rooms.items self.old.wires.items }
+        ensures moved { result ≡ Ok true → IsStuck (λ machine. M.takes machine) (λ machine. M.puts machine) (λ machine. M.act machine) self.old.ports.items self.old.machines.items self.old.rooms.items self.old.wires.items → ⊥ }
         ensures buffer { length buffer.new ≡ length buffer.old }
         ensures borrows { E.borrows ends.new ≡ E.borrows ends.old }
         ensures cause { Causes (E.faults ends.old) (E.faults ends.new) result }

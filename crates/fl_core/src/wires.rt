@@ -24,7 +24,7 @@ impl Model for Wire {
 
 impl Wire {
     ghost use Rattle.std.specs.Prelude.{◌≡◌, ◌∷◌, ◌++◌, [], IfSome, IfNone, OnOk, OnErr};
-    ghost use Rattle.fl_core.specs.Steps.{is_empty, is_full};
+    ghost use Rattle.fl_core.specs.Steps.{is_full};
 
     /// An edge on which nothing waits.
     pub fn new(alloc: Global) -> Wire
@@ -33,13 +33,6 @@ impl Wire {
         Wire {
             pieces: VecDeque::new(alloc),
         }
-    }
-
-    /// Whether nothing waits.
-    pub fn is_empty(&self) -> bool
-        ensures { result ≡ is_empty self.now }
-    {
-        self.pieces.is_empty()
     }
 
     /// Whether as many pieces wait as there is room for. It is a bound on memory alone, and `push` takes more.

@@ -1,9 +1,17 @@
 use Rattle.std.proofs.Common.{ap, sym, ◌∙◌, Ok}
 use Rattle.fl_core.specs.Stuck.{IsStuck}
-use Rattle.fl_core.proofs.PointLemmas.{halts_behind}
+use Rattle.fl_core.proofs.PointLemmas.{advances_on, halts_behind}
 use Rattle.fl_core.proofs.StuckLemmas.{said_of}
 use Rattle.fl_core.proofs.TurnLemmas.{step_halts}
 use Rattle.fl_core.proofs.nets.Net.run.Goals as goal
+
+pub loop-preserved : goal.loop-preserved
+loop-preserved g c = (
+  advances_on (λ machine. record { takes = g.M.Machine.takes machine; puts = g.M.Machine.puts machine; broken = g.M.Machine.broken machine; due = g.M.Machine.due machine; selects = g.M.Machine.selects machine }) _ _ c.loop.invariant.0 _ c.in-Ok-true.ensures.ok,
+  c.sweep.ensures.buffer ∙ c.loop.invariant.1,
+  c.sweep.ensures.borrows ∙ c.loop.invariant.2,
+  c.sweep.ensures.rooms ∙ c.loop.invariant.3,
+)
 
 pub returns-clause-err : goal.returns-clause-err
 returns-clause-err g c =

@@ -1,4 +1,4 @@
-use Rattle.std.proofs.Common.{◌≡◌, false, length}
+use Rattle.std.proofs.Common.{◌≡◌, length}
 use Rattle.fl_core.specs.Points.{Advances}
 use Rattle.fl_core.proofs.nets.Net.run_node.Given as goal
 
@@ -10,4 +10,3 @@ invariant-loop g l =
     × (length l.buffer ≡ length l.fn.buffer)
     × (g.E.NodeEnds.borrows l.ends ≡ g.E.NodeEnds.borrows l.fn.ends)
     × (l.self.rooms ≡ l.fn.self.rooms)
-    × (l.moved ≡ false → (l.self.machines.items ≡ l.fn.self.machines.items) × (l.self.wires.items ≡ l.fn.self.wires.items) × (l.ends ≡ l.fn.ends))

@@ -2,7 +2,7 @@ use Rattle.std.proofs.Common.{◌∙◌, ap, Ok, rules}
 use Rattle.std.proofs.lemmas.Bool.{or_parts}
 use Rattle.fl_core.specs.Stuck.{IsStuckAt}
 use Rattle.fl_core.proofs.PointLemmas.{advances_on}
-use Rattle.fl_core.proofs.StuckLemmas.{all_stuck, one_more_stuck, said_of, told_ok}
+use Rattle.fl_core.proofs.StuckLemmas.{all_stuck, one_more_stuck, one_moved, said_of, told_ok, Answers}
 use Rattle.fl_core.proofs.nets.Net.sweep.Goals as goal
 
 pub loop-node-preserved : goal.loop-node-preserved
@@ -23,8 +23,20 @@ loop-node-preserved g c = (
             c.loop-node.invariant.0.ports before.0 (ap (λ it. it.items) c.loop-node.invariant.3) before.1
             (c.run_node.ensures.stuck (c.in-Ok.is ∙ ap (λ it. Ok it) parts.1))),
       ),
+  λ is stuck.
+      one_moved (λ machine. g.M.Machine.takes machine) (λ machine. g.M.Machine.puts machine) (λ machine. g.M.Machine.act machine) _ _ _ _ c.loop-node.node c.loop-node.moved c.in-Ok.went_on is
+      (search rules) (search rules) c.loop-node.invariant.5
+      (λ still.
+      let before = c.loop-node.invariant.4 still in
+      said_of (λ machine. g.M.Machine.takes machine) (λ machine. g.M.Machine.puts machine) (λ machine. g.M.Machine.act machine) _ _ _ _
+      (λ ports machines rooms wires. Answers (λ machine. g.M.Machine.takes machine) (λ machine. g.M.Machine.puts machine) (λ machine. g.M.Machine.act machine) ports machines rooms wires c.loop-node.node c.in-Ok.went_on) _ _ _ _
+      c.loop-node.invariant.0.ports before.0 (ap (λ it. it.items) c.loop-node.invariant.3) before.1 c.in-Ok.ensures.answer)
+      stuck,
 )
 
 pub returns-clause-stuck : goal.returns-clause-stuck
 returns-clause-stuck g c = λ is.
     all_stuck (λ machine. g.M.Machine.takes machine) (λ machine. g.M.Machine.puts machine) (λ machine. g.M.Machine.act machine) _ _ _ _ c.loop-node.node (search rules) (c.loop-node.invariant.4 (told_ok c.loop-node.moved _ is)).3
+
+pub returns-clause-moved : goal.returns-clause-moved
+returns-clause-moved g c = λ is stuck. c.loop-node.invariant.5 (told_ok c.loop-node.moved _ is) stuck

@@ -1,6 +1,6 @@
-use Rattle.std.proofs.Common.{◌≡◌, ℕ, ◌<◌, false, length}
+use Rattle.std.proofs.Common.{◌≡◌, ℕ, ◌<◌, true, false, length}
 use Rattle.fl_core.specs.Points.{Advances}
-use Rattle.fl_core.specs.Stuck.{IsStuckAt}
+use Rattle.fl_core.specs.Stuck.{IsStuck, IsStuckAt}
 use Rattle.fl_core.proofs.nets.Net.sweep.Given as goal
 
 abbrev pub invariant-loop-node : goal.invariant-loop-node
@@ -13,3 +13,4 @@ invariant-loop-node g l =
     × (l.self.rooms ≡ l.fn.self.rooms)
     × (l.moved ≡ false → (l.self.machines.items ≡ l.fn.self.machines.items) × (l.self.wires.items ≡ l.fn.self.wires.items) × (l.ends ≡ l.fn.ends)
     × ((number : ℕ) → number < l.node → IsStuckAt (λ machine. g.M.Machine.takes machine) (λ machine. g.M.Machine.puts machine) (λ machine. g.M.Machine.act machine) l.fn.self.ports.items l.fn.self.machines.items l.fn.self.rooms.items l.fn.self.wires.items number))
+    × (l.moved ≡ true → IsStuck (λ machine. g.M.Machine.takes machine) (λ machine. g.M.Machine.puts machine) (λ machine. g.M.Machine.act machine) l.fn.self.ports.items l.fn.self.machines.items l.fn.self.rooms.items l.fn.self.wires.items → ⊥)

@@ -1,6 +1,6 @@
 -- Fields (XCU 2.6): word by word from the left, the marks of a word's parts are cut into fields, a field with a pattern gives the names
 -- that fit it, and the marks are removed. Each word sees the variables that the words before it left.
-use Rattle.std.specs.Prelude.{◌≡◌, ◌⊎◌, ◌||◌, ℕ, ◌<◌, ◌≤◌, length, Bool, false, List, [], ◌∷◌, ◌++◌, Result, Ok, Err, IsErrOf, OnOk}
+use Rattle.std.specs.Prelude.{◌≡◌, ◌⊎◌, ◌||◌, ℕ, ◌<◌, ◌≤◌, length, Bool, false, List, [], ◌∷◌, ◌++◌, Result, Ok, Err, IfErr, IsErrOf, OnOk}
 use Rattle.ps_world.specs.Counts.{Rose}
 use Rattle.std.specs.List.{list_any}
 use Rattle.ps_world.specs.declared.error.WorldErr.{WorldErr}
@@ -114,11 +114,12 @@ pub data TextStops (given : Given) (before : Variables) (word : WordTree) : Expa
   text_stops : {after : Variables} {fault : ValueFault} {shown : ExpandFault} → shown ≡ told fault → WordGives given setting.Joined before word (Err fault, after) → TextStops given before word shown after
   text_short : {after : Variables} {marks : List Marked} {shown : ExpandFault} → shown ≡ fault.Memory → WordGives given setting.Joined before word (Ok marks, after) → TextStops given before word shown after
 
--- the tree's count never falls, it rose where the tree failed, and stands where there are fields
+-- the tree's count never falls, it rose where the tree's failure is told, and stands elsewhere: no failure is told as another fault
 pub record Asks {T : Type 0} (before now : ℕ) (result : Result T ExpandFault) : Type 0 where
   pub later : before ≤ now
   pub failed : IsErrOf result fault.Failed → Rose before now
   pub ok : OnOk result (now ≡ before)
+  pub others : IfErr result (λ why. (why ≡ fault.Failed) ⊎ (now ≡ before))
 
 -- names were appended, which are such
 pub record Appends (Are : List (List ℕ) → Type 0) (old new : List (List ℕ)) : Type 0 where

@@ -120,7 +120,8 @@ fn is_pattern_in(fields: &[Vec<Marked>]) -> bool
 /// removal, word by word from the left.
 ///
 /// Unset and Arith are told for the first part that has such a fault. ArgsTooMany is told where there are more than MAX_FIELDS fields,
-/// and neither of these faults. Failed is told where the tree failed. After a fault the variables have what was assigned before it.
+/// and neither of these faults. Failed is told where the tree failed, and nothing else is told there. After a fault the variables have
+/// what was assigned before it.
 ///
 /// Where `has_pattern` is false of the words, the tree stays as it was.
 pub fn expand<T: Tree>(

@@ -3,3 +3,4 @@ pub mod Lines
 pub mod Numbers
 pub mod Bits
 pub mod ByteSet
+pub mod Bytes

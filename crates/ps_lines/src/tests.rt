@@ -67,3 +67,19 @@ fn compares_texts(rt: HostRuntime) -> Result<(), Fail> {
     assert!(rt; text != Text::copy_of(rt.alloc(), b"a\0c")?);
     Ok(())
 }
+
+/// Which of all bytes are white space and begin or go on a name.
+#[test]
+fn classes_of_bytes(rt: HostRuntime) -> Result<(), Fail> {
+    let starts = b"ABCDEFGHIJKLMNOPQRSTUVWXYZ_abcdefghijklmnopqrstuvwxyz";
+    for byte in 0..=u8::MAX {
+        assert_eq!(rt; is_white_space(byte), b"\t\n ".contains(&byte), "of {byte}");
+        assert_eq!(rt; is_name_start(byte), starts.contains(&byte), "of {byte}");
+        assert_eq!(rt;
+            is_name_byte(byte),
+            starts.contains(&byte) || b"0123456789".contains(&byte),
+            "of {byte}"
+        );
+    }
+    Ok(())
+}

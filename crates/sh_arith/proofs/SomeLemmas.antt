@@ -7,7 +7,8 @@ use Rattle.sh_arith.specs.declared.faults.ArithFault.TheVariants.{Syntax, Deep}
 use Rattle.sh_arith.specs.declared.syntax.Expected.TheVariants as expected
 use Rattle.sh_arith.specs.declared.tokens.Symbol.{Symbol}
 use Rattle.sh_arith.specs.Constants.{constant}
-use Rattle.sh_arith.specs.Tokens.{Token, number, name, mark, is_name_byte, past_blanks, word, past_word, double, single, longest, symbol_at, worded, next_token, Lexes, no_token, one_token}
+use Rattle.ps_lines.specs.Bytes.{is_name_byte}
+use Rattle.sh_arith.specs.Tokens.{Token, number, name, mark, past_blanks, word, past_word, double, single, longest, symbol_at, worded, next_token, Lexes, no_token, one_token}
 use Rattle.sh_arith.specs.Trees.{Tree}
 use Rattle.sh_arith.specs.Syntax.{accepts}
 use Rattle.sh_arith.specs.Variables.{Variables}

@@ -5,7 +5,8 @@ use Rattle.std.specs.Option.{IfSome}
 use Rattle.std.proofs.lemmas.Bool.Decides.{nat_tests}
 use Rattle.std.proofs.lemmas.Bool.{eqb-true}
 use Rattle.sh_arith.specs.declared.tokens.Token as code
-use Rattle.sh_arith.specs.Tokens.{Token, meaning, is_blank, is_name_byte, word, past_word, past_blanks, next_token, Lexes, no_token, one_token}
+use Rattle.ps_lines.specs.Bytes.{is_name_byte, is_white_space}
+use Rattle.sh_arith.specs.Tokens.{Token, meaning, word, past_word, past_blanks, next_token, Lexes, no_token, one_token}
 
 word_goes_on : (named : Bool) (byte : ℕ) (rest : List ℕ) → is_name_byte byte ≡ named → word rest ++ past_word rest ≡ rest → word (byte ∷ rest) ++ past_word (byte ∷ rest) ≡ byte ∷ rest
 word_goes_on true byte rest h more = rw h (ap (λ l. byte ∷ l) more)
@@ -41,22 +42,22 @@ word_shorter (Some r) text left rest byte same past cut named =
     let here : length (past_word text) < length text = subst (λ t. length (past_word t) < length t) (sym cut) shorter in
     omega (arith, ap length (same ∙ past))
 
-past_again : (blank : Bool) (byte : ℕ) (rest : List ℕ) → is_blank byte ≡ blank → past_blanks (past_blanks rest) ≡ past_blanks rest → past_blanks (past_blanks (byte ∷ rest)) ≡ past_blanks (byte ∷ rest)
+past_again : (blank : Bool) (byte : ℕ) (rest : List ℕ) → is_white_space byte ≡ blank → past_blanks (past_blanks rest) ≡ past_blanks rest → past_blanks (past_blanks (byte ∷ rest)) ≡ past_blanks (byte ∷ rest)
 past_again true byte rest h more = rw h more
 past_again false byte rest h more = rw h (rw h refl)
 
-past_blanked : (blank : Bool) (byte : ℕ) (rest : List ℕ) → is_blank byte ≡ blank → length (past_blanks rest) ≤ length rest → length (past_blanks (byte ∷ rest)) ≤ length (byte ∷ rest)
+past_blanked : (blank : Bool) (byte : ℕ) (rest : List ℕ) → is_white_space byte ≡ blank → length (past_blanks rest) ≤ length rest → length (past_blanks (byte ∷ rest)) ≤ length (byte ∷ rest)
 past_blanked true byte rest h more = rw h (omega arith)
 past_blanked false byte rest h more = rw h (omega arith)
 
 pub past_blanks_within : (text : List ℕ) → length (past_blanks text) ≤ length text
 past_blanks_within [] = omega arith
-past_blanks_within (byte ∷ rest) = past_blanked (is_blank byte) byte rest refl (past_blanks_within rest)
+past_blanks_within (byte ∷ rest) = past_blanked (is_white_space byte) byte rest refl (past_blanks_within rest)
 
 -- white space is passed at once
 pub past_blanks_twice : (text : List ℕ) → past_blanks (past_blanks text) ≡ past_blanks text
 past_blanks_twice [] = refl
-past_blanks_twice (byte ∷ rest) = past_again (is_blank byte) byte rest refl (past_blanks_twice rest)
+past_blanks_twice (byte ∷ rest) = past_again (is_white_space byte) byte rest refl (past_blanks_twice rest)
 
 pub blanks_before : {text : List ℕ} {list : List Token} → Lexes (past_blanks text) list → Lexes text list
 blanks_before {text} (no_token end) = no_token (sym (past_blanks_twice text) ∙ end)

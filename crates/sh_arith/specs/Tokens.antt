@@ -1,7 +1,8 @@
 -- Tokens of an expression (XCU 2.6.4): words of letters, digits and underscores, and operators, each as long as it can be.
 -- `++` and `--` are no tokens (own). White space is space, tab and newline (own).
 use Rattle.std.specs.Prelude.{◌≡◌, ℕ, ◌==◌, ◌&&◌, ◌||◌, Bool, List, [], ◌∷◌, Option, Some, None, option_map, if◌then◌else◌}
-use Rattle.std.specs.Char.{is_ascii_digit, is_ascii_alphanumeric}
+use Rattle.std.specs.Char.{is_ascii_digit}
+use Rattle.ps_lines.specs.Bytes.{is_name_byte, is_white_space}
 use Rattle.sh_arith.specs.declared.operators.Operator.TheVariants as operator
 use Rattle.sh_arith.specs.declared.tokens.Symbol.{Symbol}
 use Rattle.sh_arith.specs.declared.tokens.Symbol.TheVariants as symbol
@@ -21,16 +22,9 @@ meaning (token.Number word) = number word.now
 meaning (token.Name word) = name word.now
 meaning (token.Symbol symbol) = mark symbol
 
-abbrev pub is_blank : ℕ → Bool
-is_blank byte = byte == 32 || byte == 9 || byte == 10
-
 abbrev pub past_blanks : List ℕ → List ℕ
 past_blanks [] = []
-past_blanks (byte ∷ rest) = if is_blank byte then past_blanks rest else byte ∷ rest
-
--- a letter, a digit or an underscore
-abbrev pub is_name_byte : ℕ → Bool
-is_name_byte byte = is_ascii_alphanumeric byte || byte == 95
+past_blanks (byte ∷ rest) = if is_white_space byte then past_blanks rest else byte ∷ rest
 
 -- the longest word that the text begins with
 abbrev pub word : List ℕ → List ℕ

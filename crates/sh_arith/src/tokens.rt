@@ -2,11 +2,12 @@
 
 ghost use Rattle.std.specs.Prelude.{◌≡◌, ◌⊎◌, ◌<◌, ◌≤◌, List, length, map, Some, None, option_map, MatchOption, IfSome, IfOk, IfErr};
 ghost use Rattle.sh_arith.specs.Tokens as tokens;
-ghost use Rattle.sh_arith.specs.Tokens.{meaning, is_blank, is_name_byte, past_word, past_blanks, double, single, symbol_at, word, worded, next_token, Lexes};
+ghost use Rattle.sh_arith.specs.Tokens.{meaning, past_word, past_blanks, double, single, symbol_at, word, worded, next_token, Lexes};
 
 use crate::constants::constant;
 use crate::faults::ArithFault;
 use crate::operators::Operator;
+use ps_lines::{is_name_byte, is_white_space};
 use std::alloc::Global;
 
 /// A token that is no word.
@@ -56,7 +57,7 @@ fn past_blanks(text: &[u8]) -> &[u8]
 {
     let mut rest = text;
     while let Some((byte, left)) = rest.split_first() {
-        if !is_blank(*byte) {
+        if !is_white_space(*byte) {
             return rest;
         }
         rest = left;
@@ -78,18 +79,6 @@ fn next_token(text: &[u8]) -> Option<(Token<'_>, &[u8])>
     }
     let (symbol, left) = symbol_at(*first, rest)?;
     Some((Token::Symbol(symbol), left))
-}
-
-fn is_blank(byte: u8) -> bool
-    ensures { result ≡ is_blank byte }
-{
-    byte == b' ' || byte == b'\t' || byte == b'\n'
-}
-
-fn is_name_byte(byte: u8) -> bool
-    ensures { result ≡ is_name_byte byte }
-{
-    byte.is_ascii_alphanumeric() || byte == b'_'
 }
 
 /// Two bytes that are one token.

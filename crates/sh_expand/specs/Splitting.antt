@@ -4,6 +4,7 @@
 use Rattle.std.specs.Prelude.{ℕ, ◌==◌, ◌||◌, Bool, List, [], ◌∷◌, ◌≡◌, ◌++◌, map, if◌then◌else◌}
 use Rattle.std.specs.List.{list_any}
 use Rattle.std.specs.Global.{Vec}
+use Rattle.ps_lines.specs.Bytes.{is_white_space}
 use Rattle.sh_expand.specs.declared.marks.Marked.{Marked}
 use Rattle.sh_expand.specs.declared.marks.Marked.TheVariants.{Written, Quoted, Loose, EmptyPart, FieldEnd}
 use Rattle.sh_expand.specs.declared.splitting.Class.{Class}
@@ -13,13 +14,10 @@ use Rattle.sh_expand.specs.declared.splitting.Before.TheVariants as before
 use Rattle.sh_expand.specs.declared.splitting.Act.{Act}
 use Rattle.sh_expand.specs.declared.splitting.Act.TheVariants as act
 
-abbrev pub is_white : ℕ → Bool
-is_white byte = byte == 32 || (byte == 9 || byte == 10)
-
 -- what a byte is that an expansion outside quotes gave
 abbrev pub class_of_byte : List ℕ → ℕ → Class
 class_of_byte ifs byte =
-    if list_any (λ one. one == byte) ifs then (if is_white byte then class.White else class.Ender) else class.Content
+    if list_any (λ one. one == byte) ifs then (if is_white_space byte then class.White else class.Ender) else class.Content
 
 abbrev pub class_of : List ℕ → Marked → Class
 class_of ifs (Written byte) = class.Content

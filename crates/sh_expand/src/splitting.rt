@@ -2,11 +2,11 @@
 
 ghost use Rattle.std.specs.Prelude.{◌≡◌, ◌<◌, ◌++◌, ◌∷◌, [], List, IfOk, IfSome, OnOk, MatchOption, length, ◌==◌};
 ghost use Rattle.std.specs.List.{list_any};
-ghost use Rattle.sh_expand.specs.Splitting.{class_of, class_of_byte, is_white as is_white_lem, act_at as act_lem, after as after_lem, split as split_lem, fields_of, spliced, at_mark, at_end, held, IsHeld};
+ghost use Rattle.sh_expand.specs.Splitting.{class_of, class_of_byte, act_at as act_lem, after as after_lem, split as split_lem, fields_of, spliced, at_mark, at_end, held, IsHeld};
 ghost use Rattle.sh_expand.specs.declared.marks.Marked.{Marked};
 
 use crate::marks::Marked;
-use ps_lines::Memory;
+use ps_lines::{Memory, is_white_space};
 use std::alloc::Global;
 use std::mem;
 
@@ -141,7 +141,7 @@ fn class_of_byte(byte: u8, ifs: &[u8]) -> Class
     if !is_among(byte, ifs) {
         return Class::Content;
     }
-    if is_white(byte) {
+    if is_white_space(byte) {
         Class::White
     } else {
         Class::Ender
@@ -152,13 +152,6 @@ fn is_among(byte: u8, bytes: &[u8]) -> bool
     ensures { result ≡ list_any (λ one. one == byte) bytes.now }
 {
     bytes.iter().any(|one| *one == byte)
-}
-
-/// Whether the byte is space, tab or newline.
-fn is_white(byte: u8) -> bool
-    ensures { result ≡ is_white_lem byte }
-{
-    byte == b' ' || byte == b'\t' || byte == b'\n'
 }
 
 /// What is done at a mark, by what stands before it.

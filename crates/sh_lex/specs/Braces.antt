@@ -5,7 +5,8 @@
 use Rattle.std.specs.Prelude.{ℕ, Bool, true, false, not, List, [], ◌∷◌, ◌+◌, ◌==◌, ◌||◌, ◌&&◌, if◌then◌else◌, length, drop}
 use Rattle.std.specs.declared.option.Option.{Option}
 use Rattle.std.specs.declared.option.Option.TheVariants.{None, Some}
-use Rattle.sh_lex.specs.Bytes.{is_name_start, is_name_byte, is_digit}
+use Rattle.ps_lines.specs.Bytes.{is_name_start, is_name_byte}
+use Rattle.sh_lex.specs.Bytes.{is_digit}
 use Rattle.sh_lex.specs.Texts.{unspliced, behind_quote, behind_backslash}
 use Rattle.sh_lex.specs.Acts.{Act, goes, enters, ends, offends}
 use Rattle.sh_lex.specs.Dollars.{after_dollar}

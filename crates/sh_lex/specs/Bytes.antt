@@ -1,6 +1,6 @@
 -- The bytes that the shell's language gives a meaning to (XCU 2.2, 2.3, 2.5). The code tests the same classes.
 use Rattle.std.specs.Prelude.{ℕ, Bool, ◌||◌, ◌&&◌, ◌==◌, nat_le}
-use Rattle.sh_lex.specs.declared.bytes.TheConstants.{SPACE, TAB, NEWLINE, AND, PIPE, SEMI, OPEN, CLOSE, LESS, GREAT, DOLLAR, BACKQUOTE, DOUBLE_QUOTE, BACKSLASH, AT, STAR, HASH, QUESTION, UNDERSCORE, UPPER_A, UPPER_Z, LOWER_A, LOWER_Z, ZERO, NINE}
+use Rattle.sh_lex.specs.declared.bytes.TheConstants.{SPACE, TAB, NEWLINE, AND, PIPE, SEMI, OPEN, CLOSE, LESS, GREAT, DOLLAR, BACKQUOTE, DOUBLE_QUOTE, BACKSLASH, AT, STAR, HASH, QUESTION, ZERO, NINE}
 
 -- a space or a tab
 abbrev pub is_blank : ℕ → Bool
@@ -9,14 +9,6 @@ is_blank byte = (byte == SPACE) || (byte == TAB)
 -- a decimal digit
 abbrev pub is_digit : ℕ → Bool
 is_digit byte = nat_le ZERO byte && nat_le byte NINE
-
--- a letter or an underscore: it begins a name
-abbrev pub is_name_start : ℕ → Bool
-is_name_start byte = (byte == UNDERSCORE) || (nat_le UPPER_A byte && nat_le byte UPPER_Z) || (nat_le LOWER_A byte && nat_le byte LOWER_Z)
-
--- a letter, an underscore or a digit: it goes on a name
-abbrev pub is_name_byte : ℕ → Bool
-is_name_byte byte = is_name_start byte || is_digit byte
 
 -- a blank, a newline or the first byte of an operator: unquoted it is no part of a word
 unfoldable pub ends_word : ℕ → Bool

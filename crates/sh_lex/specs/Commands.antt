@@ -3,7 +3,8 @@
 use Rattle.std.specs.Prelude.{ℕ, Bool, true, false, List, [], ◌∷◌, ◌+◌, ◌==◌, ◌&&◌, if◌then◌else◌, length, drop}
 use Rattle.std.specs.declared.option.Option.{Option}
 use Rattle.std.specs.declared.option.Option.TheVariants.{None, Some}
-use Rattle.sh_lex.specs.Bytes.{is_name_start, is_name_byte, ends_word}
+use Rattle.ps_lines.specs.Bytes.{is_name_start, is_name_byte}
+use Rattle.sh_lex.specs.Bytes.{ends_word}
 use Rattle.sh_lex.specs.Texts.{unspliced, behind_quote}
 use Rattle.sh_lex.specs.Acts.{Act, goes, enters, ends, offends, Found, nothing, gap, open_parenthesis, close_parenthesis, token, word, offence}
 use Rattle.sh_lex.specs.Dollars.{after_dollar}

@@ -2,7 +2,8 @@
 -- `rest` is what is left behind the `$`, `left` the number of bytes left at the `$`, and `outer` the construct that it stands in.
 use Rattle.std.specs.Prelude.{ℕ, Bool, true, List, [], ◌∷◌, ◌+◌, ◌==◌, nat_lt, if◌then◌else◌}
 use Rattle.std.specs.declared.option.Option.TheVariants.{Some}
-use Rattle.sh_lex.specs.Bytes.{is_name_start, is_name_byte, is_parameter}
+use Rattle.ps_lines.specs.Bytes.{is_name_start, is_name_byte}
+use Rattle.sh_lex.specs.Bytes.{is_parameter}
 use Rattle.sh_lex.specs.Texts.{unspliced}
 use Rattle.sh_lex.specs.Acts.{Act, goes, enters, ends, offends}
 use Rattle.sh_lex.specs.declared.bytes.TheConstants.{DOLLAR, BANG, DASH, OPEN_BRACE, OPEN}

@@ -6,12 +6,13 @@ ghost use Rattle.sh_lex.specs.Braces.{quote_in_braces, backslash_in_braces, brac
 use crate::acts::Step;
 use crate::bytes::{
     BACKQUOTE, BACKSLASH, CLOSE_BRACE, COLON, DASH, DOLLAR, DOUBLE_QUOTE, EQUALS, HASH, PERCENT,
-    PLUS, QUESTION, QUOTE, TILDE, is_digit, is_name_byte, is_name_start,
+    PLUS, QUESTION, QUOTE, TILDE, is_digit,
 };
 use crate::dollars::after_dollar;
 use crate::parts::{Fault, Head, Nest, Part, Spelling};
 use crate::quotes::single_quotes;
 use crate::texts::{behind_backslash, behind_byte, front};
+use ps_lines::{is_name_byte, is_name_start};
 
 /// At the beginning of a `${ }` that opened where `left` bytes were left.
 pub fn in_brace_head(nest: Nest, left: usize, quoted: bool, head: Head, text: &[u8]) -> Step<'_>

@@ -1,6 +1,6 @@
 //! The bytes that the shell's language gives a meaning to, and the classes of bytes.
 ghost use Rattle.std.specs.Prelude.{◌≡◌};
-ghost use Rattle.sh_lex.specs.Bytes.{is_blank, is_digit, is_name_byte, is_name_start, ends_word, is_quoted_escape, is_parameter};
+ghost use Rattle.sh_lex.specs.Bytes.{is_blank, is_digit, ends_word, is_quoted_escape, is_parameter};
 
 pub const TAB: u8 = b'\t';
 
@@ -56,16 +56,6 @@ pub const AT: u8 = b'@';
 
 pub const BACKSLASH: u8 = b'\\';
 
-pub const UPPER_A: u8 = b'A';
-
-pub const UPPER_Z: u8 = b'Z';
-
-pub const LOWER_A: u8 = b'a';
-
-pub const LOWER_Z: u8 = b'z';
-
-pub const UNDERSCORE: u8 = b'_';
-
 pub const BACKQUOTE: u8 = b'`';
 
 pub const OPEN_BRACE: u8 = b'{';
@@ -90,24 +80,6 @@ pub fn is_digit(byte: u8) -> bool
     ensures { result ≡ is_digit byte }
 {
     ZERO <= byte && byte <= NINE
-}
-
-/// A byte that begins a name (XBD 3.235).
-#[inline]
-pub fn is_name_start(byte: u8) -> bool
-    ensures { result ≡ is_name_start byte }
-{
-    byte == UNDERSCORE
-        || (UPPER_A <= byte && byte <= UPPER_Z)
-        || (LOWER_A <= byte && byte <= LOWER_Z)
-}
-
-/// A byte that goes on a name (XBD 3.235).
-#[inline]
-pub fn is_name_byte(byte: u8) -> bool
-    ensures { result ≡ is_name_byte byte }
-{
-    is_name_start(byte) || is_digit(byte)
 }
 
 /// A byte that, unquoted, is no part of a word: a blank, a newline or the first byte of an operator (XCU 2.3).

@@ -5,11 +5,10 @@ ghost use Rattle.sh_lex.specs.Acts.{act_of};
 ghost use Rattle.sh_lex.specs.Dollars.{opening, substitution, parenthesis, after_dollar, in_name, deeper, inside_braces};
 
 use crate::acts::Step;
-use crate::bytes::{
-    BANG, DASH, DOLLAR, OPEN, OPEN_BRACE, is_name_byte, is_name_start, is_parameter,
-};
+use crate::bytes::{BANG, DASH, DOLLAR, OPEN, OPEN_BRACE, is_parameter};
 use crate::parts::{Fault, Head, MAX_LEVELS, Nest, Part, Spelling, Spot};
 use crate::texts::front;
+use ps_lines::{is_name_byte, is_name_start};
 
 /// Behind a `$`, at which `left` bytes are left, in the construct `outer`; `quoted`: in double quotes.
 pub fn after_dollar(nest: Nest, quoted: bool, left: usize, outer: Part, text: &[u8]) -> Step<'_>

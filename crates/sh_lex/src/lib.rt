@@ -28,7 +28,7 @@ mod texts;
 mod tokens;
 mod words;
 
-pub use bytes::{is_name_byte, is_name_start};
+pub use bytes::{is_digit, is_quoted_escape};
 pub use lexing::{MAX_SCRIPT, Mark, lex, read_marks};
 pub use parts::{Fault, Head, Nest, Part, Spelling, Spot};
 pub use reading::{Stop, past_construct};

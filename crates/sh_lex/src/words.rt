@@ -8,13 +8,13 @@ ghost use Rattle.sh_lex.specs.Commands.{is_tilde_spot, spot_behind, spot_past, w
 use crate::acts::{Lexeme, Step};
 use crate::bytes::{
     BACKQUOTE, BACKSLASH, COLON, DOLLAR, DOUBLE_QUOTE, EQUALS, QUOTE, TILDE, ends_word,
-    is_name_byte, is_name_start,
 };
 use crate::dollars::after_dollar;
 use crate::operators::lexeme;
 use crate::parts::{Fault, Nest, Part, Spelling, Spot};
 use crate::quotes::single_quotes;
 use crate::texts::{behind_byte, front};
+use ps_lines::{is_name_byte, is_name_start};
 
 /// In the tokens of a `$( )` that opened where `opened` bytes were left; with `None` in the word of one token.
 pub fn in_commands(nest: Nest, opened: Option<usize>, spot: Spot, text: &[u8]) -> Step<'_>

@@ -4,7 +4,7 @@ use Rattle.std.specs.Prelude.{ℕ, Bool, true, false, List, [], ◌∷◌, ◌==
 use Rattle.std.specs.Str.{bytes_eq}
 use Rattle.std.specs.declared.option.Option.{Option}
 use Rattle.std.specs.declared.option.Option.TheVariants.{None, Some}
-use Rattle.sh_lex.specs.Bytes.{is_name_start, is_name_byte}
+use Rattle.ps_lines.specs.Bytes.{is_name_start, is_name_byte}
 use Rattle.sh_lex.specs.declared.bytes.TheConstants.{BACKSLASH, NEWLINE, EQUALS}
 use Rattle.sh_parse.specs.declared.items.WordKind.{WordKind}
 use Rattle.sh_parse.specs.declared.items.WordKind.TheVariants as word

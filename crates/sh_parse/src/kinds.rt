@@ -3,8 +3,8 @@ ghost use Rattle.std.specs.Prelude.{◌≡◌, IfOk};
 ghost use Rattle.sh_parse.specs.Kinds.{spelled, reserved_by, are_name_bytes, is_name_text, goes_to_value, is_assign, other_kind, kind_of};
 
 use crate::items::{Reserved, WordKind};
-use ps_lines::Memory;
-use sh_lex::{front, is_name_byte, is_name_start};
+use ps_lines::{Memory, is_name_byte, is_name_start};
+use sh_lex::front;
 use std::alloc::Global;
 
 /// The spelling of each reserved word (XCU 2.4).

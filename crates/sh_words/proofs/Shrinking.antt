@@ -1,6 +1,7 @@
 -- A step leaves less of the text unless what it stands in has ended, and an expansion leaves no more than it was given.
 use Rattle.std.proofs.Common.{ℕ, Bool, true, false, Option, None, Some, ◌<◌, ◌≤◌, ◌+◌, List, [], ◌∷◌, ◌==◌, ◌&&◌, if◌then◌else◌, length, arith, rules}
-use Rattle.sh_lex.specs.Bytes.{is_digit, is_name_byte}
+use Rattle.ps_lines.specs.Bytes.{is_name_byte}
+use Rattle.sh_lex.specs.Bytes.{is_digit}
 use Rattle.sh_lex.specs.Texts.{unspliced}
 use Rattle.sh_lex.proofs.Shorter.{length-unspliced}
 use Rattle.sh_lex.specs.declared.bytes.TheConstants.{BACKSLASH, NEWLINE}

@@ -7,7 +7,8 @@ use Rattle.std.specs.Str.Parse.{digits_value}
 use Rattle.sh_tree.specs.Trees.{WordTree, no_part, part, FormTree, bare, length_of, default, assign, check_omitted, check, alternate, cut_suffix, cut_prefix}
 use Rattle.sh_tree.specs.declared.words.Param.{Param}
 use Rattle.sh_tree.specs.declared.words.Param.TheVariants as param
-use Rattle.sh_lex.specs.Bytes.{is_name_start, is_name_byte, is_digit}
+use Rattle.ps_lines.specs.Bytes.{is_name_start, is_name_byte}
+use Rattle.sh_lex.specs.Bytes.{is_digit}
 use Rattle.sh_lex.specs.Texts.{unspliced}
 use Rattle.sh_lex.specs.declared.bytes.TheConstants.{BACKSLASH, NEWLINE, OPEN_BRACE, CLOSE_BRACE, OPEN, ZERO, AT, STAR, HASH, QUESTION, COLON, PERCENT, DASH, EQUALS, PLUS}
 use Rattle.sh_words.specs.declared.expansions.Operator.{Operator}

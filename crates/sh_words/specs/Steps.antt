@@ -2,7 +2,8 @@
 -- A list is what is left of the text behind the piece.
 use Rattle.std.specs.Prelude.{ℕ, Bool, true, false, List, [], ◌∷◌, ◌+◌, ◌-◌, ◌==◌, ◌||◌, ◌&&◌, if◌then◌else◌, length}
 use Rattle.sh_tree.specs.Trees.{PartTree, plain, quoted}
-use Rattle.sh_lex.specs.Bytes.{is_name_start, is_parameter, is_quoted_escape}
+use Rattle.ps_lines.specs.Bytes.{is_name_start}
+use Rattle.sh_lex.specs.Bytes.{is_parameter, is_quoted_escape}
 use Rattle.sh_lex.specs.Texts.{unspliced}
 use Rattle.sh_lex.specs.declared.bytes.TheConstants.{DOUBLE_QUOTE, DOLLAR, BACKSLASH, QUOTE, OPEN_BRACE, CLOSE_BRACE, OPEN, CLOSE}
 use Rattle.sh_words.specs.Pieces.{literal}

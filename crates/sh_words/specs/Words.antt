@@ -6,7 +6,7 @@ use Rattle.std.specs.declared.option.Option.{Option}
 use Rattle.std.specs.declared.option.Option.TheVariants.{None, Some}
 use Rattle.std.specs.Option.{option_map, option_or}
 use Rattle.sh_tree.specs.Trees.{WordTree, no_part, PartTree, parameter, substitution, arithmetic}
-use Rattle.sh_lex.specs.Bytes.{is_name_byte}
+use Rattle.ps_lines.specs.Bytes.{is_name_byte}
 use Rattle.sh_lex.specs.Texts.{unspliced}
 use Rattle.sh_lex.specs.Reads as lex
 use Rattle.sh_lex.specs.declared.Part.{Part}

@@ -7,10 +7,9 @@ ghost use Rattle.sh_tree.specs.Views.{word_tree};
 ghost use Rattle.sh_words.specs.Built.{form_tree};
 ghost use Rattle.sh_words.specs.Parameters.{expansion_of, closing_brace, operator_at, colon_at, suffix_at, prefix_at, form_at, parameter_at, placed, place_value, run, behind_run, measured_at, hash_at, formed_at, braces_at, parenthesis_at, special, expansion_at, expansion, trims, check_form, form_of, bare_form};
 
-use crate::bytes::is_digit;
 use crate::runs::{name, place};
-use ps_lines::Memory;
-use sh_lex::{front, is_name_start};
+use ps_lines::{Memory, is_name_start};
+use sh_lex::{front, is_digit};
 use sh_tree::{Form, Param, Word};
 use std::alloc::Global;
 

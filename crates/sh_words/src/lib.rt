@@ -13,7 +13,6 @@
 
 mod assigning;
 mod building;
-mod bytes;
 mod expansions;
 pub mod laws;
 mod reading;

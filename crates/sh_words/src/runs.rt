@@ -1,11 +1,11 @@
 //! Names and the digits of places, without backslash-newlines.
 ghost use Rattle.std.specs.Prelude.{◌≡◌, ◌∷◌, [], ◌++◌, ℕ, List, IfOk, true};
-ghost use Rattle.sh_lex.specs.Bytes.{is_name_byte, is_digit};
+ghost use Rattle.ps_lines.specs.Bytes.{is_name_byte};
+ghost use Rattle.sh_lex.specs.Bytes.{is_digit};
 ghost use Rattle.sh_words.specs.Parameters.{run, behind_run, place_value};
 
-use crate::bytes::is_digit;
-use ps_lines::{Memory, Text};
-use sh_lex::{front, is_name_byte};
+use ps_lines::{Memory, Text, is_name_byte};
+use sh_lex::{front, is_digit};
 use std::alloc::Global;
 
 /// The name that begins with this byte, and what is left behind it.

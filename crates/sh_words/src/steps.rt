@@ -5,8 +5,8 @@ ghost use Rattle.sh_words.specs.Steps.{step_of, step, begins_expansion, dollar, 
 ghost use Rattle.sh_words.specs.Built.{open_in};
 ghost use Rattle.sh_lex.specs.declared.bytes.TheConstants.{DOUBLE_QUOTE, QUOTE};
 
-use crate::bytes::{is_digit, is_quoted_escape};
-use sh_lex::{front, is_name_start};
+use ps_lines::is_name_start;
+use sh_lex::{front, is_digit, is_quoted_escape};
 
 /// Whose word is read.
 #[derive(Clone, Copy, Debug)]

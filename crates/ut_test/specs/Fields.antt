@@ -4,6 +4,7 @@
 -- No byte quotes another. The code cuts off one field after another.
 use Rattle.std.specs.Prelude.{◌≡◌, ℕ, zero, suc, ◌-◌, ◌==◌, ◌&&◌, ◌||◌, Bool, true, false, List, [], ◌∷◌, ◌++◌, reverse, if◌then◌else◌}
 use Rattle.std.specs.List.{list_all, list_any}
+use Rattle.ps_lines.specs.Bytes.{is_white_space}
 
 -- the byte is in IFS
 abbrev pub is_in : List ℕ → ℕ → Bool
@@ -11,7 +12,7 @@ is_in ifs byte = list_any (λ one. byte == one) ifs
 
 -- white space of IFS: its spaces, tabs and newlines. Here and below the first argument says which bytes are in IFS
 abbrev pub is_white : (ℕ → Bool) → ℕ → Bool
-is_white separates byte = separates byte && (byte == 32 || (byte == 9 || byte == 10))
+is_white separates byte = separates byte && is_white_space byte
 
 -- a text without the white space at its beginning, and at its end
 abbrev pub past_white : (ℕ → Bool) → List ℕ → List ℕ

@@ -5,7 +5,7 @@ ghost use Rattle.ps_lines.specs.ByteSet.{has_byte};
 ghost use Rattle.ps_lines.specs.Texts.{texts_of};
 ghost use Rattle.ut_test.specs.Fields.{before_white, field_of, fields_by as fields_by_lem, fields_read, from_end, is_in, is_white as is_white_lem, past_ender, past_white};
 
-use ps_lines::{ByteSet, Memory};
+use ps_lines::{ByteSet, Memory, is_white_space};
 use std::alloc::Global;
 
 /// The fields that `read` gives to so many names: exactly that many texts.
@@ -137,5 +137,5 @@ fn before_white<'a>(text: &'a [u8], separators: &ByteSet) -> &'a [u8]
 fn is_white(byte: u8, separators: &ByteSet) -> bool
     ensures { result ≡ is_white_lem (has_byte separators.now) byte }
 {
-    separators.has(byte) && (byte == b' ' || byte == b'\t' || byte == b'\n')
+    separators.has(byte) && is_white_space(byte)
 }

@@ -1,5 +1,5 @@
 use Rattle.std.proofs.Common.{◌≡◌, ◌++◌, subst, sym, rules}
-use Rattle.sh_lex.specs.Bytes.{is_name_byte}
+use Rattle.ps_lines.specs.Bytes.{is_name_byte}
 use Rattle.sh_words.specs.Parameters.{run}
 use Rattle.sh_words.proofs.RunLemmas.{run_ends_none, run_ends_other, run_goes_on, runs}
 use Rattle.sh_words.proofs.runs.name_bytes.Goals as goal

@@ -1,5 +1,5 @@
 use Rattle.std.proofs.Common.{◌≡◌, ◌++◌, length}
-use Rattle.sh_lex.specs.Bytes.{is_name_byte}
+use Rattle.ps_lines.specs.Bytes.{is_name_byte}
 use Rattle.sh_words.specs.Parameters.{run, behind_run}
 use Rattle.sh_words.proofs.runs.name_bytes.Given as goal
 

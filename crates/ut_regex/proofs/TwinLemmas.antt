@@ -12,7 +12,7 @@ use Rattle.ut_regex.specs.Sweeps.{top, below, Sinking, sink, sunk}
 use Rattle.ut_regex.specs.declared.table.TheConstants.{FOUND}
 use Rattle.ut_regex.specs.Tables.{State, after, state_at, IsEntry, Entered}
 use Rattle.ut_regex.proofs.TableLemmas.{entered_push}
-use Rattle.ut_regex.specs.Twins.{tells, AreTwins, HasTwins}
+use Rattle.ut_regex.specs.Twins.{tells, AreFirst, AreTwins, HasTwins}
 
 -- a byte is its own twin
 pub own_twin : (fold : Bool) (byte : ℕ) (steps : List Op) → AreTwins fold byte byte steps
@@ -33,27 +33,33 @@ own_twin fold byte (step ∷ steps) = (own step, own_twin fold byte steps)
     own op.Many = refl
     own op.Maybe = refl
 
+-- what is true of each byte and its twin is true with one byte more
+each_twin : (twins new : List ℕ) (byte twin : ℕ) → length twins ≡ byte → new ≡ twins ++ twin ∷ [] → (P : ℕ → ℕ → Type 0)
+    → ((b : ℕ) → b < byte → P (slice_index_or twins b 0) b) → P twin byte → (b : ℕ) → b < byte + 1 → P (slice_index_or new b 0) b
+each_twin twins new byte twin long made P earlier last b within = elim (cases_lt b byte) [
+  | inl lt ↦
+      let small : b < length twins = omega arith in
+      subst (λ t. P t b) (sym (ap (λ all. slice_index_or all b 0) made ∙ get_or-append twins (twin ∷ []) 0 b small)) (earlier b lt)
+  | inr ge ↦
+      let there : byte ≡ b = omega arith in
+      let place : b ≡ length twins = omega arith in
+      subst (λ t. P t b) (sym (ap₂ (λ all p. slice_index_or all p 0) made place ∙ get_or-append_seam twins twin [] 0))
+      (subst (λ p. P twin p) there last)
+]
+
 -- one byte more
 pub twins_push : (fold : Bool) (steps : List Op) (twins new : List ℕ) (byte twin : ℕ) → HasTwins fold steps twins byte → new ≡ twins ++ twin ∷ []
     → twin ≤ byte → AreTwins fold twin byte steps → HasTwins fold steps new (byte + 1)
 twins_push fold steps twins new byte twin has made before same = record {
   long = ap length made ∙ length-append twins (twin ∷ []) ∙ ap (λ n. n + 1) has.long;
-  before = λ b within. at b within (λ t b. t ≤ b) has.before before;
-  same = λ b within. at b within (λ t b. AreTwins fold t b steps) has.same same;
+  before = each_twin twins new byte twin has.long made (λ t b. t ≤ b) has.before before;
+  same = each_twin twins new byte twin has.long made (λ t b. AreTwins fold t b steps) has.same same;
 }
-  where
-    at : (b : ℕ) → b < byte + 1 → (P : ℕ → ℕ → Type 0) → ((b : ℕ) → b < byte → P (slice_index_or twins b 0) b) → P twin byte
-        → P (slice_index_or new b 0) b
-    at b within P earlier last = elim (cases_lt b byte) [
-      | inl lt ↦
-          let small : b < length twins = let long = has.long in omega arith in
-          subst (λ t. P t b) (sym (ap (λ all. slice_index_or all b 0) made ∙ get_or-append twins (twin ∷ []) 0 b small)) (earlier b lt)
-      | inr ge ↦
-          let there : byte ≡ b = omega arith in
-          let place : b ≡ length twins = let long = has.long in omega arith in
-          subst (λ t. P t b) (sym (ap₂ (λ all p. slice_index_or all p 0) made place ∙ get_or-append_seam twins twin [] 0))
-          (subst (λ p. P twin p) there last)
-    ]
+
+pub first_push : (fold : Bool) (steps : List Op) (twins new : List ℕ) (byte twin : ℕ) → HasTwins fold steps twins byte → new ≡ twins ++ twin ∷ []
+    → AreFirst fold steps twins byte → ((earlier : ℕ) → earlier < twin → AreTwins fold earlier byte steps → ⊥) → AreFirst fold steps new (byte + 1)
+first_push fold steps twins new byte twin has made first last = λ b earlier within.
+    each_twin twins new byte twin has.long made (λ t b. (e : ℕ) → e < t → AreTwins fold e b steps → ⊥) (λ b within e. first b e within) last b within earlier
 
 sunk-append : (fold : Bool) (byte : ℕ) (front back : List Op) (s : Sinking) → sunk fold byte (front ++ back) s ≡ sunk fold byte back (sunk fold byte front s)
 sunk-append fold byte [] back s = refl

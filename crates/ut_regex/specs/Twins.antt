@@ -26,3 +26,8 @@ pub record HasTwins (fold : Bool) (steps : List Op) (twins : List ℕ) (count : 
   pub long : length twins ≡ count
   pub before : (byte : ℕ) → byte < count → slice_index_or twins byte 0 ≤ byte
   pub same : (byte : ℕ) → byte < count → AreTwins fold (slice_index_or twins byte 0) byte steps
+
+-- no byte before the twin of one is a twin too
+abbrev pub AreFirst : Bool → List Op → List ℕ → ℕ → Type 0
+AreFirst fold steps twins count =
+    (byte earlier : ℕ) → byte < count → earlier < slice_index_or twins byte 0 → AreTwins fold earlier byte steps → ⊥

@@ -1,5 +1,5 @@
 //! Searches for bytes that every line with an expression has in a row.
-ghost use Rattle.std.specs.Prelude.{◌≡◌, ◌<◌, ◌≤◌, length, IfOk, IfSome};
+ghost use Rattle.std.specs.Prelude.{◌≡◌, ◌<◌, ◌≤◌, [], length, IfNone, IfOk, IfSome};
 ghost use Rattle.memchr.specs.Find.{Nowhere};
 ghost use Rattle.ut_regex.specs.Literals.{StandsAt};
 ghost use Rattle.ut_regex.specs.Searches.{bytes_of, folds};
@@ -24,7 +24,8 @@ impl Search {
         bytes: Vec<u8>,
         fold: bool,
     ) -> Result<Option<Search>, AllocError>
-        ensures { IfOk result (λ made. IfSome made (λ search. (bytes_of search ≡ bytes.items) × (folds search ≡ fold) × (0 < length bytes.items))) }
+        ensures made { IfOk result (λ made. IfSome made (λ search. (bytes_of search ≡ bytes.items) × (folds search ≡ fold) × (0 < length bytes.items))) }
+        ensures none { IfOk result (λ made. IfNone made (bytes.items ≡ [])) }
     {
         if bytes.is_empty() {
             return Ok(None);

@@ -1,5 +1,6 @@
 //! Bytes at which what is sought may begin.
-ghost use Rattle.std.specs.Prelude.{◌≡◌, ◌<◌, ◌≤◌, ℕ, true, length, slice_index};
+ghost use Rattle.std.specs.Prelude.{◌≡◌, ◌<◌, ◌≤◌, ℕ, false, true, length, slice_index, IfNone, IfSome};
+ghost use Rattle.std.specs.Bool.{Decides};
 ghost use Rattle.std.specs.Option.{ForSome};
 ghost use Rattle.memchr.specs.Find.{IsFirstByte, Nowhere, Passes, is_byte3};
 ghost use Rattle.ps_lines.specs.ByteSet.{has_byte};
@@ -62,7 +63,11 @@ fn few_of(set: &ByteSet) -> Option<(u8, u8, u8)>
 }
 
 /// The first byte of the set from a number on.
-fn member_from(set: &ByteSet, from: u16) -> Option<u8> {
+fn member_from(set: &ByteSet, from: u16) -> Option<u8>
+    ensures none { IfNone result ((byte : ℕ) → from ≤ byte → byte < 256 → has_byte set.now byte ≡ false) }
+    ensures member { IfSome result (λ member. (from ≤ member) × (has_byte set.now member ≡ true)) }
+    ensures first { IfSome result (λ member. (byte : ℕ) → from ≤ byte → byte < member → has_byte set.now byte ≡ false) }
+{
     for code in from..256 {
         if set.has(code as u8) {
             return Some(code as u8);
@@ -73,7 +78,7 @@ fn member_from(set: &ByteSet, from: u16) -> Option<u8> {
 
 /// Whether the set holds these bytes and no other.
 fn are_all(set: &ByteSet, first: u8, second: u8, third: u8) -> bool
-    ensures { result ≡ true → (byte : ℕ) → byte < 256 → has_byte set.now byte ≡ is_byte3 first second third byte }
+    ensures { Decides result ((byte : ℕ) → byte < 256 → has_byte set.now byte ≡ is_byte3 first second third byte) }
 {
     for code in 0..256u16 {
         let byte = code as u8;

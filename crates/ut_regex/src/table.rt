@@ -1,5 +1,6 @@
 //! Tables of a machine's states.
-ghost use Rattle.std.specs.Prelude.{◌≡◌, ◌+◌, ◌-◌, ◌*◌, ◌<◌, ◌≤◌, ◌++◌, ◌∷◌, [], Some, None, IfNone, IfOk, IfSome, OnOk, length, false, true, slice_index_or};
+ghost use Rattle.std.specs.Prelude.{◌≡◌, ◌+◌, ◌-◌, ◌*◌, ◌<◌, ◌≤◌, ◌++◌, ◌∷◌, ℕ, [], Some, None, IfNone, IfOk, IfSome, OnOk, length, false, true, slice_index_or};
+ghost use Rattle.std.specs.Bool.{Decides};
 ghost use Rattle.std.specs.Option.{ForSome};
 ghost use Rattle.ps_lines.specs.Lines.{is_closed};
 ghost use Rattle.ut_regex.specs.Seeks.{Same};
@@ -337,6 +338,7 @@ fn add_entry(
 fn entry_to(machine: &mut Machine, rows: &mut Vec<Row>, row: Row) -> Result<u16, AllocError>
     requires few { length rows.old.items ≤ 600 }
     ensures entry { IfOk result (λ entry. IsEntry machine.old.steps.items machine.old.whole (states_of rows.new.items) entry (state_of row)) }
+    ensures known { (place : ℕ) → place < length rows.old.items → state_at (states_of rows.old.items) place ≡ state_of row → rows.new.items ≡ rows.old.items }
     ensures keeps { Keeps (states_of rows.old.items) (states_of rows.new.items) }
     ensures more { length rows.new.items ≤ length rows.old.items + 1 }
     ensures same { Same machine.old machine.new }
@@ -352,9 +354,10 @@ fn entry_to(machine: &mut Machine, rows: &mut Vec<Row>, row: Row) -> Result<u16,
     Ok(place as u16)
 }
 
-/// The place of a state.
+/// The place of a state, if it is there.
 fn place_of(rows: &[Row], row: &Row) -> Option<usize>
-    ensures { IfSome result (λ place. (place < length rows.now) × (state_at (states_of rows.now) place ≡ state_of row.now)) }
+    ensures none { IfNone result ((place : ℕ) → place < length rows.now → state_at (states_of rows.now) place ≡ state_of row.now → ⊥) }
+    ensures place { IfSome result (λ place. (place < length rows.now) × (state_at (states_of rows.now) place ≡ state_of row.now)) }
 {
     for (place, other) in rows.iter().enumerate() {
         if is_same(other, row) {
@@ -366,7 +369,7 @@ fn place_of(rows: &[Row], row: &Row) -> Option<usize>
 
 /// Whether two states are one.
 fn is_same(row: &Row, other: &Row) -> bool
-    ensures { result ≡ true → state_of row.now ≡ state_of other.now }
+    ensures { Decides result (state_of row.now ≡ state_of other.now) }
 {
     row.begins == other.begins && row.marks.as_slice() == other.marks.as_slice()
 }

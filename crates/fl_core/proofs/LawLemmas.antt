@@ -7,7 +7,8 @@ use Rattle.std.proofs.lemmas.List.Folds.{list_any-append}
 use Rattle.std.proofs.lemmas.Grind.{flat_map-append}
 use Rattle.fl_graph.specs.Net.{Cell, has, count, gives, store, step, after, run}
 use Rattle.fl_graph.specs.Checks.{takes_given, each_after}
-use Rattle.fl_graph.specs.Runs.{BeginsWith, text_of, has_end, completed, completion}
+use Rattle.ps_lines.specs.Texts.{BeginsWith}
+use Rattle.fl_graph.specs.Runs.{text_of, has_end, completed, completion}
 use Rattle.fl_graph.specs.Valid.{Valid}
 use Rattle.fl_graph.specs.declared.graphs.StatusRule.{StatusRule}
 use Rattle.fl_graph.specs.declared.kinds.NodeKind.{NodeKind}

@@ -4,7 +4,8 @@ use Rattle.std.specs.List.{list_all, range_with_len, sum_by}
 use Rattle.std.proofs.lemmas.Bool.{and_parts, true≢false}
 use Rattle.std.proofs.lemmas.List.{length-take}
 use Rattle.fl_graph.specs.Net.{Cell, gives, takes}
-use Rattle.fl_graph.specs.Runs.{BeginsWith, text_of, State}
+use Rattle.ps_lines.specs.Texts.{BeginsWith}
+use Rattle.fl_graph.specs.Runs.{text_of, State}
 use Rattle.fl_graph.specs.Valid.{Valid}
 use Rattle.fl_graph.specs.declared.graphs.StatusRule.{StatusRule}
 use Rattle.fl_graph.specs.declared.kinds.NodeKind.{NodeKind}

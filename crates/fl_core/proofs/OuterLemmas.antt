@@ -3,7 +3,8 @@ use Rattle.std.proofs.Common.{◌≡◌, ℕ, suc, List, [], ◌∷◌, ◌++◌
 use Rattle.ps_lines.specs.declared.memory.Memory.{Memory}
 use Rattle.ps_world.specs.Told.{then_bytes}
 use Rattle.fl_graph.specs.Net.{Cell}
-use Rattle.fl_graph.specs.Runs.{BeginsWith, text_of, is_end, has_end, State}
+use Rattle.ps_lines.specs.Texts.{BeginsWith}
+use Rattle.fl_graph.specs.Runs.{text_of, is_end, has_end, State}
 use Rattle.fl_graph.specs.Valid.{Valid}
 use Rattle.fl_graph.specs.declared.graphs.StatusRule.{StatusRule}
 use Rattle.fl_graph.specs.declared.kinds.NodeKind.{NodeKind}

@@ -3,7 +3,8 @@ use Rattle.std.proofs.Common.{◌≡◌, ℕ, List, [], ◌∷◌, ◌++◌, Boo
 use Rattle.std.proofs.lemmas.Bool.{true≢false}
 use Rattle.std.proofs.lemmas.List.{take-append-drop}
 use Rattle.std.proofs.Math.Seq.{take-append_seam}
-use Rattle.fl_graph.specs.Runs.{BeginsWith, text_of, has_end, completed}
+use Rattle.ps_lines.specs.Texts.{BeginsWith}
+use Rattle.fl_graph.specs.Runs.{text_of, has_end, completed}
 use Rattle.fl_graph.specs.declared.pieces.Piece.{Piece}
 use Rattle.fl_graph.specs.declared.pieces.Piece.TheVariants as piece
 use Rattle.fl_core.specs.Laws.{Carries, is_clean}

@@ -2,7 +2,8 @@
 use Rattle.std.specs.Prelude.{◌≡◌, ℕ, zero, suc, List, [], ◌∷◌, ◌++◌, Bool, true, not, ◌&&◌, get_or, length}
 use Rattle.fl_graph.specs.Machines.{closes}
 use Rattle.fl_graph.specs.Net.{Cell}
-use Rattle.fl_graph.specs.Runs.{BeginsWith, text_of, has_end, completion}
+use Rattle.ps_lines.specs.Texts.{BeginsWith}
+use Rattle.fl_graph.specs.Runs.{text_of, has_end, completion}
 use Rattle.fl_graph.specs.declared.kinds.NodeKind.{NodeKind}
 use Rattle.fl_graph.specs.declared.pieces.Piece.{Piece}
 use Rattle.fl_classes.specs.Flow.{Placed, placed, texts_given}

@@ -5,7 +5,8 @@ ghost use Rattle.std.specs.Prelude.{◌≡◌, ◌<◌, ◌≤◌, ℕ, List, Op
 ghost use Rattle.std.specs.List.{flat_map};
 ghost use Rattle.fl_graph.specs.Cells.{cells};
 ghost use Rattle.fl_graph.specs.Net.{Cell, gives};
-ghost use Rattle.fl_graph.specs.Runs.{BeginsWith, State, text_of, has_end, completed};
+ghost use Rattle.ps_lines.specs.Texts.{BeginsWith};
+ghost use Rattle.fl_graph.specs.Runs.{State, text_of, has_end, completed};
 ghost use Rattle.fl_graph.specs.Valid.{Valid};
 ghost use Rattle.fl_graph.specs.declared.kinds.NodeKind.{NodeKind};
 ghost use Rattle.fl_graph.specs.declared.pieces.Piece.{Piece};

@@ -4,7 +4,8 @@ use Rattle.std.proofs.Math.Seq.{take-append_seam}
 use Rattle.std.proofs.lemmas.Bool.{eqb-true, true≢false}
 use mathlib.Core.Path.{fun_ext}
 use Rattle.fl_graph.specs.Machines.{comes_first, comes, DidPut}
-use Rattle.fl_graph.specs.Runs.{BeginsWith, text_of, is_end, has_end, completed, completion, add, Ran, Selects}
+use Rattle.ps_lines.specs.Texts.{BeginsWith}
+use Rattle.fl_graph.specs.Runs.{text_of, is_end, has_end, completed, completion, add, Ran, Selects}
 use Rattle.fl_graph.specs.declared.pieces.Piece.{Piece}
 use Rattle.fl_graph.specs.declared.pieces.Piece.TheVariants as piece
 

@@ -1,12 +1,9 @@
 -- Runs of a machine (own): what it has taken and put so far, against its equation.
 use Rattle.std.specs.Prelude.{◌≡◌, ℕ, List, [], ◌∷◌, ◌++◌, Bool, true, false, not, ◌==◌, ◌&&◌, ◌||◌, if◌then◌else◌, length, take}
+use Rattle.ps_lines.specs.Texts.{BeginsWith}
 use Rattle.fl_graph.specs.Machines.{comes_first, closes}
 use Rattle.fl_graph.specs.declared.pieces.Piece.{Piece}
 use Rattle.fl_graph.specs.declared.pieces.Piece.TheVariants as piece
-
--- the text begins so
-abbrev pub BeginsWith : List ℕ → List ℕ → Type 0
-BeginsWith text front = take (length front) text ≡ front
 
 -- the text of pieces
 abbrev pub text_of : List Piece → List ℕ

@@ -11,7 +11,8 @@ use Rattle.ps_lines.specs.Lines.{lines, has_newline, is_closed, CutsLine}
 use Rattle.ps_lines.proofs.LineLemmas.{lines-append, lines-first, lines-held, lines-plain, is_closed-push}
 use Rattle.ps_lines.proofs.NewlineLemmas.{has_newline-none}
 use Rattle.memchr.specs.Find.{IsLastByte, is_byte}
-use Rattle.ut_streams.specs.Streams.{BeginsWith, Wrote, Put, CutsLastLine}
+use Rattle.ps_lines.specs.Texts.{BeginsWith}
+use Rattle.ut_streams.specs.Streams.{Wrote, Put, CutsLastLine}
 
 -- fronts of texts
 pub begins-append : (front rest : List ℕ) → BeginsWith (front ++ rest) front

@@ -1,11 +1,8 @@
 -- What a stream has written and what it still owes. A stream is fed its input in pieces, cut anywhere; these words speak of every way
 -- in which the input may go on, and of no piece.
-use Rattle.std.specs.Prelude.{◌≡◌, ℕ, List, ◌++◌, length, take, Bool, true, false}
+use Rattle.std.specs.Prelude.{◌≡◌, ℕ, List, ◌++◌, Bool, true, false}
 use Rattle.ps_lines.specs.Lines.{has_newline, is_closed}
-
--- the text begins with this front
-abbrev pub BeginsWith : List ℕ → List ℕ → Type 0
-BeginsWith text front = take (length front) text ≡ front
+use Rattle.ps_lines.specs.Texts.{BeginsWith}
 
 -- old grew to new: however the input goes on, what was due before is what was written and what is due now; where memory was
 -- wanted, a front of what was due was written

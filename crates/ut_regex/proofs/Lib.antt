@@ -15,6 +15,7 @@ pub mod UniqueLemmas
 pub mod SameLemmas
 pub mod OneReadingLemmas
 pub mod TableLemmas
+pub mod ReachLemmas
 pub mod RunLemmas
 pub mod TwinLemmas
 pub mod LineLemmas
@@ -23,3 +24,4 @@ pub mod LiteralLemmas
 pub mod FoldedLemmas
 pub mod HavingLemmas
 pub mod IdleLemmas
+pub mod StartLemmas

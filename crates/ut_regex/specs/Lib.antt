@@ -5,7 +5,9 @@ pub mod Sweeps
 pub mod Held
 pub mod Seeks
 pub mod Tables
+pub mod Reached
 pub mod Idling
+pub mod Starts
 pub mod Made
 pub mod Twins
 pub mod Literals

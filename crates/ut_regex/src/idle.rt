@@ -1,5 +1,6 @@
 //! The states in which a table waits for the first byte of what is sought.
 ghost use Rattle.std.specs.Prelude.{◌≡◌, ◌⊎◌, ◌<◌, ◌≤◌, ℕ, List, Bool, true, false, length, slice_index_or, IfSome};
+ghost use Rattle.std.specs.Bool.{Decides};
 ghost use Rattle.std.specs.Option.{ForSome};
 ghost use Rattle.ps_lines.specs.ByteSet.{has_byte};
 ghost use Rattle.ut_regex.specs.Idling.{idle_behind, stays, Idles};
@@ -22,7 +23,7 @@ pub(crate) struct Idle {
 impl Idle {
     /// Whether a state is one in which the table waits.
     fn waits_in(&self, state: u16) -> bool
-        ensures { result ≡ true → (state ≡ 0) ⊎ (state ≡ self.now.state) }
+        ensures { Decides result ((state ≡ 0) ⊎ (state ≡ self.now.state)) }
     {
         state == 0 || state == self.state
     }

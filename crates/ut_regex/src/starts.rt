@@ -4,6 +4,7 @@ ghost use Rattle.std.specs.Bool.{Decides};
 ghost use Rattle.std.specs.Option.{ForSome};
 ghost use Rattle.memchr.specs.Find.{IsFirstByte, Nowhere, Passes, is_byte3};
 ghost use Rattle.ps_lines.specs.ByteSet.{has_byte};
+ghost use Rattle.ut_regex.specs.Starts.{AreThese, IsNext};
 
 use memchr::{memchr, memchr2, memchr3};
 use ps_lines::ByteSet;
@@ -14,7 +15,7 @@ pub(crate) struct Starts {
     pub set: ByteSet,
     /// The bytes of a set that holds one to three, with the last one again where there are fewer.
     few: Option<(u8, u8, u8)>,
-    ghost all: { ForSome few (λ few. (byte : ℕ) → byte < 256 → has_byte set byte ≡ is_byte3 few.0 few.1 few.2 byte) },
+    ghost all: { ForSome few (λ few. AreThese (λ byte. has_byte set byte) few.0 few.1 few.2) },
 }
 
 impl Starts {
@@ -51,11 +52,12 @@ impl Starts {
 
 /// The bytes of a set that holds one to three, with the last one again where there are fewer.
 fn few_of(set: &ByteSet) -> Option<(u8, u8, u8)>
-    ensures { ForSome result (λ few. (byte : ℕ) → byte < 256 → has_byte set.now byte ≡ is_byte3 few.0 few.1 few.2 byte) }
+    ensures few { ForSome result (λ few. AreThese (λ byte. has_byte set.now byte) few.0 few.1 few.2) }
+    ensures none { IfNone result ((first second third : ℕ) → first < 256 → AreThese (λ byte. has_byte set.now byte) first second third → ⊥) }
 {
     let first = member_from(set, 0)?;
-    let second = member_from(set, first as u16 + 1).unwrap_or(first);
-    let third = member_from(set, second as u16 + 1).unwrap_or(second);
+    let second = member_behind(set, first);
+    let third = member_behind(set, second);
     if are_all(set, first, second, third) {
         return Some((first, second, third));
     }
@@ -76,9 +78,17 @@ fn member_from(set: &ByteSet, from: u16) -> Option<u8>
     None
 }
 
+/// The next byte of the set behind one, or that one where it is the last.
+fn member_behind(set: &ByteSet, member: u8) -> u8
+    requires { has_byte set.now member ≡ true }
+    ensures { IsNext (λ byte. has_byte set.now byte) member result }
+{
+    member_from(set, member as u16 + 1).unwrap_or(member)
+}
+
 /// Whether the set holds these bytes and no other.
 fn are_all(set: &ByteSet, first: u8, second: u8, third: u8) -> bool
-    ensures { Decides result ((byte : ℕ) → byte < 256 → has_byte set.now byte ≡ is_byte3 first second third byte) }
+    ensures { Decides result (AreThese (λ byte. has_byte set.now byte) first second third) }
 {
     for code in 0..256u16 {
         let byte = code as u8;

@@ -6,6 +6,7 @@ ghost use Rattle.ps_lines.specs.Lines.{is_closed};
 ghost use Rattle.ut_regex.specs.Seeks.{Same};
 ghost use Rattle.ut_regex.specs.Twins.{AreTwins, HasTwins};
 ghost use Rattle.ut_regex.specs.Tables.{left_at_found, runs, text_entry, state_of, states_of, state_at, IsEntry, Entered, Keeps};
+ghost use Rattle.ut_regex.specs.Reached.{AreReached, GoesOn, Reaches};
 ghost use Rattle.ut_regex.specs.Idling.{Idles};
 
 use crate::cuts::cut_at_line;
@@ -48,14 +49,17 @@ pub(crate) struct Run<'t> {
 }
 
 impl Table {
-    ghost use Rattle.std.specs.Prelude.{◌≡◌, ◌≤◌, IfOk, IfSome, length};
+    ghost use Rattle.std.specs.Prelude.{◌≡◌, ◌≤◌, IfNone, IfOk, IfSome, length};
     ghost use Rattle.ut_regex.specs.Made.{IsMade};
+    ghost use Rattle.ut_regex.specs.Reached.{HasNoTable};
     ghost use Rattle.ut_regex.specs.Seeks.{Same};
     ghost use Rattle.ut_regex.specs.Tables.{left_at_found, runs};
 
     /// The table of a machine, unless it has too many states or finds the expression at the beginning of every line.
+    #[tactic(auto, using(crate::proofs::ReachLemmas::reached_first))]
     pub(crate) fn of(alloc: Global, machine: &mut Machine) -> Result<Option<Table>, AllocError>
         ensures table { IfOk result (λ made. IfSome made (λ table. IsMade machine.old.steps.items machine.old.fold machine.old.whole table)) }
+        ensures none { IfOk result (λ made. IfNone made (HasNoTable machine.old.steps.items machine.old.fold machine.old.whole)) }
         ensures same { Same machine.old machine.new }
     {
         let first = Row {
@@ -274,6 +278,8 @@ fn add_entries(
     requires twins { HasTwins machine.old.fold machine.old.steps.items twins.now 256 }
     ensures entered { OnOk result (Entered machine.old.steps.items machine.old.fold machine.old.whole (states_of rows.old.items) next.old.items
         → Entered machine.old.steps.items machine.old.fold machine.old.whole (states_of rows.new.items) next.new.items) }
+    ensures reached { OnOk result (AreReached machine.old.steps.items machine.old.fold machine.old.whole (states_of rows.old.items)
+        → AreReached machine.old.steps.items machine.old.fold machine.old.whole (states_of rows.new.items)) }
     ensures keeps { Keeps (states_of rows.old.items) (states_of rows.new.items) }
     ensures more { length rows.new.items ≤ length rows.old.items + 256 }
     ensures all { OnOk result (length next.new.items ≡ 256 * (state + 1)) }
@@ -319,6 +325,8 @@ fn add_entry(
     requires twin { AreTwins machine.old.fold twin byte machine.old.steps.items }
     ensures entered { OnOk result (Entered machine.old.steps.items machine.old.fold machine.old.whole (states_of rows.old.items) next.old.items
         → Entered machine.old.steps.items machine.old.fold machine.old.whole (states_of rows.new.items) next.new.items) }
+    ensures reached { OnOk result (AreReached machine.old.steps.items machine.old.fold machine.old.whole (states_of rows.old.items)
+        → AreReached machine.old.steps.items machine.old.fold machine.old.whole (states_of rows.new.items)) }
     ensures keeps { Keeps (states_of rows.old.items) (states_of rows.new.items) }
     ensures more { length rows.new.items ≤ length rows.old.items + 1 }
     ensures all { OnOk result (length next.new.items ≡ length next.old.items + 1) }
@@ -338,6 +346,9 @@ fn add_entry(
 fn entry_to(machine: &mut Machine, rows: &mut Vec<Row>, row: Row) -> Result<u16, AllocError>
     requires few { length rows.old.items ≤ 600 }
     ensures entry { IfOk result (λ entry. IsEntry machine.old.steps.items machine.old.whole (states_of rows.new.items) entry (state_of row)) }
+    ensures reached { OnOk result ((GoesOn machine.old.steps.items machine.old.whole (state_of row) → Reaches machine.old.steps.items machine.old.fold machine.old.whole (state_of row))
+        → AreReached machine.old.steps.items machine.old.fold machine.old.whole (states_of rows.old.items)
+        → AreReached machine.old.steps.items machine.old.fold machine.old.whole (states_of rows.new.items)) }
     ensures known { (place : ℕ) → place < length rows.old.items → state_at (states_of rows.old.items) place ≡ state_of row → rows.new.items ≡ rows.old.items }
     ensures keeps { Keeps (states_of rows.old.items) (states_of rows.new.items) }
     ensures more { length rows.new.items ≤ length rows.old.items + 1 }

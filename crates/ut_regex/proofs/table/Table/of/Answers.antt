@@ -1,8 +1,15 @@
 use Rattle.std.proofs.Common.{◌<◌, ◌+◌, length, sym, ap, ap₂, ◌∙◌, arith, rules, length-append, true}
 use Rattle.ut_regex.specs.Seeks.{Same}
+use Rattle.ut_regex.specs.Reached.{many_states}
 use Rattle.ut_regex.specs.Tables.{state_of, states_of, leads_at}
+use Rattle.ut_regex.proofs.ReachLemmas.{reached_same, reached_back}
 use Rattle.ut_regex.proofs.TableLemmas.{states_length, state_there, entered_same, entered_back, ended_push}
 use Rattle.ut_regex.proofs.table.Table.of.Goals as goal
+
+pub returns-then-len-gt-MAX_STATES-clause-none : goal.returns-then-len-gt-MAX_STATES-clause-none
+returns-then-len-gt-MAX_STATES-clause-none c =
+    let rows = c.states.rows.items in
+    many_states c.states.invariant.reached (omega (arith, states_length rows, c.len-in-states-2.ensures, c.if-len-gt-MAX_STATES.true))
 
 pub states-preserved : goal.states-preserved
 states-preserved c =
@@ -22,6 +29,8 @@ states-preserved c =
       some = omega (arith, added.keeps.longer, l.invariant.some);
       first = added.keeps.same 0 first_here ∙ l.invariant.first;
       quiet = l.invariant.quiet;
+      reached = reached_same m c.leads-in-states.new.self (states_of c.add_entries.new.rows.items) led_same
+          (added.reached (reached_back m c.leads-in-states.new.self (states_of l.rows.items) led_same l.invariant.reached));
       within = omega (arith, added.keeps.longer);
       few = omega (arith, added.more, c.if-len-gt-MAX_STATES.false, c.len-in-states.ensures);
       so_far = added.all;

@@ -1,5 +1,6 @@
 use Rattle.std.proofs.Common.{◌≡◌, ◌-◌, ◌*◌, ◌<◌, ◌≤◌, ℕ, false, true, length, slice_index_or}
 use Rattle.ut_regex.specs.Seeks.{Same}
+use Rattle.ut_regex.specs.Reached.{AreReached}
 use Rattle.ut_regex.specs.Tables.{states_of, state_at, first_state, leads_at, Entered}
 use Rattle.ut_regex.proofs.table.Table.of.Given as goal
 
@@ -9,6 +10,7 @@ invariant-states l = record {
   some : 0 < length l.rows.items;
   first : state_at (states_of l.rows.items) 0 ≡ first_state;
   quiet : l.fn.machine.whole ≡ false → leads_at l.fn.machine.steps.items l.fn.machine.whole false first_state ≡ false;
+  reached : AreReached l.fn.machine.steps.items l.fn.machine.fold l.fn.machine.whole (states_of l.rows.items);
   within : l.state ≤ length l.rows.items;
   few : length l.rows.items ≤ 512;
   so_far : length l.next.items ≡ 256 * l.state;

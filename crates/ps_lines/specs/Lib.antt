@@ -4,3 +4,4 @@ pub mod Numbers
 pub mod Bits
 pub mod ByteSet
 pub mod Bytes
+pub mod Classes

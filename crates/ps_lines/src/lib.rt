@@ -9,6 +9,7 @@
 
 mod byte_set;
 mod bytes;
+mod class;
 pub mod laws;
 mod memory;
 mod newlines;
@@ -19,6 +20,7 @@ mod text;
 
 pub use byte_set::ByteSet;
 pub use bytes::{is_name_byte, is_name_start, is_white_space};
+pub use class::Class;
 pub use memory::Memory;
 pub use newlines::{NEWLINE, closing, cut_line, is_closed, lines, next_line};
 pub use numbers::{decimal, read_decimal};

@@ -83,3 +83,41 @@ fn classes_of_bytes(rt: HostRuntime) -> Result<(), Fail> {
     }
     Ok(())
 }
+
+/// The bytes of each class, as `isalnum` and its like tell them in the C locale, and each class by its name.
+#[test]
+fn character_classes(rt: HostRuntime) -> Result<(), Fail> {
+    let cases: [(&[u8], usize, &[u8], &[u8]); 12] = [
+        (b"alnum", 62, b"0Az", b"_ \x80"),
+        (b"alpha", 52, b"AZaz", b"09@[`{"),
+        (b"blank", 2, b"\t ", b"\n\r"),
+        (b"cntrl", 33, b"\0\x1f\x7f", b" \x80"),
+        (b"digit", 10, b"09", b"/:"),
+        (b"graph", 94, b"!~", b" \x7f"),
+        (b"lower", 26, b"az", b"AZ`{"),
+        (b"print", 95, b" ~", b"\t\x7f"),
+        (b"punct", 32, b"!/:@[`{~", b"0Aa "),
+        (b"space", 6, b"\t\n\x0b\x0c\r ", b"\x08\x0e"),
+        (b"upper", 26, b"AZ", b"az@["),
+        (b"xdigit", 22, b"09AFaf", b"GgXx"),
+    ];
+    for ((name, count, within, without), class) in cases.iter().zip(Class::ALL) {
+        assert_eq!(rt; class.name(), *name);
+        assert_eq!(rt; Class::named(name), Some(class));
+        assert_eq!(rt;
+            (0..=u8::MAX).filter(|byte| class.has(*byte)).count(),
+            *count,
+            "in {class:?}"
+        );
+        for byte in *within {
+            assert!(rt; class.has(*byte), "{byte} in {class:?}");
+        }
+        for byte in *without {
+            assert!(rt; !class.has(*byte), "{byte} in {class:?}");
+        }
+    }
+    for name in [b"".as_slice(), b"digi", b"digits", b"Digit", b":digit:"] {
+        assert_eq!(rt; Class::named(name), None, "{name:?}");
+    }
+    Ok(())
+}

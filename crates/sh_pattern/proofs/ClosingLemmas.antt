@@ -4,12 +4,13 @@ use Rattle.std.specs.List.{slice_get}
 use Rattle.std.proofs.Math.Seq.{drop-append_seam}
 use Rattle.std.proofs.lemmas.List.{append_assoc, length-append, take-append-drop, take_rest}
 use Rattle.sh_pattern.specs.declared.marks.Mark.{Mark}
-use Rattle.sh_pattern.specs.declared.classes.Class.{Class}
+use Rattle.ps_lines.specs.declared.class.Class.{Class}
 use Rattle.sh_pattern.specs.declared.elements.Item.{Item}
 use Rattle.sh_pattern.specs.declared.elements.Item.TheVariants as item
 use Rattle.sh_pattern.specs.declared.elements.Element.{Element}
 use Rattle.sh_pattern.specs.Marks.{is_unquoted, past, past_spelling}
-use Rattle.sh_pattern.specs.Classes.{spelling, found, class_among, all_classes, class_at}
+use Rattle.ps_lines.specs.Classes.{all_classes}
+use Rattle.sh_pattern.specs.Classes.{spelling, found, class_among, class_at}
 use Rattle.sh_pattern.specs.Brackets.{is_close, begins_symbol, range_end, ranged, byte_or_range, classed, first_item, next_item, IsItems, no_item, one_more, IsList, a_list, HasNoList}
 use Rattle.sh_pattern.specs.Reading.{IsSet, matching, non_matching}
 use Rattle.sh_pattern.specs.Closings.{EndsWith, IsUnclosed, Knows}

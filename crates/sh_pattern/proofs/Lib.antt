@@ -4,3 +4,4 @@ pub mod ReadingLemmas
 pub mod ClosingLemmas
 pub mod PatternLemmas
 pub mod NamingLemmas
+pub mod ClassLemmas

@@ -2,7 +2,7 @@
 -- other than `]`; a class is no end of one (own). A list in which `[.` or `[=` stands is none (own).
 use Rattle.std.specs.Prelude.{◌≡◌, ◌&&◌, ◌||◌, not, Bool, false, List, [], ◌∷◌, Option, Some, None, if◌then◌else◌}
 use Rattle.sh_pattern.specs.declared.marks.Mark.{Mark}
-use Rattle.sh_pattern.specs.declared.classes.Class.{Class}
+use Rattle.ps_lines.specs.declared.class.Class.{Class}
 use Rattle.sh_pattern.specs.declared.elements.Item.{Item}
 use Rattle.sh_pattern.specs.declared.elements.Item.TheVariants as item
 use Rattle.sh_pattern.specs.Marks.{is_unquoted, past}

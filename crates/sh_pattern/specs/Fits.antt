@@ -5,13 +5,13 @@ use Rattle.sh_pattern.specs.declared.elements.Item.{Item}
 use Rattle.sh_pattern.specs.declared.elements.Item.TheVariants as item
 use Rattle.sh_pattern.specs.declared.elements.Element.{Element}
 use Rattle.sh_pattern.specs.declared.elements.Element.TheVariants as element
-use Rattle.sh_pattern.specs.Classes.{is_in_class}
+use Rattle.ps_lines.specs.Classes.{class_has}
 
 -- the item holds the byte; a range whose ends are reversed holds none (own)
 abbrev pub holds : Item → ℕ → Bool
 holds (item.Byte listed) byte = listed == byte
 holds (item.Range low high) byte = nat_le low byte && nat_le byte high
-holds (item.Class class) byte = is_in_class class byte
+holds (item.Class class) byte = class_has class byte
 
 -- the element fits this one byte; `*` isn't one of those that fit one byte each
 abbrev pub takes : Element → ℕ → Bool

@@ -1,83 +1,11 @@
-//! The twelve character classes of the C locale (XBD 7.3.1), as they stand in a bracket expression.
+//! Character classes in a pattern: `[:`, a name and `:]` inside a bracket expression (XBD 9.3.5, item 6).
 
 ghost use Rattle.std.specs.Prelude.{◌≡◌, ◌+◌, ◌<◌, ◌∷◌, [], Some, None, MatchOption, IfSome, length};
 ghost use Rattle.sh_pattern.specs.Marks.{past_spelling};
-ghost use Rattle.sh_pattern.specs.Classes.{spelling, is_in_class, class_among, class_at};
+ghost use Rattle.sh_pattern.specs.Classes.{spelling, class_among, class_at};
 
 use crate::marks::{Mark, front, is_unquoted};
-
-/// A character class.
-#[derive(Clone, Copy, Debug, PartialEq, Eq)]
-pub enum Class {
-    Alnum,
-    Alpha,
-    Blank,
-    Cntrl,
-    Digit,
-    Graph,
-    Lower,
-    Print,
-    Punct,
-    Space,
-    Upper,
-    Xdigit,
-}
-
-const CLASSES: [Class; 12] = [
-    Class::Alnum,
-    Class::Alpha,
-    Class::Blank,
-    Class::Cntrl,
-    Class::Digit,
-    Class::Graph,
-    Class::Lower,
-    Class::Print,
-    Class::Punct,
-    Class::Space,
-    Class::Upper,
-    Class::Xdigit,
-];
-
-/// Whether the byte is of the class.
-pub(crate) fn is_in_class(class: Class, byte: u8) -> bool
-    ensures { result ≡ is_in_class class byte }
-{
-    match class {
-        Class::Alnum => byte.is_ascii_alphanumeric(),
-        Class::Alpha => byte.is_ascii_alphabetic(),
-        Class::Blank => byte == b' ' || byte == b'\t',
-        Class::Cntrl => byte.is_ascii_control(),
-        Class::Digit => byte.is_ascii_digit(),
-        Class::Graph => byte.is_ascii_graphic(),
-        Class::Lower => byte.is_ascii_lowercase(),
-        Class::Print => byte == b' ' || byte.is_ascii_graphic(),
-        Class::Punct => byte.is_ascii_punctuation(),
-        Class::Space => byte == b' ' || (b'\t' <= byte && byte <= b'\r'),
-        Class::Upper => byte.is_ascii_uppercase(),
-        Class::Xdigit => byte.is_ascii_hexdigit(),
-    }
-}
-
-/// How a class is written inside a bracket expression.
-fn spelling(class: Class) -> &'static [u8]
-    ensures spelled { result.now ≡ spelling class }
-    ensures some { 0 < length result.now }
-{
-    match class {
-        Class::Alnum => b"[:alnum:]",
-        Class::Alpha => b"[:alpha:]",
-        Class::Blank => b"[:blank:]",
-        Class::Cntrl => b"[:cntrl:]",
-        Class::Digit => b"[:digit:]",
-        Class::Graph => b"[:graph:]",
-        Class::Lower => b"[:lower:]",
-        Class::Print => b"[:print:]",
-        Class::Punct => b"[:punct:]",
-        Class::Space => b"[:space:]",
-        Class::Upper => b"[:upper:]",
-        Class::Xdigit => b"[:xdigit:]",
-    }
-}
+use ps_lines::Class;
 
 /// What follows these bytes where the text begins with them, none of them quoted.
 fn past_spelling<'a>(text: &'a [Mark], bytes: &[u8]) -> Option<&'a [Mark]>
@@ -99,6 +27,18 @@ fn past_spelling<'a>(text: &'a [Mark], bytes: &[u8]) -> Option<&'a [Mark]>
     Some(rest)
 }
 
+/// What follows the class where the text begins with it.
+fn past_class(text: &[Mark], class: Class) -> Option<&[Mark]>
+    ensures past { MatchOption result
+        (past_spelling (spelling class) text.now ≡ None)
+        (λ rest. past_spelling (spelling class) text.now ≡ Some rest.now) }
+    ensures shorter { IfSome result (λ rest. length rest.now < length text.now) }
+{
+    let named = past_spelling(text, b"[:")?;
+    let closed = past_spelling(named, class.name())?;
+    past_spelling(closed, b":]")
+}
+
 /// The first of the classes with which the text begins, and what follows it.
 fn class_among<'a>(classes: &[Class], text: &'a [Mark]) -> Option<(Class, &'a [Mark])>
     ensures class { MatchOption result
@@ -107,7 +47,7 @@ fn class_among<'a>(classes: &[Class], text: &'a [Mark]) -> Option<(Class, &'a [M
     ensures shorter { IfSome result (λ r. length r.1.now < length text.now) }
 {
     for class in classes {
-        if let Some(rest) = past_spelling(text, spelling(*class)) {
+        if let Some(rest) = past_class(text, *class) {
             return Some((*class, rest));
         }
     }
@@ -121,5 +61,5 @@ pub(crate) fn class_at(text: &[Mark]) -> Option<(Class, &[Mark])>
         (λ r. class_at text.now ≡ Some (r.0, r.1.now)) }
     ensures shorter { IfSome result (λ r. length r.1.now < length text.now) }
 {
-    class_among(&CLASSES, text)
+    class_among(&Class::ALL, text)
 }

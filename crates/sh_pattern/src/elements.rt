@@ -1,6 +1,6 @@
 //! A pattern as a list of elements, each of which fits one byte, or any bytes.
 
-use crate::classes::Class;
+use ps_lines::Class;
 use std::marker::Model;
 
 /// What a bracket expression lists.

@@ -21,7 +21,6 @@ mod reading;
 #[cfg(test)]
 mod tests;
 
-pub use classes::Class;
 pub use elements::{Element, Item, Items, Pattern};
 pub use expansion::expand_paths;
 pub use laws::{ordinary_bytes_fit_themselves, star_fits_every_ending};

@@ -5,7 +5,6 @@ ghost use Rattle.std.specs.List.{list_any};
 ghost use Rattle.sh_pattern.specs.Fits.{Fits, EndsIn, holds, takes};
 ghost use Rattle.sh_pattern.specs.Walks.{WalkEnds};
 
-use crate::classes::is_in_class;
 use crate::elements::{Element, Item, Items, Pattern};
 
 /// Whether the pattern fits the whole text.
@@ -118,6 +117,6 @@ fn holds(item: Item, byte: u8) -> bool
     match item {
         Item::Byte(listed) => listed == byte,
         Item::Range(low, high) => low <= byte && byte <= high,
-        Item::Class(class) => is_in_class(class, byte),
+        Item::Class(class) => class.has(byte),
     }
 }

@@ -1,51 +1,18 @@
 -- Bracket expressions (XBD 9.3.5). What is listed is read from the left.
-use Rattle.std.specs.Prelude.{ℕ, ◌≡◌, ◌<◌, ◌==◌, ◌&&◌, ◌||◌, not, nat_le, Bool, false, List, [], ◌∷◌, Option, Some, None, if◌then◌else◌, codes, drop, take, position, nat_eq, ◌+◌, ◌⊎◌}
-use Rattle.std.specs.Cmp.Lexicographic.{pointwise}
+use Rattle.std.specs.Prelude.{ℕ, ◌≡◌, ◌<◌, ◌==◌, ◌&&◌, ◌||◌, not, nat_le, Bool, false, List, [], ◌∷◌, Option, Some, None, if◌then◌else◌, drop, take, position, ◌+◌, ◌⊎◌}
+use Rattle.ps_lines.specs.declared.class.Class.{Class}
 use Rattle.ps_lines.specs.ByteSet.{has_byte}
-use Rattle.ut_regex.specs.declared.brackets.Class.{Class}
-use Rattle.ut_regex.specs.declared.brackets.Class.TheVariants as class
+use Rattle.ps_lines.specs.Classes.{class_has, class_named}
 use Rattle.ut_regex.specs.declared.brackets.Item.{Item}
 use Rattle.ut_regex.specs.declared.brackets.Item.TheVariants as element
 use Rattle.ut_regex.specs.declared.tree.Leaf.{Leaf}
 use Rattle.ut_regex.specs.declared.tree.Leaf.TheVariants.{Byte, Any, Among, NotAmong}
 use Rattle.ut_regex.specs.Spans.{is_from}
 
--- the bytes of a class in the C locale (XBD 7.3.1)
-abbrev pub in_class : Class → ℕ → Bool
-in_class class.Alnum byte = is_from 48 57 byte || is_from 65 90 byte || is_from 97 122 byte
-in_class class.Alpha byte = is_from 65 90 byte || is_from 97 122 byte
-in_class class.Blank byte = is_from 32 32 byte || is_from 9 9 byte
-in_class class.Cntrl byte = is_from 0 31 byte || is_from 127 127 byte
-in_class class.Digit byte = is_from 48 57 byte
-in_class class.Graph byte = is_from 33 126 byte
-in_class class.Lower byte = is_from 97 122 byte
-in_class class.Print byte = is_from 32 126 byte
-in_class class.Punct byte = is_from 33 47 byte || is_from 58 64 byte || is_from 91 96 byte || is_from 123 126 byte
-in_class class.Space byte = is_from 9 13 byte || is_from 32 32 byte
-in_class class.Upper byte = is_from 65 90 byte
-in_class class.Xdigit byte = is_from 48 57 byte || is_from 65 70 byte || is_from 97 102 byte
-
--- the class of a name
-unfoldable pub class_named : List ℕ → Option Class
-class_named name =
-    if pointwise nat_eq name (codes "alnum") then Some class.Alnum
-    else if pointwise nat_eq name (codes "alpha") then Some class.Alpha
-    else if pointwise nat_eq name (codes "blank") then Some class.Blank
-    else if pointwise nat_eq name (codes "cntrl") then Some class.Cntrl
-    else if pointwise nat_eq name (codes "digit") then Some class.Digit
-    else if pointwise nat_eq name (codes "graph") then Some class.Graph
-    else if pointwise nat_eq name (codes "lower") then Some class.Lower
-    else if pointwise nat_eq name (codes "print") then Some class.Print
-    else if pointwise nat_eq name (codes "punct") then Some class.Punct
-    else if pointwise nat_eq name (codes "space") then Some class.Space
-    else if pointwise nat_eq name (codes "upper") then Some class.Upper
-    else if pointwise nat_eq name (codes "xdigit") then Some class.Xdigit
-    else None
-
 -- an item has the byte
 abbrev pub holds : Item → ℕ → Bool
 holds (element.Range first last) byte = is_from first last byte
-holds (element.Class name) byte = in_class name byte
+holds (element.Class name) byte = class_has name byte
 
 -- one of the items has the byte
 abbrev pub lists : List Item → ℕ → Bool

@@ -1,29 +1,11 @@
 //! Bracket expressions (XBD 9.3.5), in the C locale.
-ghost use Rattle.std.specs.Prelude.{◌≡◌, ◌<◌, ℕ, ◌||◌, ◌∷◌, false, None, IfSome, IfNone, MatchOption, length, nat_eq, ◌==◌, ◌≤◌, position, option_map};
-ghost use Rattle.ut_regex.specs.Brackets.{begins_with, in_class, holds, class_named, class_at, class_in, behind_close, is_special, item, range_end, IsListing, IsNoListing, IsBracket, IsNoBracket};
+ghost use Rattle.std.specs.Prelude.{◌≡◌, ◌<◌, ℕ, ◌||◌, ◌∷◌, false, None, IfSome, IfNone, MatchOption, length, ◌==◌, ◌≤◌, position, option_map};
+ghost use Rattle.ut_regex.specs.Brackets.{begins_with, holds, class_at, class_in, behind_close, is_special, item, range_end, IsListing, IsNoListing, IsBracket, IsNoBracket};
 ghost use Rattle.ut_regex.specs.Spans.{is_from};
-ghost use Rattle.std.specs.Cmp.Lexicographic.{pointwise};
 ghost use Rattle.ps_lines.specs.ByteSet.{has_byte};
 
 use crate::tree::Leaf;
-use ps_lines::ByteSet;
-
-/// A class of bytes in the C locale (XBD 7.3.1).
-#[derive(Clone, Copy, Debug, PartialEq, Eq)]
-pub(crate) enum Class {
-    Alnum,
-    Alpha,
-    Blank,
-    Cntrl,
-    Digit,
-    Graph,
-    Lower,
-    Print,
-    Punct,
-    Space,
-    Upper,
-    Xdigit,
-}
+use ps_lines::{ByteSet, Class};
 
 /// What is listed in brackets at once.
 #[derive(Clone, Copy, Debug, PartialEq, Eq)]
@@ -108,7 +90,7 @@ fn item_holds(item: Item, byte: u8) -> bool
 {
     match item {
         Item::Range(first, last) => is_from(first, last, byte),
-        Item::Class(class) => is_in_class(class, byte),
+        Item::Class(class) => class.has(byte),
     }
 }
 
@@ -118,33 +100,6 @@ fn is_from(low: u8, high: u8, byte: u8) -> bool
     ensures { result ≡ is_from low high byte }
 {
     low <= byte && byte <= high
-}
-
-/// Whether the byte is in the class.
-fn is_in_class(class: Class, byte: u8) -> bool
-    ensures { result ≡ in_class class byte }
-{
-    match class {
-        Class::Alnum => is_from(b'0', b'9', byte)
-            || is_from(b'A', b'Z', byte)
-            || is_from(b'a', b'z', byte),
-        Class::Alpha => is_from(b'A', b'Z', byte) || is_from(b'a', b'z', byte),
-        Class::Blank => is_from(b' ', b' ', byte) || is_from(b'\t', b'\t', byte),
-        Class::Cntrl => is_from(0, 31, byte) || is_from(127, 127, byte),
-        Class::Digit => is_from(b'0', b'9', byte),
-        Class::Graph => is_from(33, 126, byte),
-        Class::Lower => is_from(b'a', b'z', byte),
-        Class::Print => is_from(32, 126, byte),
-        Class::Punct => is_from(33, 47, byte)
-            || is_from(58, 64, byte)
-            || is_from(91, 96, byte)
-            || is_from(123, 126, byte),
-        Class::Space => is_from(9, 13, byte) || is_from(32, 32, byte),
-        Class::Upper => is_from(b'A', b'Z', byte),
-        Class::Xdigit => is_from(b'0', b'9', byte)
-            || is_from(b'A', b'F', byte)
-            || is_from(b'a', b'f', byte),
-    }
 }
 
 /// Reads an item: a class, a range or a byte.
@@ -212,7 +167,7 @@ fn named_class(text: &[u8]) -> Option<(Item, &[u8])>
 {
     match colon_at(text) {
         None => None,
-        Some(length) => match (class_of(&text[..length]), closed(&text[length + 1..])) {
+        Some(length) => match (Class::named(&text[..length]), closed(&text[length + 1..])) {
             (Some(class), Some(rest)) => match ranged(rest) {
                 None => Some((Item::Class(class), rest)),
                 Some(_) => None,
@@ -229,45 +184,4 @@ fn colon_at(text: &[u8]) -> Option<usize>
     ensures within { IfSome result (λ place. place < length text.now) }
 {
     text.iter().position(|byte| *byte == b':')
-}
-
-/// The class of a name.
-#[tactic(auto, unfolding(crate::specs::Brackets::class_named))]
-fn class_of(name: &[u8]) -> Option<Class>
-    ensures { result ≡ class_named name.now }
-{
-    if is_named(name, b"alnum") {
-        Some(Class::Alnum)
-    } else if is_named(name, b"alpha") {
-        Some(Class::Alpha)
-    } else if is_named(name, b"blank") {
-        Some(Class::Blank)
-    } else if is_named(name, b"cntrl") {
-        Some(Class::Cntrl)
-    } else if is_named(name, b"digit") {
-        Some(Class::Digit)
-    } else if is_named(name, b"graph") {
-        Some(Class::Graph)
-    } else if is_named(name, b"lower") {
-        Some(Class::Lower)
-    } else if is_named(name, b"print") {
-        Some(Class::Print)
-    } else if is_named(name, b"punct") {
-        Some(Class::Punct)
-    } else if is_named(name, b"space") {
-        Some(Class::Space)
-    } else if is_named(name, b"upper") {
-        Some(Class::Upper)
-    } else if is_named(name, b"xdigit") {
-        Some(Class::Xdigit)
-    } else {
-        None
-    }
-}
-
-/// Whether a name is the one that is known.
-fn is_named(name: &[u8], known: &[u8]) -> bool
-    ensures { result ≡ pointwise nat_eq name.now known.now }
-{
-    name == known
 }

@@ -1,4 +1,5 @@
 pub mod TextsLemmas
+pub mod SeekLemmas
 pub mod LineLemmas
 pub mod NewlineLemmas
 pub mod NumberLemmas

@@ -14,6 +14,7 @@ pub mod laws;
 mod memory;
 mod newlines;
 mod numbers;
+mod seek;
 #[cfg(test)]
 mod tests;
 mod text;

@@ -4,7 +4,7 @@ ghost use Rattle.ps_lines.specs.Lines.{BeginsNextLine, CutsLine, HasNoNewline, c
 ghost use Rattle.ps_lines.specs.Texts.{texts_of};
 
 use crate::memory::Memory;
-use memchr::memchr;
+use crate::seek::newline_in;
 use std::alloc::Global;
 
 /// The byte that ends a line (XBD 3.243).
@@ -37,7 +37,7 @@ pub fn next_line(text: &[u8], from: usize) -> Option<usize>
     ensures found { IfSome result (BeginsNextLine text.now from) }
     ensures none { IfNone result (HasNoNewline text.now from (length text.now)) }
 {
-    let offset = memchr(NEWLINE, &text[from..])?;
+    let offset = newline_in(&text[from..])?;
     Some(from + offset + 1)
 }
 
@@ -47,7 +47,7 @@ pub fn cut_line(text: &[u8]) -> Option<(&[u8], &[u8])>
     ensures none { IfNone result (has_newline text.now ≡ false) }
     ensures shorter { IfSome result (λ parts. length parts.1.now < length text.now) }
 {
-    match memchr(NEWLINE, text) {
+    match newline_in(text) {
         Some(end) => Some((&text[..end], &text[end + 1..])),
         None => None,
     }

@@ -24,4 +24,5 @@ pub mod LiteralLemmas
 pub mod FoldedLemmas
 pub mod HavingLemmas
 pub mod IdleLemmas
+pub mod StuckLemmas
 pub mod StartLemmas

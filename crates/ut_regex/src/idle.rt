@@ -11,7 +11,7 @@ use crate::table::{FOUND, Run, entry_of, text_entry};
 use ps_lines::{ByteSet, NEWLINE};
 
 /// The bytes in which one step among bytes that are passed over costs no more than a step for each.
-const STEP_STRETCH: usize = 6;
+pub(crate) const STEP_STRETCH: usize = 6;
 
 /// The state to which a table comes, from the first one, by each byte at which nothing begins; and the other bytes.
 #[derive(Clone, Copy, Drop)]

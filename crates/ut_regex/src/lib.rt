@@ -4,7 +4,7 @@
 //! matcher of an expression, and `Matcher::has` answers whether a line has it. The matcher carries a set of places along the
 //! line, so no expression makes it go back, and it takes no memory for a line. `Matcher::first_having` finds the first line of a
 //! text that has it, and looks for the ends of lines only where a line may; where the bytes at which a match may begin are rare, it
-//! looks for the next of them.
+//! looks for the next of them, and a line that can't have it any more is left for its end.
 //!
 //! `specs/Spans.antt` says which places of a line an expression spans, and which lines have it; `specs/Having.antt` says which
 //! line of a text is the first that has it; `specs/Reading.antt` says which texts are expressions, of which tree, and what the
@@ -30,6 +30,7 @@ mod reading;
 mod search;
 mod sizes;
 mod starts;
+mod stuck;
 mod sweep;
 mod table;
 #[cfg(test)]

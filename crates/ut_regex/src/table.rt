@@ -7,11 +7,12 @@ ghost use Rattle.ut_regex.specs.Seeks.{Same};
 ghost use Rattle.ut_regex.specs.Twins.{AreTwins, HasTwins};
 ghost use Rattle.ut_regex.specs.Tables.{left_at_found, runs, text_entry, state_of, states_of, state_at, IsEntry, Entered, Keeps};
 ghost use Rattle.ut_regex.specs.Reached.{AreReached, GoesOn, Reaches};
-ghost use Rattle.ut_regex.specs.Idling.{Idles};
+ghost use Rattle.ut_regex.specs.Idling.{Idles, IsStuck};
 
 use crate::cuts::cut_at_line;
 use crate::idle::{Idle, idle_of, left_behind_starts};
 use crate::machine::{Machine, Row};
+use crate::stuck::{are_lines_left_soon, left_by_lines, stuck_of};
 use crate::twins::twins_of;
 use ps_lines::NEWLINE;
 use std::alloc::{AllocError, Global};
@@ -38,7 +39,10 @@ pub(crate) struct Table {
     ends: Vec<bool>,
     /// Where it waits for a byte at which something may begin, if there is such a state.
     idle: Option<Idle>,
+    /// The state in which a line lacks the expression, whatever follows in it, if there is one.
+    stuck: Option<u16>,
     ghost idles: { ForSome idle (λ idle. Idles next.items ends.items idle.state idle.starts.set) },
+    ghost sticks: { ForSome stuck (λ state. IsStuck next.items ends.items state) },
 }
 
 /// How far a table has run over a text.
@@ -87,19 +91,29 @@ impl Table {
             state += 1;
         }
         let idle = idle_of(&next, &ends);
-        Ok(Some(Table { next, ends, idle }))
+        let stuck = stuck_of(&next, &ends);
+        Ok(Some(Table {
+            next,
+            ends,
+            idle,
+            stuck,
+        }))
     }
 
-    /// Runs over the line from the first state.
+    /// Runs over the line from the first state, as far as the answer isn't known.
     pub(crate) fn has(&self, line: &[u8]) -> bool
         ensures { result ≡ runs self.now.next.items self.now.ends.items 0 line.now }
     {
+        let stuck = self.stuck.unwrap_or(FOUND);
         let mut state = 0u16;
         let mut left = line;
         while let [byte, rest @ ..] = left {
             let entry = entry_of(&self.next, state, *byte);
             if entry == FOUND {
                 return true;
+            }
+            if entry == stuck {
+                return false;
             }
             state = entry;
             left = rest;
@@ -114,44 +128,72 @@ impl Table {
         ensures found { result ≡ left_at_found self.now.next.items self.now.ends.items 0 text.now }
         ensures some { IfSome result (λ left. left ≤ length text.now) }
     {
-        left_in_text(&self.next, &self.ends, &self.idle, text)
+        left_in_text(&self.next, &self.ends, &self.idle, self.stuck, text)
+    }
+}
+
+/// How much is left of a closed text where a table shows a line, from the first state on.
+fn left_in_text(
+    next: &[u16],
+    ends: &[bool],
+    idle: &Option<Idle>,
+    stuck: Option<u16>,
+    text: &[u8],
+) -> Option<usize>
+    requires closed { is_closed text.now ≡ true }
+    requires idles { ForSome idle.now (λ idle. Idles next.now ends.now idle.state idle.starts.set) }
+    requires sticks { ForSome stuck (λ state. IsStuck next.now ends.now state) }
+    ensures found { result ≡ left_at_found next.now ends.now 0 text.now }
+    ensures some { IfSome result (λ left. left ≤ length text.now) }
+{
+    let (head, tail) = cut_at_line(text, SAMPLE.min(text.len()));
+    match run_on(next, ends, 0, head) {
+        Some(left) => Some(left + tail.len()),
+        None => left_in_tail(next, ends, idle, stuck, head, tail),
+    }
+}
+
+/// How much is left of the tail of a text where a table shows a line, from the first state on. Where a part of the head tells that it is
+/// worth it, the ends of lines that are stuck, or bytes at which something may begin, are looked for.
+fn left_in_tail(
+    next: &[u16],
+    ends: &[bool],
+    idle: &Option<Idle>,
+    stuck: Option<u16>,
+    head: &[u8],
+    tail: &[u8],
+) -> Option<usize>
+    requires closed { is_closed tail.now ≡ true }
+    requires idles { ForSome idle.now (λ idle. Idles next.now ends.now idle.state idle.starts.set) }
+    requires sticks { ForSome stuck (λ state. IsStuck next.now ends.now state) }
+    ensures found { result ≡ left_at_found next.now ends.now 0 tail.now }
+    ensures some { IfSome result (λ left. left ≤ length tail.now) }
+{
+    let sample = &head[..SAMPLE.min(head.len())];
+    if let Some(stuck) = stuck
+        && are_lines_left_soon(next, ends, stuck, sample)
+    {
+        return left_by_lines(next, ends, stuck, tail);
+    }
+    match idle {
+        Some(idle) if idle.are_steps_rare(next, ends, sample) => {
+            left_behind_starts(next, ends, idle, tail)
+        }
+        Some(_) | None => left_behind_head(next, ends, tail),
     }
 }
 
 /// How much is left of a closed text where a table shows a line, from the first state on. A line near its beginning costs no more than
 /// the way there.
-fn left_in_text(next: &[u16], ends: &[bool], idle: &Option<Idle>, text: &[u8]) -> Option<usize>
-    requires closed { is_closed text.now ≡ true }
-    requires idles { ForSome idle.now (λ idle. Idles next.now ends.now idle.state idle.starts.set) }
+fn left_behind_head(next: &[u16], ends: &[bool], text: &[u8]) -> Option<usize>
+    requires { is_closed text.now ≡ true }
     ensures found { result ≡ left_at_found next.now ends.now 0 text.now }
     ensures some { IfSome result (λ left. left ≤ length text.now) }
 {
     let (head, tail) = cut_at_line(text, HEAD.min(text.len()));
     match run_on(next, ends, 0, head) {
         Some(left) => Some(left + tail.len()),
-        None => left_in_tail(next, ends, idle, head, tail),
-    }
-}
-
-/// How much is left of the tail of a text where a table shows a line, from the first state on. Where a part of the head tells that it is
-/// worth it, bytes at which something may begin are looked for.
-fn left_in_tail(
-    next: &[u16],
-    ends: &[bool],
-    idle: &Option<Idle>,
-    head: &[u8],
-    tail: &[u8],
-) -> Option<usize>
-    requires closed { is_closed tail.now ≡ true }
-    requires idles { ForSome idle.now (λ idle. Idles next.now ends.now idle.state idle.starts.set) }
-    ensures found { result ≡ left_at_found next.now ends.now 0 tail.now }
-    ensures some { IfSome result (λ left. left ≤ length tail.now) }
-{
-    match idle {
-        Some(idle) if idle.are_steps_rare(next, ends, &head[..SAMPLE.min(head.len())]) => {
-            left_behind_starts(next, ends, idle, tail)
-        }
-        Some(_) | None => left_in_halves(next, ends, tail),
+        None => left_in_halves(next, ends, tail),
     }
 }
 
@@ -254,7 +296,7 @@ pub(crate) fn entry_of(next: &[u16], state: u16, byte: u8) -> u16
 }
 
 /// Whether the expression may end at the line's end in a state.
-fn ends_at(ends: &[bool], state: u16) -> bool
+pub(crate) fn ends_at(ends: &[bool], state: u16) -> bool
     ensures { result ≡ slice_index_or ends.now state false }
 {
     match ends.get(state as usize) {

@@ -77,7 +77,7 @@ fn lines_that_have_an_expression_are_found_in_order(rt: HostRuntime) -> Result<(
 }
 
 /// Options, expression, lines, and which of them are printed, as in `TEXTS`. No line of the filler has any of the expressions.
-static SPREAD: [(&str, &str, &str, &str); 14] = [
+static SPREAD: [(&str, &str, &str, &str); 16] = [
     ("-", "[xyz]fo*", "xfoo\nfoo\nyxf\nx\nz f\n", "xfoo\nyxf\n"),
     ("-", "[x][12]", "x\nax1\nx 1\nxx2\n", "ax1\nxx2\n"),
     ("E", "x1|y2", "x2y1\ny2\nx1y2\nx\n", "y2\nx1y2\n"),
@@ -86,6 +86,13 @@ static SPREAD: [(&str, &str, &str, &str); 14] = [
     ("-", "^[xyz]f", "axf\nxf\nfx\nyfx\n", "xf\nyfx\n"),
     ("-", "[xyz]$", "xa\nax\n\nz\n", "ax\nz\n"),
     ("-", "^[xyz]$", "x\nxx\nzx\ny\n", "x\ny\n"),
+    ("-", "^xb*c", "xbbc\nxbbd\nxbc1\naxbc\n", "xbbc\nxbc1\n"),
+    (
+        "-",
+        "^x.*[12]$",
+        "x\nx1\nx12 \n1x1\n x2\nx x2\n",
+        "x1\nx x2\n",
+    ),
     ("-", "^$", "x\n\ny\n\n", "\n\n"),
     ("E", "^x?$", "x\n\nxx\n", "x\n\n"),
     ("i", "[xyz]q*[12]", "X1\nx\nyQq2\nq1\n", "X1\nyQq2\n"),

@@ -42,3 +42,9 @@ states-preserved c =
           (led.leads ∙ ap₂ (λ ops whole. leads_at ops whole true (state_of c.index.result.now)) l.invariant.same.steps l.invariant.same.whole ∙ ap (λ s. leads_at m.steps.items m.whole true s) (sym there))
           l.invariant.last;
     }
+
+pub invariant_of-result : goal.invariant_of-result
+invariant_of-result c = record {
+  idles = rw (c.deref-2.ensures.value, c.deref-3.ensures.value) at c.idle_of-idle.ensures;
+  sticks = rw (c.deref-4.ensures.value, c.deref-5.ensures.value) at c.stuck_of-stuck.ensures.some;
+}

@@ -29,6 +29,36 @@ make_text() {
     }'
 }
 
+# A web server's log in the combined format (host, time, request, status, size, referrer, agent), of this many megabytes; the same in each run.
+make_log() {
+    awk -v megabytes="$1" '
+        function one_of(list, count) { return list[int(rand() * count) + 1] }
+
+        BEGIN {
+            srand(1)
+            months = split("Jan Feb Mar Apr May Jun Jul Aug Sep Oct Nov Dec", month, " ")
+            paths = split("/ /index.html /robots.txt /favicon.ico /assets/main.css /assets/app.js /images/logo.png " \
+                "/blog/2026/11/a-short-title /search?q=pipeline&page=2 /api/v1/items/48213 /docs/manual/chapter-12.html", path, " ")
+            agents = split("Mozilla/5.0 (X11; Linux x86_64; rv:128.0) Gecko/20100101 Firefox/128.0|" \
+                "Mozilla/5.0 (Windows NT 10.0; Win64; x64) AppleWebKit/537.36 (KHTML, like Gecko) Chrome/129.0.0.0 Safari/537.36|" \
+                "Mozilla/5.0 (compatible; Googlebot/2.1; +http://www.google.com/bot.html)|curl/8.5.0|-", agent, "|")
+            for (made = 0; made < megabytes * 1000000; made += length(line) + 1) {
+                line = sprintf("%d.%d.%d.%d - - [%02d/%s/2026:%02d:%02d:%02d +0000] \"GET %s HTTP/1.1\" %d %d \"%s\" \"%s\"",
+                    rand() * 223 + 1, rand() * 256, rand() * 256, rand() * 256,
+                    rand() * 28 + 1, one_of(month, months), rand() * 24, rand() * 60, rand() * 60,
+                    one_of(path, paths), rand() < 0.9 ? 200 : 404, rand() * 50000,
+                    rand() < 0.5 ? "-" : "https://www.example.org" one_of(path, paths), one_of(agent, agents))
+                print line
+            }
+        }'
+}
+
+# Text in lines of 0 to 80 bytes, and then a log: this many megabytes, half each.
+make_text_and_log() {
+    make_text "$(($1 / 2))" 40
+    make_log "$(($1 / 2))"
+}
+
 # The nanoseconds that a call takes on a text.
 time_call() {
     "$crate/out/pash_bench" "$1" "$2" 2>&1 >"$texts/found"

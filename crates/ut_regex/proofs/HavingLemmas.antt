@@ -20,12 +20,13 @@ use Rattle.ut_regex.specs.declared.search.Search.{Search}
 use Rattle.ut_regex.specs.declared.tree.Leaf.TheVariants.{Byte}
 use Rattle.ut_regex.specs.Seeks.{Seeks}
 use Rattle.ut_regex.specs.Spans.{fits, Has}
-use Rattle.ut_regex.specs.Tables.{runs, text_entry, left_at_found}
+use Rattle.ut_regex.specs.Tables.{runs, left_at_found, IsForTexts}
 use Rattle.ut_regex.specs.Made.{IsMade}
 use Rattle.ut_regex.specs.Tree.{Tree}
 use Rattle.ut_regex.proofs.CutLemmas.{closed-append, closed-behind, closed-tail}
 use Rattle.ut_regex.proofs.LiteralLemmas.{has_literal, stands_long}
 use Rattle.ut_regex.proofs.RunLemmas.{AreBytes, made_has}
+use Rattle.ut_regex.proofs.TextLemmas.{some-same, some≢none, goes-on, shows}
 
 -- what holds of each of some texts
 pub all-map : (P Q : List ℕ → Type 0) → ((text : List ℕ) → P text → Q text) → (texts : List (List ℕ)) → AllByRecursion P texts → AllByRecursion Q texts
@@ -119,17 +120,8 @@ bytes-part (byte ∷ front) line back bytes = bytes-part front line back bytes.1
 bytes-lines : (text : List ℕ) → AreBytes text → AllByRecursion AreBytes (lines text)
 bytes-lines text bytes = parts-lines AreBytes text (λ front line back is. bytes-part front line back (subst AreBytes is bytes))
 
--- numbers that are there are the same where their options are
-value : Option ℕ → ℕ
-value None = 0
-value (Some number) = number
-
-some-same : (first second : ℕ) → Some first ≡ Some second → first ≡ second
-unfolding value
-some-same first second same = ap value same
-
 -- a table that shows nothing in a closed text has no answer for any of its lines
-module _ (next : List ℕ) (ends : List Bool) where
+module _ (next : List ℕ) (ends : List Bool) (entries : List ℕ) (for_texts : IsForTexts next ends entries) where
   -- no answer for these lines, of which the first goes on from a state
   abbrev Quiet : ℕ → List (List ℕ) → Type 0
   Quiet state [] = Unit {0}
@@ -153,43 +145,37 @@ module _ (next : List ℕ) (ends : List Bool) where
       by_end false [] = omega arith
       by_end false (line ∷ others) = omega arith
 
-  entry-plain : (state byte : ℕ) → (byte == 10) ≡ false → text_entry next ends state byte ≡ slice_index_or next (256 * state + byte) FOUND
-  entry-plain state byte plain = cond-false (byte == 10) (if slice_index_or ends state false then FOUND else 0) (slice_index_or next (256 * state + byte) FOUND) plain
+  entry-plain : (state byte : ℕ) → byte < 256 → (byte == 10) ≡ false
+      → slice_index_or entries (256 * state + byte) FOUND ≡ slice_index_or next (256 * state + byte) FOUND
+  entry-plain state byte small plain =
+      for_texts state byte small ∙ cond-false (byte == 10) (if slice_index_or ends state true then FOUND else 0) (slice_index_or next (256 * state + byte) FOUND) plain
 
-  entry-end : (state byte : ℕ) → (byte == 10) ≡ true → text_entry next ends state byte ≡ (if slice_index_or ends state false then FOUND else 0)
-  entry-end state byte is = cond-true (byte == 10) (if slice_index_or ends state false then FOUND else 0) (slice_index_or next (256 * state + byte) FOUND) is
-
-  pub goes-on : (state byte entry : ℕ) (rest : List ℕ) → text_entry next ends state byte ≡ entry → (entry == FOUND) ≡ false
-      → left_at_found next ends state (byte ∷ rest) ≡ left_at_found next ends entry rest
-  goes-on state byte entry rest is goes =
-      ap (λ e. if e == FOUND then Some (suc (length rest)) else left_at_found next ends e rest) is
-      ∙ cond-false (entry == FOUND) (Some (suc (length rest))) (left_at_found next ends entry rest) goes
-
-  shows : (state byte : ℕ) (rest : List ℕ) → (text_entry next ends state byte == FOUND) ≡ true → left_at_found next ends state (byte ∷ rest) ≡ Some (suc (length rest))
-  shows state byte rest is =
-      cond-true (text_entry next ends state byte == FOUND) (Some (suc (length rest))) (left_at_found next ends (text_entry next ends state byte) rest) is
+  entry-end : (state byte : ℕ) → byte < 256 → (byte == 10) ≡ true
+      → slice_index_or entries (256 * state + byte) FOUND ≡ (if slice_index_or ends state true then FOUND else 0)
+  entry-end state byte small is =
+      for_texts state byte small ∙ cond-true (byte == 10) (if slice_index_or ends state true then FOUND else 0) (slice_index_or next (256 * state + byte) FOUND) is
 
   -- nothing is known of the text before this much of it is left
   abbrev IsLate : ℕ → List ℕ → List ℕ → Type 0
-  IsLate state text more = (left : ℕ) → left_at_found next ends state (text ++ more) ≡ Some left → left ≤ length more
+  IsLate state text more = (left : ℕ) → left_at_found entries state (text ++ more) ≡ Some left → left ≤ length more
 
-  too-early : (state byte : ℕ) (rest more : List ℕ) → IsLate state (byte ∷ rest) more → (text_entry next ends state byte == FOUND) ≡ true → ⊥
+  too-early : (state byte : ℕ) (rest more : List ℕ) → IsLate state (byte ∷ rest) more → (slice_index_or entries (256 * state + byte) FOUND == FOUND) ≡ true → ⊥
   too-early state byte rest more late is =
-      let left = late (suc (length (rest ++ more))) (shows state byte (rest ++ more) is) in
+      let left = late (suc (length (rest ++ more))) (shows entries state byte (rest ++ more) is) in
       let size = length-append rest more in
       omega (arith, left, size)
 
   -- one byte more, where all is quiet behind it
-  quiet-step : (byte : ℕ) (rest more : List ℕ) (state : ℕ) → is_closed (byte ∷ rest) ≡ true → IsLate state (byte ∷ rest) more
+  quiet-step : (byte : ℕ) (rest more : List ℕ) (state : ℕ) → byte < 256 → is_closed (byte ∷ rest) ≡ true → IsLate state (byte ∷ rest) more
       → ((state : ℕ) → IsLate state rest more → Quiet state (lines rest)) → Quiet state (lines (byte ∷ rest))
-  quiet-step byte rest more state closed late later = by_byte (byte == 10) refl
+  quiet-step byte rest more state small closed late later = by_byte (byte == 10) refl
     where
-      by_end : (ended : Bool) → slice_index_or ends state false ≡ ended → (byte == 10) ≡ true → Quiet state ([] ∷ lines rest)
-      by_end true ended is = absurd (too-early state byte rest more late (ap (λ e. e == FOUND) (entry-end state byte is ∙ ap (λ b. if b then FOUND else 0) ended)))
+      by_end : (ended : Bool) → slice_index_or ends state true ≡ ended → (byte == 10) ≡ true → Quiet state ([] ∷ lines rest)
+      by_end true ended is = absurd (too-early state byte rest more late (ap (λ e. e == FOUND) (entry-end state byte small is ∙ ap (λ b. if b then FOUND else 0) ended)))
       by_end false ended is = (
         ended,
         quiet-first (lines rest) (later 0 (λ left found. late left
-            (goes-on state byte 0 (rest ++ more) (entry-end state byte is ∙ ap (λ b. if b then FOUND else 0) ended) refl ∙ found))),
+            (goes-on entries state byte 0 (rest ++ more) (entry-end state byte small is ∙ ap (λ b. if b then FOUND else 0) ended) refl ∙ found))),
       )
 
       by_rest : (last : List ℕ) → rest ≡ last → (slice_index_or next (256 * state + byte) FOUND == FOUND) ≡ false → (byte == 10) ≡ false
@@ -198,75 +184,25 @@ module _ (next : List ℕ) (ends : List Bool) where
       by_rest (first ∷ last) is shown plain =
           quiet-onto byte state (lines rest) (subst (λ rest. 0 < length (lines rest)) (sym is) (some-lines first last)) shown
           (later (slice_index_or next (256 * state + byte) FOUND) (λ left found. late left
-          (goes-on state byte (slice_index_or next (256 * state + byte) FOUND) (rest ++ more) (entry-plain state byte plain) shown ∙ found)))
+          (goes-on entries state byte (slice_index_or next (256 * state + byte) FOUND) (rest ++ more) (entry-plain state byte small plain) shown ∙ found)))
 
       by_entry : (shown : Bool) → (slice_index_or next (256 * state + byte) FOUND == FOUND) ≡ shown → (byte == 10) ≡ false → Quiet state (onto_first byte (lines rest))
-      by_entry true shown plain = absurd (too-early state byte rest more late (ap (λ e. e == FOUND) (entry-plain state byte plain) ∙ shown))
+      by_entry true shown plain = absurd (too-early state byte rest more late (ap (λ e. e == FOUND) (entry-plain state byte small plain) ∙ shown))
       by_entry false shown plain = by_rest rest refl shown plain
 
       by_byte : (ended : Bool) → (byte == 10) ≡ ended → Quiet state (if ended then [] ∷ lines rest else onto_first byte (lines rest))
-      by_byte true is = by_end (slice_index_or ends state false) refl is
+      by_byte true is = by_end (slice_index_or ends state true) refl is
       by_byte false is = by_entry (slice_index_or next (256 * state + byte) FOUND == FOUND) refl is
 
-  quiet : (text more : List ℕ) (state : ℕ) → is_closed text ≡ true → IsLate state text more → Quiet state (lines text)
-  quiet [] more state closed late = tt
-  quiet (byte ∷ rest) more state closed late =
-      quiet-step byte rest more state closed late (λ state late. quiet rest more state (closed-tail byte rest closed) late)
+  quiet : (text more : List ℕ) (state : ℕ) → AreBytes text → is_closed text ≡ true → IsLate state text more → Quiet state (lines text)
+  quiet [] more state bytes closed late = tt
+  quiet (byte ∷ rest) more state bytes closed late =
+      quiet-step byte rest more state bytes.0 closed late (λ state late. quiet rest more state bytes.1 (closed-tail byte rest closed) late)
 
-  -- a text in two parts, of which the first is closed: where it shows nothing, the second begins in the first state
-  some≢none : (left : ℕ) → Some left ≡ None → ⊥
-  some≢none left same = grind arith
-
-  ended-zero : (state byte : ℕ) → (byte == 10) ≡ true → (text_entry next ends state byte == FOUND) ≡ false → text_entry next ends state byte ≡ 0
-  ended-zero state byte is goes = by_end (slice_index_or ends state false) refl
-    where
-      by_end : (ended : Bool) → slice_index_or ends state false ≡ ended → text_entry next ends state byte ≡ 0
-      by_end true ended = absurd (true≢false (ap (λ e. e == FOUND) (sym (entry-end state byte is ∙ ap (λ b. if b then FOUND else 0) ended)) ∙ goes))
-      by_end false ended = entry-end state byte is ∙ ap (λ b. if b then FOUND else 0) ended
-
-  ends-zero : (byte : ℕ) (rest : List ℕ) (state : ℕ) → is_closed (byte ∷ rest) ≡ true → (text_entry next ends state byte == FOUND) ≡ false → length rest ≡ 0
-      → text_entry next ends state byte ≡ 0
-  ends-zero byte [] state closed goes none = ended-zero state byte closed goes
-  ends-zero byte (first ∷ rest) state closed goes none = absurd (omega (arith, none))
-
-  pub left-closed : (text more : List ℕ) (state : ℕ) → is_closed text ≡ true → (length text ≡ 0 → state ≡ 0) → left_at_found next ends state text ≡ None
-      → left_at_found next ends state (text ++ more) ≡ left_at_found next ends 0 more
-  left-closed [] more state closed begins none = ap (λ state. left_at_found next ends state more) (begins refl)
-  left-closed (byte ∷ rest) more state closed begins none =
-      by_shown (text_entry next ends state byte == FOUND) refl
-      (λ goes quiet. left-closed rest more (text_entry next ends state byte) (closed-tail byte rest closed) (ends-zero byte rest state closed goes) quiet)
-    where
-      by_shown : (shown : Bool) → (text_entry next ends state byte == FOUND) ≡ shown
-          → ((text_entry next ends state byte == FOUND) ≡ false → left_at_found next ends (text_entry next ends state byte) rest ≡ None
-          → left_at_found next ends (text_entry next ends state byte) (rest ++ more) ≡ left_at_found next ends 0 more)
-          → left_at_found next ends state (byte ∷ (rest ++ more)) ≡ left_at_found next ends 0 more
-      by_shown true is later = absurd (some≢none (suc (length rest)) (sym (shows state byte rest is) ∙ none))
-      by_shown false is later =
-          goes-on state byte (text_entry next ends state byte) (rest ++ more) refl is
-          ∙ later is (sym (goes-on state byte (text_entry next ends state byte) rest refl is) ∙ none)
-
-  pub left-shown : (text more : List ℕ) (state left : ℕ) → left_at_found next ends state text ≡ Some left
-      → left_at_found next ends state (text ++ more) ≡ Some (left + length more)
-  left-shown [] more state left found = absurd (some≢none left (sym found))
-  left-shown (byte ∷ rest) more state left found =
-      by_shown (text_entry next ends state byte == FOUND) refl (λ shown. left-shown rest more (text_entry next ends state byte) left shown)
-    where
-      by_shown : (shown : Bool) → (text_entry next ends state byte == FOUND) ≡ shown
-          → (left_at_found next ends (text_entry next ends state byte) rest ≡ Some left
-          → left_at_found next ends (text_entry next ends state byte) (rest ++ more) ≡ Some (left + length more))
-          → left_at_found next ends state (byte ∷ (rest ++ more)) ≡ Some (left + length more)
-      by_shown true is later =
-          let size = length-append rest more in
-          let same : suc (length rest) ≡ left = some-same (suc (length rest)) left (sym (shows state byte rest is) ∙ found) in
-          shows state byte (rest ++ more) is ∙ ap (λ left. Some left) (omega (arith, size, same))
-      by_shown false is later =
-          goes-on state byte (text_entry next ends state byte) (rest ++ more) refl is
-          ∙ later (sym (goes-on state byte (text_entry next ends state byte) rest refl is) ∙ found)
-
-  pub table-passed : (text before more : List ℕ) → text ≡ before ++ more → is_closed before ≡ true
-      → ((left : ℕ) → left_at_found next ends 0 text ≡ Some left → left ≤ length more) → AllByRecursion (λ line. runs next ends 0 line ≡ false) (lines before)
-  table-passed text before more whole closed late =
-      quiet-first (lines before) (quiet before more 0 closed (λ left found. late left (ap (λ text. left_at_found next ends 0 text) whole ∙ found)))
+  pub table-passed : (text before more : List ℕ) → AreBytes before → text ≡ before ++ more → is_closed before ≡ true
+      → ((left : ℕ) → left_at_found entries 0 text ≡ Some left → left ≤ length more) → AllByRecursion (λ line. runs next ends 0 line ≡ false) (lines before)
+  table-passed text before more bytes whole closed late =
+      quiet-first (lines before) (quiet before more 0 bytes closed (λ left found. late left (ap (λ text. left_at_found entries 0 text) whole ∙ found)))
 
 -- a line that lacks what its expression requires lacks the expression
 pub lack-literal : (fold whole : Bool) (re : Tree) (literal : Option Search) (search : Search) (text before more : List ℕ) (place : ℕ) → literal ≡ Some search
@@ -283,24 +219,25 @@ lack-literal fold whole re literal search text before more place is looked cut l
 -- a line for which a table has no answer lacks the expression
 pub lack-table : (machine : Machine) (fold whole : Bool) (re : Tree) (table : Table) (text before more : List ℕ) → Seeks machine fold whole re
     → IsMade machine.steps.items machine.fold machine.whole table → AreBytes text → text ≡ before ++ more → is_closed before ≡ true
-    → ((left : ℕ) → left_at_found table.next.items table.ends.items 0 text ≡ Some left → left ≤ length more) → Lack fold whole re (lines before)
+    → ((left : ℕ) → left_at_found table.texts.next.items 0 text ≡ Some left → left ≤ length more) → Lack fold whole re (lines before)
 lack-table machine fold whole re table text before more seeks made bytes cut closed late =
+    let front : AreBytes before = bytes-front before more (subst AreBytes cut bytes) in
     all-both (λ line. runs table.next.items table.ends.items 0 line ≡ false) AreBytes (λ line. ¬ Has fold whole line re)
     (λ line none are has. true≢false (sym ((made_has machine fold whole re line table seeks are made).1 has) ∙ none)) (lines before)
-    (table-passed table.next.items table.ends.items text before more cut closed late)
-    (bytes-lines before (bytes-front before more (subst AreBytes cut bytes)))
+    (table-passed table.next.items table.ends.items table.texts.next.items table.for_texts text before more front cut closed late)
+    (bytes-lines before front)
 
 -- a place where a table shows a line
-pub late-at : (next : List ℕ) (ends : List Bool) (text before more : List ℕ) (shown : ℕ) → shown ≤ length text → left_at_found next ends 0 text ≡ Some shown
-    → text ≡ before ++ more → length before ≤ length text - shown → (left : ℕ) → left_at_found next ends 0 text ≡ Some left → left ≤ length more
-late-at next ends text before more shown within is cut low left found =
+pub late-at : (entries : List ℕ) (text before more : List ℕ) (shown : ℕ) → shown ≤ length text → left_at_found entries 0 text ≡ Some shown
+    → text ≡ before ++ more → length before ≤ length text - shown → (left : ℕ) → left_at_found entries 0 text ≡ Some left → left ≤ length more
+late-at entries text before more shown within is cut low left found =
     let same : left ≡ shown = some-same left shown (sym found ∙ is) in
     let size : length text ≡ length before + length more = ap length cut ∙ length-append before more in
     omega (arith, same, size, within, low)
 
-pub late-never : (next : List ℕ) (ends : List Bool) (text more : List ℕ) → left_at_found next ends 0 text ≡ None
-    → (left : ℕ) → left_at_found next ends 0 text ≡ Some left → left ≤ length more
-late-never next ends text more none left found = absurd (some≢none next ends left (sym found ∙ none))
+pub late-never : (entries : List ℕ) (text more : List ℕ) → left_at_found entries 0 text ≡ None
+    → (left : ℕ) → left_at_found entries 0 text ≡ Some left → left ≤ length more
+late-never entries text more none left found = absurd (some≢none left (sym found ∙ none))
 
 -- the lines before a candidate, and of the whole text where there is none
 pub passed-before : (fold whole : Bool) (re : Tree) (text before line rest : List ℕ) (place : ℕ) → IsPassed fold whole re text place → CutsOut text before line rest

@@ -1,5 +1,5 @@
 -- Bytes at which nothing begins are passed over.
-use Rattle.std.proofs.Common.{ℕ, zero, suc, ◌≡◌, ◌+◌, ◌-◌, ◌<◌, ◌≤◌, ◌==◌, ◌&&◌, ◌||◌, ◌⊎◌, inl, inr, nat_lt, not, Bool, true, false, List, [], ◌∷◌, length, slice_index, drop, if◌then◌else◌, Option, Some, None, refl, ap, sym, ◌∙◌, arith}
+use Rattle.std.proofs.Common.{ℕ, zero, suc, ◌≡◌, ◌+◌, ◌-◌, ◌*◌, ◌<◌, ◌≤◌, ◌==◌, ◌&&◌, ◌||◌, ◌⊎◌, inl, inr, nat_lt, not, Bool, true, false, List, [], ◌∷◌, length, slice_index, slice_index_or, drop, if◌then◌else◌, Option, Some, None, refl, ap, sym, ◌∙◌, arith}
 use Rattle.std.proofs.lemmas.Bool.{ne_eqb, eqb-true, true≢false}
 use Rattle.std.proofs.lemmas.Bool.Decides.{nat_tests}
 use Rattle.memchr.specs.Find.{IsFirstByte, Nowhere, Passes}
@@ -7,8 +7,8 @@ use Rattle.ps_lines.specs.declared.ByteSet.{ByteSet}
 use Rattle.ps_lines.specs.ByteSet.{has_byte}
 use Rattle.ut_regex.specs.declared.table.TheConstants.{FOUND}
 use Rattle.ut_regex.specs.Idling.{idle_behind, Idles}
-use Rattle.ut_regex.specs.Tables.{text_entry, left_at_found}
-use Rattle.ut_regex.proofs.HavingLemmas.{goes-on}
+use Rattle.ut_regex.specs.Tables.{left_at_found}
+use Rattle.ut_regex.proofs.TextLemmas.{goes-on}
 use Rattle.ut_regex.proofs.RunLemmas.{AreBytes}
 
 -- two tests that answer alike find the same byte
@@ -44,7 +44,7 @@ not-both true true h = (refl, refl)
 not-both true false h = absurd (true≢false h)
 not-both false second h = absurd (true≢false h)
 
-module _ (next : List ℕ) (ends : List Bool) (idle : ℕ) (starts : ByteSet) (idles : Idles next ends idle starts) where
+module _ (entries : List ℕ) (idle : ℕ) (starts : ByteSet) (idles : Idles entries idle starts) where
   -- what holds of the first state and of the one that waits holds behind a byte at which nothing begins
   behind-one : (P : ℕ → Type 0) (byte : ℕ) → P 0 → P idle → P (idle_behind idle byte)
   behind-one P byte first again = by_end (byte == 10)
@@ -54,26 +54,26 @@ module _ (next : List ℕ) (ends : List Bool) (idle : ℕ) (starts : ByteSet) (i
       by_end false = again
 
   entry-there : (state byte : ℕ) → (state ≡ 0) ⊎ (state ≡ idle) → byte < 256 → has_byte starts byte ≡ false
-      → text_entry next ends state byte ≡ idle_behind idle byte
+      → slice_index_or entries (256 * state + byte) FOUND ≡ idle_behind idle byte
   entry-there state byte waits small none =
-      let both = not-both (text_entry next ends 0 byte == idle_behind idle byte) (text_entry next ends idle byte == idle_behind idle byte)
+      let both = not-both (slice_index_or entries (256 * 0 + byte) FOUND == idle_behind idle byte) (slice_index_or entries (256 * idle + byte) FOUND == idle_behind idle byte)
       (sym (idles.exact byte small) ∙ none) in
       elim waits [
-        | inl is ↦ ap (λ state. text_entry next ends state byte) is ∙ eqb-true (text_entry next ends 0 byte) (idle_behind idle byte) both.0
-        | inr is ↦ ap (λ state. text_entry next ends state byte) is ∙ eqb-true (text_entry next ends idle byte) (idle_behind idle byte) both.1
+        | inl is ↦ ap (λ state. slice_index_or entries (256 * state + byte) FOUND) is ∙ eqb-true (slice_index_or entries (256 * 0 + byte) FOUND) (idle_behind idle byte) both.0
+        | inr is ↦ ap (λ state. slice_index_or entries (256 * state + byte) FOUND) is ∙ eqb-true (slice_index_or entries (256 * idle + byte) FOUND) (idle_behind idle byte) both.1
       ]
 
   -- a byte at which nothing begins shows no line
   passed-one : (state byte : ℕ) (rest : List ℕ) → (state ≡ 0) ⊎ (state ≡ idle) → byte < 256 → has_byte starts byte ≡ false
-      → left_at_found next ends state (byte ∷ rest) ≡ left_at_found next ends (idle_behind idle byte) rest
+      → left_at_found entries state (byte ∷ rest) ≡ left_at_found entries (idle_behind idle byte) rest
   passed-one state byte rest waits small none =
-      goes-on next ends state byte (idle_behind idle byte) rest (entry-there state byte waits small none)
+      goes-on entries state byte (idle_behind idle byte) rest (entry-there state byte waits small none)
       (behind-one (λ state. (state == FOUND) ≡ false) byte refl (ne_eqb idle FOUND (λ same. omega (arith, same, idles.known))))
 
   -- nor do bytes up to a place at which nothing begins, and the last of them tells in which state the table waits behind it
   pub passed-up_to : (text : List ℕ) (last state : ℕ) → AreBytes text → last < length text
       → ((place : ℕ) → place ≤ last → has_byte starts (slice_index text place) ≡ false) → (state ≡ 0) ⊎ (state ≡ idle)
-      → left_at_found next ends state text ≡ left_at_found next ends (idle_behind idle (slice_index text last)) (drop (suc last) text)
+      → left_at_found entries state text ≡ left_at_found entries (idle_behind idle (slice_index text last)) (drop (suc last) text)
   passed-up_to [] last state bytes within none waits = absurd (omega (arith, within))
   passed-up_to (byte ∷ rest) zero state bytes within none waits = passed-one state byte rest waits bytes.0 (none 0 (omega arith))
   passed-up_to (byte ∷ rest) (suc last) state bytes within none waits =
@@ -84,10 +84,10 @@ module _ (next : List ℕ) (ends : List Bool) (idle : ℕ) (starts : ByteSet) (i
   -- the same up to the first byte at which something may begin
   pub passed-over : (text : List ℕ) (passed state : ℕ) → AreBytes text → passed ≤ length text → ¬ (passed ≡ 0)
       → Nowhere (Passes (λ byte. has_byte starts byte) text) 0 passed → (state ≡ 0) ⊎ (state ≡ idle)
-      → left_at_found next ends (idle_behind idle (slice_index text (passed - 1))) (drop passed text) ≡ left_at_found next ends state text
+      → left_at_found entries (idle_behind idle (slice_index text (passed - 1))) (drop passed text) ≡ left_at_found entries state text
   passed-over text zero state bytes within some none waits = absurd (some refl)
   passed-over text (suc last) state bytes within some none waits =
       let before : suc last - 1 ≡ last = omega arith in
-      ap (λ before. left_at_found next ends (idle_behind idle (slice_index text before)) (drop (suc last) text)) before
+      ap (λ before. left_at_found entries (idle_behind idle (slice_index text before)) (drop (suc last) text)) before
       ∙ sym (passed-up_to text last state bytes (omega (arith, within))
       (λ place low. isnt-true (has_byte starts (slice_index text place)) (none place (omega arith) (omega (arith, low)))) waits)

@@ -22,6 +22,7 @@ pub mod LineLemmas
 pub mod CutLemmas
 pub mod LiteralLemmas
 pub mod FoldedLemmas
+pub mod TextLemmas
 pub mod HavingLemmas
 pub mod IdleLemmas
 pub mod StuckLemmas

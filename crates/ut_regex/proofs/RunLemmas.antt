@@ -106,7 +106,7 @@ module _ (fold whole : Bool) (re : Tree) (line : List ℕ) (ops : List Op) (prog
   runs_right [] front state bytes cut known scanned begins quiet =
       let at : length front ≡ length line = sym (ap length (cut ∙ append-nil front)) in
       let s = state_at states state in
-      has_last fold whole re line s.bits (length front) scanned at ops whole s.begins (slice_index_or ends state false) program refl
+      has_last fold whole re line s.bits (length front) scanned at ops whole s.begins (slice_index_or ends state true) program refl
       (begins ∙ ap (λ n. n == 0) at) (table.last state known)
   runs_right (byte ∷ rest) front state (small, bytes) cut known scanned begins quiet =
       let s = state_at states state in

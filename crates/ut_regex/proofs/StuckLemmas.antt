@@ -1,13 +1,13 @@
 -- In a state that no byte leaves, no line has the expression, and of a text the next line is begun behind the line's end.
-use Rattle.std.proofs.Common.{ℕ, ◌≡◌, ◌==◌, ◌+◌, ◌*◌, ◌<◌, Bool, true, false, List, [], ◌∷◌, ◌++◌, Option, Some, None, length, slice_index, slice_index_or, true≢false, if◌then◌else◌, refl, ap, sym, ◌∙◌, arith}
+use Rattle.std.proofs.Common.{ℕ, ◌≡◌, ◌==◌, ◌+◌, ◌*◌, ◌<◌, Bool, true, false, List, [], ◌∷◌, ◌++◌, Option, Some, None, length, slice_index, slice_index_or, true≢false, if◌then◌else◌, refl, ap, ap₂, sym, ◌∙◌, arith}
 use Rattle.std.proofs.lemmas.Bool.{ne_eqb, or_parts}
 use Rattle.std.specs.Option.{ForSome, unwrap_or}
 use Rattle.ps_lines.specs.declared.newlines.TheConstants.{NEWLINE}
 use Rattle.ps_lines.specs.Lines.{has_newline}
 use Rattle.ut_regex.specs.declared.table.TheConstants.{FOUND}
-use Rattle.ut_regex.specs.Idling.{IsStuck}
-use Rattle.ut_regex.specs.Tables.{runs, left_at_found}
-use Rattle.ut_regex.proofs.HavingLemmas.{goes-on}
+use Rattle.ut_regex.specs.Idling.{IsStuck, WaitsForLine}
+use Rattle.ut_regex.specs.Tables.{runs, left_at_found, IsForTexts}
+use Rattle.ut_regex.proofs.TextLemmas.{goes-on}
 use Rattle.ut_regex.proofs.RunLemmas.{AreBytes}
 
 module _ (next : List ℕ) (ends : List Bool) (stuck : ℕ) (sticks : IsStuck next ends stuck) where
@@ -21,21 +21,29 @@ module _ (next : List ℕ) (ends : List Bool) (stuck : ℕ) (sticks : IsStuck ne
       ap (λ entry. if entry == FOUND then true else runs next ends entry line) (sticks.stays byte bytes.0)
       ∙ ap (λ (test : Bool). if test then true else runs next ends stuck line) unfound ∙ stuck-lacks line bytes.1
 
-  -- a byte that is no newline
-  passes : (byte : ℕ) (rest : List ℕ) → byte < 256 → (byte == NEWLINE) ≡ false → left_at_found next ends stuck (byte ∷ rest) ≡ left_at_found next ends stuck rest
+  -- in texts only a newline leaves it
+  pub waits-for-line : (entries : List ℕ) → IsForTexts next ends entries → WaitsForLine entries stuck
+  waits-for-line entries for_texts = record {
+    known = sticks.known;
+    behind = λ byte small.
+        for_texts stuck byte small ∙ ap₂ (λ (ended : Bool) entry. if byte == NEWLINE then (if ended then FOUND else 0) else entry) sticks.fails (sticks.stays byte small);
+  }
+
+module _ (entries : List ℕ) (stuck : ℕ) (waits : WaitsForLine entries stuck) where
+  -- the entry for a byte of a line, and for its end
+  passes : (byte : ℕ) (rest : List ℕ) → byte < 256 → (byte == NEWLINE) ≡ false → left_at_found entries stuck (byte ∷ rest) ≡ left_at_found entries stuck rest
   passes byte rest small plain =
-      goes-on next ends stuck byte stuck rest
-      (ap (λ (test : Bool). if test then (if slice_index_or ends stuck false then FOUND else 0) else slice_index_or next (256 * stuck + byte) FOUND) plain ∙ sticks.stays byte small)
-      unfound
+      goes-on entries stuck byte stuck rest (waits.behind byte small ∙ ap (λ (test : Bool). if test then 0 else stuck) plain)
+      (ne_eqb stuck FOUND (λ same. omega (arith, same, waits.known)))
 
   pub stuck-line : (line rest : List ℕ) → AreBytes (line ++ NEWLINE ∷ rest) → has_newline line ≡ false
-      → left_at_found next ends stuck (line ++ NEWLINE ∷ rest) ≡ left_at_found next ends 0 rest
-  stuck-line [] rest bytes plain = goes-on next ends stuck NEWLINE 0 rest (ap (λ (test : Bool). if test then FOUND else 0) sticks.fails) refl
+      → left_at_found entries stuck (line ++ NEWLINE ∷ rest) ≡ left_at_found entries 0 rest
+  stuck-line [] rest bytes plain = goes-on entries stuck NEWLINE 0 rest (waits.behind NEWLINE bytes.0) refl
   stuck-line (byte ∷ line) rest bytes plain =
       let both = or_parts (byte == NEWLINE) (has_newline line) plain in
       passes byte (line ++ NEWLINE ∷ rest) bytes.0 both.0 ∙ stuck-line line rest bytes.1 both.1
 
-  pub stuck-end : (text : List ℕ) → AreBytes text → has_newline text ≡ false → left_at_found next ends stuck text ≡ None
+  pub stuck-end : (text : List ℕ) → AreBytes text → has_newline text ≡ false → left_at_found entries stuck text ≡ None
   stuck-end [] bytes plain = refl
   stuck-end (byte ∷ text) bytes plain =
       let both = or_parts (byte == NEWLINE) (has_newline text) plain in

@@ -92,19 +92,19 @@ entered_back old new states next same = entered_same new old states next
 pub ended_push : (ops : List Op) (whole : Bool) (states more : List State) (ends new : List Bool) (state : ℕ) (led : Bool)
     → Keeps states more → length ends ≡ state → state < length states → new ≡ ends ++ led ∷ []
     → led ≡ leads_at ops whole true (state_at states state)
-    → ((place : ℕ) → place < state → slice_index_or ends place false ≡ leads_at ops whole true (state_at states place))
-    → (place : ℕ) → place < state + 1 → slice_index_or new place false ≡ leads_at ops whole true (state_at more place)
+    → ((place : ℕ) → place < state → slice_index_or ends place true ≡ leads_at ops whole true (state_at states place))
+    → (place : ℕ) → place < state + 1 → slice_index_or new place true ≡ leads_at ops whole true (state_at more place)
 ended_push ops whole states more ends new state led keeps count here made is before place within =
     elim (cases_lt place state) [
       | inl lt ↦
           let small : place < length ends = omega arith in
           let known : place < length states = omega arith in
-          ap (λ all. slice_index_or all place false) made ∙ get_or-append ends (led ∷ []) false place small ∙ before place lt
+          ap (λ all. slice_index_or all place true) made ∙ get_or-append ends (led ∷ []) true place small ∙ before place lt
           ∙ sym (ap (λ s. leads_at ops whole true s) (keeps.same place known))
       | inr ge ↦
           let at : place ≡ length ends = omega arith in
           let there : place ≡ state = omega arith in
-          ap₂ (λ all p. slice_index_or all p false) made at ∙ get_or-append_seam ends led [] false ∙ is
+          ap₂ (λ all p. slice_index_or all p true) made at ∙ get_or-append_seam ends led [] true ∙ is
           ∙ sym (ap (λ s. leads_at ops whole true s) (keeps.same state here))
           ∙ sym (ap (λ p. leads_at ops whole true (state_at more p)) there)
     ]

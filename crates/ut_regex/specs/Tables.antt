@@ -5,6 +5,7 @@ use Rattle.ps_lines.specs.declared.newlines.TheConstants.{NEWLINE}
 use Rattle.ut_regex.specs.declared.machine.Row.{Row}
 use Rattle.ut_regex.specs.declared.program.Op.{Op}
 use Rattle.ut_regex.specs.declared.table.TheConstants.{FOUND}
+use Rattle.ut_regex.specs.declared.texts.Run.{Run}
 use Rattle.ut_regex.specs.Seeks.{swept, leads_on, marked}
 
 -- a state of a machine: whether it stands at the line's beginning, and its marks
@@ -39,7 +40,7 @@ leads_at ops whole ends s = leads_on (s.begins || not whole) (swept s.begins end
 
 -- the answer of a table for what is left of a line, from a state on
 abbrev pub runs : List ℕ → List Bool → ℕ → List ℕ → Bool
-runs next ends state [] = slice_index_or ends state false
+runs next ends state [] = slice_index_or ends state true
 runs next ends state (byte ∷ line) =
     if slice_index_or next (256 * state + byte) FOUND == FOUND then true
     else runs next ends (slice_index_or next (256 * state + byte) FOUND) line
@@ -47,14 +48,28 @@ runs next ends state (byte ∷ line) =
 -- the entry of a state for a byte of a text: at a newline the line ends, and the next one begins in the first state
 abbrev pub text_entry : List ℕ → List Bool → ℕ → ℕ → ℕ
 text_entry next ends state byte =
-    if byte == NEWLINE then (if slice_index_or ends state false then FOUND else 0) else slice_index_or next (256 * state + byte) FOUND
+    if byte == NEWLINE then (if slice_index_or ends state true then FOUND else 0) else slice_index_or next (256 * state + byte) FOUND
 
--- how much is left of a text where the first line that has the expression is known to have it, the byte that shows it among it; from a
--- state on. What is behind the last newline counts as far as it is read
-abbrev pub left_at_found : List ℕ → List Bool → ℕ → List ℕ → Option ℕ
-left_at_found next ends state [] = None
-left_at_found next ends state (byte ∷ rest) =
-    if text_entry next ends state byte == FOUND then Some (suc (length rest)) else left_at_found next ends (text_entry next ends state byte) rest
+-- a table for texts has these entries
+abbrev pub IsForTexts : List ℕ → List Bool → List ℕ → Type 0
+IsForTexts next ends entries = (state byte : ℕ) → byte < 256 → slice_index_or entries (256 * state + byte) FOUND ≡ text_entry next ends state byte
+
+-- where a line lacks the expression, the next one begins in the first state
+abbrev pub BeginsLines : List ℕ → Type 0
+BeginsLines entries =
+    (state : ℕ) → (slice_index_or entries (256 * state + NEWLINE) FOUND == FOUND) ≡ false → slice_index_or entries (256 * state + NEWLINE) FOUND ≡ 0
+
+-- how much is left of a text where the first line that has the expression is known to have it, the byte that shows it among it; by the
+-- entries of a table for texts, from a state on. What is behind the last newline counts as far as it is read
+abbrev pub left_at_found : List ℕ → ℕ → List ℕ → Option ℕ
+left_at_found entries state [] = None
+left_at_found entries state (byte ∷ rest) =
+    if slice_index_or entries (256 * state + byte) FOUND == FOUND then Some (suc (length rest))
+    else left_at_found entries (slice_index_or entries (256 * state + byte) FOUND) rest
+
+-- a run over a text: what is left of it is found from the state on as in the whole
+abbrev pub IsRun : List ℕ → List ℕ → Run → Type 0
+IsRun entries text run = (left_at_found entries run.state run.left.now ≡ left_at_found entries 0 text) × (length run.left.now ≤ length text)
 
 -- an entry leads to a state: the expression ends there, or it is that state's place
 abbrev pub IsEntry : List Op → Bool → List State → ℕ → State → Type 0
@@ -79,4 +94,4 @@ pub record IsTable (ops : List Op) (fold whole : Bool) (states : List State) (ne
   pub quiet : whole ≡ false → leads_at ops whole false first_state ≡ false
   pub full : length next ≡ 256 * length states
   pub entries : Entered ops fold whole states next
-  pub last : (state : ℕ) → state < length states → slice_index_or ends state false ≡ leads_at ops whole true (state_at states state)
+  pub last : (state : ℕ) → state < length states → slice_index_or ends state true ≡ leads_at ops whole true (state_at states state)

@@ -37,6 +37,7 @@ mod table;
 mod tests;
 #[cfg(test)]
 mod text_tests;
+mod texts;
 mod tree;
 mod twins;
 

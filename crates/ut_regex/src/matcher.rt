@@ -126,7 +126,7 @@ impl Matcher {
         match &self.literal {
             Some(search) if by_literal => search.first_place(text),
             Some(_) | None => match &self.table {
-                Some(table) => match table.left_at_found(text) {
+                Some(table) => match table.texts.left_at_found(text) {
                     Some(left) => text.len() - left,
                     None => text.len(),
                 },

@@ -8,7 +8,7 @@ use Rattle.ut_regex.proofs.idle.starts_of.Goals as goal
 pub loop-code-preserved : goal.loop-code-preserved
 loop-code-preserved c = λ byte.
     let l = c.loop-code in
-    let test = λ (byte : ℕ). not (stays c.args.next.now c.args.ends.now c.args.state byte) in
+    let test = λ (byte : ℕ). not (stays c.args.next.now c.args.state byte) in
     elim c.if-not-stays.branch [
       | then-not-stays w ↦
           ap (λ set. has_byte set byte) w.starts-is

@@ -4,4 +4,4 @@ use Rattle.ut_regex.specs.Idling.{stays}
 use Rattle.ut_regex.proofs.idle.starts_of.Given as goal
 
 abbrev pub invariant-loop-code : goal.invariant-loop-code
-invariant-loop-code l = (byte : ℕ) → has_byte l.starts byte ≡ (nat_lt byte l.code && not (stays l.next l.ends l.state byte))
+invariant-loop-code l = (byte : ℕ) → has_byte l.starts byte ≡ (nat_lt byte l.code && not (stays l.next l.state byte))

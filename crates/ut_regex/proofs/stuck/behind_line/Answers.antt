@@ -5,10 +5,10 @@ use Rattle.ut_regex.proofs.RunLemmas.{AreBytes, are_bytes}
 use Rattle.ut_regex.proofs.stuck.behind_line.Goals as goal
 
 pub returns-in-Some-clause-same : goal.returns-in-Some-clause-same
-returns-in-Some-clause-same c = λ next ends sticks.
+returns-in-Some-clause-same c = λ next waits.
     let cut = c.in-Some.ensures.cut in
-    ap (left_at_found next ends c.args.stuck) cut.whole
-    ∙ stuck-line next ends c.args.stuck sticks _ _ (subst AreBytes cut.whole (are_bytes c.args.text.now c.type_inv.text)) cut.plain
+    ap (left_at_found next c.args.stuck) cut.whole
+    ∙ stuck-line next c.args.stuck waits _ _ (subst AreBytes cut.whole (are_bytes c.args.text.now c.type_inv.text)) cut.plain
 
 pub returns-in-None-clause-same : goal.returns-in-None-clause-same
-returns-in-None-clause-same c = λ next ends sticks. stuck-end next ends c.args.stuck sticks c.args.text.now (are_bytes c.args.text.now c.type_inv.text) c.in-None.ensures.none
+returns-in-None-clause-same c = λ next waits. stuck-end next c.args.stuck waits c.args.text.now (are_bytes c.args.text.now c.type_inv.text) c.in-None.ensures.none

@@ -4,7 +4,7 @@ use Rattle.ut_regex.proofs.stuck.left_by_lines.Given as goal
 
 abbrev pub invariant-loop-left : goal.invariant-loop-left
 invariant-loop-left l = record {
-  found : left_at_found l.next l.ends l.state l.left ≡ left_at_found l.next l.ends 0 l.text;
+  found : left_at_found l.next l.state l.left ≡ left_at_found l.next 0 l.text;
   shorter : length l.left ≤ length l.text;
 }
 

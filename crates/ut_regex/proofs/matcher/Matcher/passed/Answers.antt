@@ -15,7 +15,7 @@ returns-in-Some-left_at_found-clause-passed c = λ fold whole re finds before mo
     let made = subst (λ table. IfSome table (λ made. IsMade machine.steps.items machine.fold machine.whole made)) c.in-Some-table.is finds.table in
     let table = c.in-Some-table.table in
     lack-table machine fold whole re table c.args.text.now before more finds.seeks made (are_bytes c.args.text.now c.type_inv.text) cut closed
-    (late-at table.next.items table.ends.items c.args.text.now before more c.in-Some-left_at_found.left c.in-Some-left_at_found.ensures.some (sym c.in-Some-left_at_found.ensures.found) cut low)
+    (late-at table.texts.next.items c.args.text.now before more c.in-Some-left_at_found.left c.in-Some-left_at_found.ensures.some (sym c.in-Some-left_at_found.ensures.found) cut low)
 
 pub returns-in-None-left_at_found-clause-passed : goal.returns-in-None-left_at_found-clause-passed
 returns-in-None-left_at_found-clause-passed c = λ fold whole re finds before more cut closed low.
@@ -23,4 +23,4 @@ returns-in-None-left_at_found-clause-passed c = λ fold whole re finds before mo
     let made = subst (λ table. IfSome table (λ made. IsMade machine.steps.items machine.fold machine.whole made)) c.in-Some-table.is finds.table in
     let table = c.in-Some-table.table in
     lack-table machine fold whole re table c.args.text.now before more finds.seeks made (are_bytes c.args.text.now c.type_inv.text) cut closed
-    (late-never table.next.items table.ends.items c.args.text.now more (sym c.in-None-left_at_found.ensures.found))
+    (late-never table.texts.next.items c.args.text.now more (sym c.in-None-left_at_found.ensures.found))

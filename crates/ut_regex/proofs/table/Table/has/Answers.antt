@@ -13,5 +13,5 @@ pub returns-then-entry-stuck : goal.returns-then-entry-stuck
 returns-then-entry-stuck c =
     let table = c.args.self.now in
     let l = c.loop-left in
-    sym (l.invariant.same ∙ stuck-behind table.next.items table.ends.items table.stuck table.sticks l.state c.entry_of-entry.result l.left.now (search rules) l.invariant.bytes
+    sym (l.invariant.same ∙ stuck-behind table.next.items table.ends.items table.texts.stuck table.sticks l.state c.entry_of-entry.result l.left.now (search rules) l.invariant.bytes
     (search rules) (search rules) (search rules))

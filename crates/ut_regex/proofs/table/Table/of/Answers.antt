@@ -45,6 +45,6 @@ states-preserved c =
 
 pub invariant_of-result : goal.invariant_of-result
 invariant_of-result c = record {
-  idles = rw (c.deref-2.ensures.value, c.deref-3.ensures.value) at c.idle_of-idle.ensures;
-  sticks = rw (c.deref-4.ensures.value, c.deref-5.ensures.value) at c.stuck_of-stuck.ensures.some;
+  for_texts = rw (c.deref-2.ensures.value, c.deref-3.ensures.value) at c.in_ok-texts.ensures.texts;
+  sticks = rw (c.deref-2.ensures.value, c.deref-3.ensures.value) at c.in_ok-texts.ensures.sticks;
 }

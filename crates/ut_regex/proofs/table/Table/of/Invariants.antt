@@ -17,7 +17,7 @@ invariant-states l = record {
   entries : Entered l.fn.machine.steps.items l.fn.machine.fold l.fn.machine.whole (states_of l.rows.items) l.next.items;
   ended : length l.ends.items ≡ l.state;
   last : (state : ℕ) → state < l.state
-      → slice_index_or l.ends.items state false ≡ leads_at l.fn.machine.steps.items l.fn.machine.whole true (state_at (states_of l.rows.items) state);
+      → slice_index_or l.ends.items state true ≡ leads_at l.fn.machine.steps.items l.fn.machine.whole true (state_at (states_of l.rows.items) state);
 }
 
 abbrev pub decreases-states : goal.decreases-states

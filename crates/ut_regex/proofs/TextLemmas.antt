@@ -4,7 +4,7 @@ use Rattle.std.proofs.lemmas.Bool.{true≢false, cond-true, cond-false, eqb-true
 use Rattle.std.proofs.lemmas.List.{at_drop_more, get_or-take}
 use Rattle.ps_lines.specs.Lines.{is_closed}
 use Rattle.ut_regex.specs.declared.table.TheConstants.{FOUND}
-use Rattle.ut_regex.specs.Tables.{left_at_found, BeginsLines, IsForTexts}
+use Rattle.ut_regex.specs.Tables.{left_at_found, BeginsLines, IsForTexts, IsWhole}
 use Rattle.ut_regex.proofs.CutLemmas.{closed-tail}
 
 -- numbers that are there are the same where their options are
@@ -67,6 +67,31 @@ pub left-in-front : (entries text front back : List ℕ) (left : ℕ) → text �
     → Some (left + length back) ≡ left_at_found entries 0 text
 left-in-front entries text front back left cut found =
     sym (left-shown entries front back 0 left (sym found)) ∙ ap (λ text. left_at_found entries 0 text) (sym cut)
+
+-- a step from a state that a table has leads to one that it has
+pub goes-known : (entries : List ℕ) → IsWhole entries → (state byte entry : ℕ) → byte < 256 → 256 * state + 255 < length entries
+    → entry ≡ slice_index_or entries (256 * state + byte) FOUND → (entry == FOUND) ≡ false → 256 * entry + 255 < length entries
+goes-known entries whole state byte entry small known is goes =
+    let there = whole.leads state byte small (omega (arith, small, known)) (ap (λ entry. entry == FOUND) (sym is) ∙ goes) in
+    omega (arith, there, is)
+
+-- a table for texts of a table that has what it leads to has that too
+module _ (next : List ℕ) (ends : List Bool) (entries : List ℕ) (for_texts : IsForTexts next ends entries) (size : length entries ≡ length next) (whole : IsWhole next) where
+  text-leads : (state byte : ℕ) → byte < 256 → 256 * state + byte < length entries → (slice_index_or entries (256 * state + byte) FOUND == FOUND) ≡ false
+      → 256 * slice_index_or entries (256 * state + byte) FOUND + 255 < length entries
+  text-leads state byte small within goes = by_byte (byte == 10) (slice_index_or ends state true) (for_texts state byte small)
+    where
+      by_byte : (newline ended : Bool)
+          → slice_index_or entries (256 * state + byte) FOUND ≡ (if newline then (if ended then FOUND else 0) else slice_index_or next (256 * state + byte) FOUND)
+          → 256 * slice_index_or entries (256 * state + byte) FOUND + 255 < length entries
+      by_byte true true is = absurd (true≢false (ap (λ entry. entry == FOUND) (sym is) ∙ goes))
+      by_byte true false is = omega (arith, is, size, whole.some)
+      by_byte false ended is =
+          let there = whole.leads state byte small (omega (arith, within, size)) (ap (λ entry. entry == FOUND) (sym is) ∙ goes) in
+          omega (arith, is, size, there)
+
+  pub whole-texts : IsWhole entries
+  whole-texts = record { some = omega (arith, size, whole.some); leads = text-leads }
 
 -- in a table for texts a newline shows a line or leads to the first state
 pub begins-lines : (next : List ℕ) (ends : List Bool) (entries : List ℕ) → IsForTexts next ends entries → BeginsLines entries

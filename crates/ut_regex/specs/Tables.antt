@@ -54,6 +54,12 @@ text_entry next ends state byte =
 abbrev pub IsForTexts : List ℕ → List Bool → List ℕ → Type 0
 IsForTexts next ends entries = (state byte : ℕ) → byte < 256 → slice_index_or entries (256 * state + byte) FOUND ≡ text_entry next ends state byte
 
+-- a table has the entries of each state to which one of them leads
+pub record IsWhole (entries : List ℕ) : Type 0 where
+  pub some : 255 < length entries
+  pub leads : (state byte : ℕ) → byte < 256 → 256 * state + byte < length entries → (slice_index_or entries (256 * state + byte) FOUND == FOUND) ≡ false
+      → 256 * slice_index_or entries (256 * state + byte) FOUND + 255 < length entries
+
 -- where a line lacks the expression, the next one begins in the first state
 abbrev pub BeginsLines : List ℕ → Type 0
 BeginsLines entries =

@@ -1,8 +1,8 @@
 //! Tables for texts of lines. At a newline an entry leads to the beginning of the next line, so that no step asks for one.
-ghost use Rattle.std.specs.Prelude.{◌≡◌, ◌*◌, ◌≤◌, IfOk, IfSome, length};
+ghost use Rattle.std.specs.Prelude.{◌≡◌, ◌+◌, ◌*◌, ◌<◌, ◌≤◌, IfOk, IfSome, length, slice_index_or};
 ghost use Rattle.std.specs.Option.{ForSome};
 ghost use Rattle.ps_lines.specs.Lines.{is_closed};
-ghost use Rattle.ut_regex.specs.Tables.{left_at_found, text_entry, BeginsLines, IsForTexts, IsRun};
+ghost use Rattle.ut_regex.specs.Tables.{left_at_found, text_entry, BeginsLines, IsForTexts, IsRun, IsWhole};
 ghost use Rattle.ut_regex.specs.Idling.{Idles, WaitsForLine};
 
 use crate::cuts::cut_at_line;
@@ -23,9 +23,10 @@ const SAMPLE: usize = 128;
 pub(crate) struct TextTable {
     pub next: Vec<u16>,
     /// Where it waits for a byte at which something may begin, if there is such a state.
-    pub idle: Option<Idle>,
+    idle: Option<Idle>,
     /// The state in which a line lacks the expression, whatever follows in it, if there is one.
     pub stuck: Option<u16>,
+    ghost whole: { IsWhole next.items },
     ghost begins: { BeginsLines next.items },
     ghost idles: { ForSome idle (λ idle. Idles next.items idle.state idle.starts.set) },
     ghost waits: { ForSome stuck (λ state. WaitsForLine next.items state) },
@@ -51,12 +52,13 @@ impl TextTable {
     ghost use Rattle.std.specs.Prelude.{◌≡◌, ◌*◌, ◌≤◌, IfOk, IfSome, length, true};
     ghost use Rattle.std.specs.Option.{ForSome};
     ghost use Rattle.ut_regex.specs.Idling.{IsStuck};
-    ghost use Rattle.ut_regex.specs.Tables.{left_at_found, IsForTexts};
+    ghost use Rattle.ut_regex.specs.Tables.{left_at_found, IsForTexts, IsWhole};
 
     /// The table for texts of a table's lines.
     pub(crate) fn of(alloc: Global, next: &[u16], ends: &[bool]) -> Result<TextTable, AllocError>
         requires full { length next.now ≡ 256 * length ends.now }
         requires few { length ends.now ≤ FOUND }
+        requires whole { IsWhole next.now }
         ensures texts { IfOk result (λ table. IsForTexts next.now ends.now table.next.items) }
         ensures sticks { IfOk result (λ table. ForSome table.stuck (λ state. IsStuck next.now ends.now state)) }
     {
@@ -146,7 +148,8 @@ impl TextTable {
 
 /// Runs over four texts as far as none is at its end and none shows a line.
 ///
-/// It isn't inlined, so that all that it carries along stays in registers.
+/// It isn't inlined, so that what it carries along stays in registers; and it looks up no entry that may be missing, since a table has
+/// those of each state to which it leads.
 #[inline(never)]
 fn run_over_four<'t>(
     next: &[u16],
@@ -155,6 +158,7 @@ fn run_over_four<'t>(
     third: &'t [u8],
     fourth: &'t [u8],
 ) -> Runs<'t>
+    requires { IsWhole next.now }
     ensures first { IsRun next.now first.now result.first }
     ensures second { IsRun next.now second.now result.second }
     ensures third { IsRun next.now third.now result.third }
@@ -175,10 +179,10 @@ fn run_over_four<'t>(
     let mut third_state = 0u16;
     let mut fourth_state = 0u16;
     while at < count {
-        let first_entry = entry_of(next, first_state, first_front[at]);
-        let second_entry = entry_of(next, second_state, second_front[at]);
-        let third_entry = entry_of(next, third_state, third_front[at]);
-        let fourth_entry = entry_of(next, fourth_state, fourth_front[at]);
+        let first_entry = known_entry(next, first_state, first_front[at]);
+        let second_entry = known_entry(next, second_state, second_front[at]);
+        let third_entry = known_entry(next, third_state, third_front[at]);
+        let fourth_entry = known_entry(next, fourth_state, fourth_front[at]);
         if first_entry == FOUND
             || second_entry == FOUND
             || third_entry == FOUND
@@ -212,6 +216,15 @@ fn run_over_four<'t>(
     }
 }
 
+/// The entry of a state that a table has, for a byte.
+#[inline(always)]
+fn known_entry(next: &[u16], state: u16, byte: u8) -> u16
+    requires { 256 * state + byte < length next.now }
+    ensures { result ≡ slice_index_or next.now (256 * state + byte) FOUND }
+{
+    next[256 * state as usize + byte as usize]
+}
+
 /// How much is left of a text where a table shows a line, from a state on.
 fn run_on(next: &[u16], begun: u16, text: &[u8]) -> Option<usize>
     ensures found { result ≡ left_at_found next.now begun text.now }
@@ -234,7 +247,8 @@ fn run_on(next: &[u16], begun: u16, text: &[u8]) -> Option<usize>
 fn text_entries(alloc: Global, next: &[u16], ends: &[bool]) -> Result<Vec<u16>, AllocError>
     requires full { length next.now ≡ 256 * length ends.now }
     requires few { length ends.now ≤ FOUND }
-    ensures { IfOk result (λ entries. IsForTexts next.now ends.now entries.items) }
+    ensures texts { IfOk result (λ entries. IsForTexts next.now ends.now entries.items) }
+    ensures size { IfOk result (λ entries. length entries.items ≡ length next.now) }
 {
     let mut entries = Vec::new(alloc);
     for place in 0..next.len() {

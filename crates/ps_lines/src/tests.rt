@@ -121,3 +121,12 @@ fn character_classes(rt: HostRuntime) -> Result<(), Fail> {
     }
     Ok(())
 }
+
+/// A text takes a vector over, and gives it back.
+#[test]
+fn takes_a_vector_over(rt: HostRuntime) -> Result<(), Fail> {
+    let text = Text::from_vec(Vec::from_slice(rt.alloc(), b"a\nb")?);
+    assert_eq!(rt; text.as_slice(), b"a\nb".as_slice());
+    assert_eq!(rt; text.into_vec().as_slice(), b"a\nb".as_slice());
+    Ok(())
+}

@@ -4,3 +4,5 @@ pub mod ToldLemmas
 pub mod PathLemmas
 pub mod TreeStateLemmas
 pub mod WritingLemmas
+pub mod StandingLemmas
+pub mod TakingLemmas

@@ -1,11 +1,12 @@
 -- A path's components.
-use Rattle.std.proofs.Common.{◌≡◌, ℕ, ◌+◌, ◌-◌, ◌<◌, ◌≤◌, suc, Bool, true, false, cond, not, List, [], ◌∷◌, length, take, drop, Some, None, refl, sym, ap, arith, ◌∙◌, ltb, inl, inr, length-drop}
+use Rattle.std.proofs.Common.{◌≡◌, ℕ, ◌+◌, ◌-◌, ◌<◌, ◌≤◌, suc, Bool, true, false, cond, not, List, [], ◌∷◌, length, take, drop, Some, None, refl, sym, ap, arith, ◌∙◌, ltb, inl, inr, length-drop, length-append, ◌++◌}
 use Rattle.std.specs.List.{list_any, position, position_or_len, prefix_len, before_first, slice_split, onto_first}
 use Rattle.std.proofs.lemmas.List.{take_rest, take_all}
+use Rattle.std.proofs.Math.Seq.{take-append_seam}
 use Rattle.std.proofs.lemmas.Bool.{cases_lt, false≢true}
 use Rattle.std.proofs.lemmas.List.Splits.{slice_split_first, slice_split-cons_no}
 use Rattle.std.proofs.lemmas.Grind.{common_steps}
-use Rattle.ps_world.specs.Paths.{is_slash, has_slash}
+use Rattle.ps_world.specs.Paths.{Components, is_slash, has_slash, parent_of}
 use Rattle.ps_world.specs.Places.{IsLastComponent, BeginsWithComponent}
 
 module _ {Item : Type 0} (test : Item → Bool) where
@@ -66,3 +67,9 @@ pub last_component : (text : List ℕ) → None ≡ position is_slash text → I
 last_component text none =
     let part : has_slash text ≡ false = position-none is_slash text none in
     record { alone = slice_split-alone is_slash text part; part = part }
+
+-- what is above a name in a directory is the directory
+pub parent_of_child : (dir : Components) (name : List ℕ) → parent_of (dir ++ name ∷ []) ≡ dir
+parent_of_child dir name =
+    let size : length (dir ++ name ∷ []) - 1 ≡ length dir = omega (arith, length-append dir (name ∷ [])) in
+    rw size (take-append_seam dir (name ∷ []))

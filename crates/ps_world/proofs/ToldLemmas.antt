@@ -1,5 +1,7 @@
 -- Content where it is told.
-use Rattle.std.proofs.Common.{◌≡◌, ℕ, List, [], ◌++◌, ◌-◌, length, take, drop, Option, Some, None, refl, sym, ap, ◌∙◌, append_assoc, Result, Ok, Err, OnErr}
+use Rattle.std.proofs.Common.{◌≡◌, ℕ, List, [], ◌++◌, ◌-◌, length, take, drop, Option, Some, None, refl, sym, ap, ◌∙◌, append_assoc, Result, Ok, Err, OnErr, subst}
+use Rattle.ps_lines.specs.Texts.{BeginsWith}
+use Rattle.ps_lines.proofs.TextsLemmas.{begins-append}
 use Rattle.std.proofs.lemmas.List.{append-nil, take_rest, take-append-drop}
 use Rattle.ps_world.specs.Told.{then_bytes, bytes_then, Written, GrewByPrefix, IsLeftOf}
 
@@ -74,3 +76,9 @@ grew_by_more old mid new front back first grew = (
     grew = grew.1.grew ∙ ap (λ (told : Option (List ℕ)). then_bytes told grew.1.part) first ∙ then_bytes-append old front grew.1.part;
   },
 )
+
+-- a text begins with its first bytes, however many are taken
+pub begins-take : (count : ℕ) (text : List ℕ) → BeginsWith text (take count text)
+begins-take count text =
+    let split : take count text ++ drop count text ≡ text = take-append-drop count text in
+    subst (λ (whole : List ℕ). BeginsWith whole (take count text)) split (begins-append (take count text) (drop count text))

@@ -27,8 +27,8 @@ resolve_from-enter files dir component rest = let parts = components-begin rest 
 pub resolve_from-stuck : (held : Option Files) (start dir : Components) (text left component rest : List ℕ)
     → IfSome held (λ files. resolve_from files start (components text) ≡ resolve_from files dir (components left))
     → BeginsWithComponent left component rest
-    → IfSome held (λ files. None ≡ enter files dir component)
+    → IfSome held (λ files. enter files dir component ≡ None)
     → IfSome held (λ files. place.Missing ≡ resolve_from files start (components text))
 resolve_from-stuck None start dir text left component rest so_far begins nowhere = tt
 resolve_from-stuck (Some files) start dir text left component rest so_far begins nowhere =
-    sym (so_far ∙ ap (resolve_from files dir) begins.components_are ∙ resolve_from-enter files dir component rest ∙ ap (λ inner. option_map_or (λ next. resolve_from files next (components rest)) inner place.Missing) (sym nowhere))
+    sym (so_far ∙ ap (resolve_from files dir) begins.components_are ∙ resolve_from-enter files dir component rest ∙ ap (λ inner. option_map_or (λ next. resolve_from files next (components rest)) inner place.Missing) nowhere)

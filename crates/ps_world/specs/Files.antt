@@ -1,5 +1,5 @@
 -- The files: a finite map from paths to what stands there.
-use Rattle.std.specs.Prelude.{◌≡◌, ℕ, List, [], ◌∷◌, ◌++◌, Option, Some, None, IsTrue, if◌then◌else◌}
+use Rattle.std.specs.Prelude.{◌≡◌, ℕ, List, [], ◌∷◌, ◌++◌, ◌⊎◌, Option, Some, None, IsTrue, if◌then◌else◌}
 use Rattle.std.specs.FinMap as map
 use Rattle.std.specs.List.{count_by}
 use Rattle.std.specs.Str.{bytes_eq}
@@ -79,6 +79,28 @@ abbrev pub IsListing : Files → Components → List (List ℕ) → Type 0
 IsListing files dir names =
     (name : List ℕ) → IsTrue (is_name name) → count_by (bytes_eq name) names ≡ (if map.contains_key files (dir ++ name ∷ []) then 1 else 0)
 
+-- the writer of the file at the path is out
+abbrev pub IsOutAt : Files → Components → Type 0
+IsOutAt files path = map.get files path ≡ Some WriterOut
+
 -- no writer is out
 abbrev pub NoWriterOut : Files → Type 0
-NoWriterOut files = (path : Components) → map.get files path ≡ Some WriterOut → ⊥
+NoWriterOut files = (path : Components) → IsOutAt files path → ⊥
+
+-- the path is one of these
+abbrev pub IsOneOf : List Components → Components → Type 0
+IsOneOf [] path = ⊥
+IsOneOf (first ∷ others) path = (path ≡ first) ⊎ IsOneOf others path
+
+-- writers are out at no other paths than these
+abbrev pub AreOutWithin : List Components → Files → Type 0
+AreOutWithin paths files = (path : Components) → IsOutAt files path → IsOneOf paths path
+
+-- at every path stands the same kind of thing
+abbrev pub AreOfOneKind : Files → Files → Type 0
+AreOfOneKind files others = (path : Components) → kind_at files path ≡ kind_at others path
+
+-- this stands at the path, and all else is as it was
+pub record IsSetAt (path : Components) (node : Node) (old new : Files) : Type 0 where
+  pub here : map.get new path ≡ Some node
+  pub elsewhere : (other : Components) → (other ≡ path → ⊥) → map.get new other ≡ map.get old other

@@ -1,5 +1,7 @@
 -- Content where an object tells it: Some of the bytes, or None, which says nothing.
-use Rattle.std.specs.Prelude.{◌≡◌, ℕ, ◌<◌, ◌≤◌, List, [], ◌++◌, length, Option}
+use Rattle.std.specs.Prelude.{◌≡◌, ℕ, ◌<◌, ◌≤◌, List, [], ◌∷◌, ◌++◌, Bool, false, length, Option, if◌then◌else◌}
+use Rattle.ps_lines.specs.Lines.{has_newline}
+use Rattle.ps_lines.specs.declared.newlines.TheConstants.{NEWLINE}
 use Rattle.std.specs.Option.{option_map}
 
 -- the bytes that are told, and these after them
@@ -46,6 +48,17 @@ pub record IsWhole (old new : Option (List ℕ)) (text : List ℕ) : Type 0 wher
   pub before : old ≡ bytes_then text new
   pub ended : IsEnded new
 
--- the one text begins with the other
-abbrev pub IsBegunBy : List ℕ → List ℕ → Type 0
-IsBegunBy whole part = (rest : List ℕ) × (whole ≡ part ++ rest)
+-- a front of the first line of what was left was put behind the text: so many of its bytes, and no newline
+pub record TookOfLine (old new : Option (List ℕ)) (text_old text_new : List ℕ) : Type 0 where
+  pub part : List ℕ
+  pub to : text_new ≡ text_old ++ part
+  pub plain : has_newline part ≡ false
+  pub from : old ≡ bytes_then part new
+
+-- the first line of what was left was put behind the text, and its newline was taken too where it has one; else nothing is left
+pub record TookLine (old new : Option (List ℕ)) (text_old text_new : List ℕ) (closed : Bool) : Type 0 where
+  pub line : List ℕ
+  pub to : text_new ≡ text_old ++ line
+  pub plain : has_newline line ≡ false
+  pub from : old ≡ bytes_then (if closed then line ++ NEWLINE ∷ [] else line) new
+  pub ended : closed ≡ false → IsEnded new

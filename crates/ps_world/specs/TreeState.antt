@@ -51,3 +51,14 @@ pub record OnlyLent (old new : TreeState) : Type 0 where
   pub times : ℕ
   pub lent : new.lent ≡ raised times old.lent
   pub back : new.back ≡ raised times old.back
+
+-- so many of the readers and writers that were lent are still out, and all others were given back; what the files hold is left open
+pub record AreOut (count : ℕ) (old new : TreeState) : Type 0 where
+  pub home : new.home ≡ old.home
+  pub times : ℕ
+  pub lent : new.lent ≡ raised times (raised count old.lent)
+  pub back : new.back ≡ raised times old.back
+
+-- every reader and writer that was lent was given back; what the files hold is left open
+abbrev pub Balanced : TreeState → TreeState → Type 0
+Balanced old new = AreOut 0 old new

@@ -5,12 +5,14 @@
 //! proved over every object that keeps them.
 //!
 //! `specs/` has the words that callers' contracts cite: `Told` for content, `Counts` for faults, `Paths`, `Files`, `TreeState`
-//! and `Places` for files.
+//! and `Places` for files. `laws` has what holds of files whatever is called.
 #![tactic(auto)]
 
 mod components;
 mod error;
 mod gate;
+pub mod laws;
+mod lines;
 mod path;
 mod places;
 mod sink;
@@ -20,6 +22,7 @@ mod tree;
 
 pub use error::WorldErr;
 pub use gate::{Gate, Reach};
+pub use lines::read_line;
 pub use path::Path;
 pub use places::{Place, look};
 pub use sink::Sink;

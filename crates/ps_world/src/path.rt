@@ -45,6 +45,7 @@ impl Path {
     ghost use Rattle.std.specs.Prelude.{◌≡◌, ◌-◌, [], ◌∷◌, ◌++◌, length, take, IsTrue, IfOk, OnOk, OnErr, codes};
     ghost use Rattle.std.specs.List.{list_all};
     ghost use Rattle.ps_world.specs.Paths.{is_name, parent_of, components, path_from, path_of, spelled};
+    ghost use Rattle.ps_world.specs.Places.{is_null_path};
 
     /// The root.
     pub fn root(alloc: Global) -> Path
@@ -101,6 +102,18 @@ impl Path {
             text.extend_from_slice(part.as_slice())?;
         }
         Ok(text)
+    }
+
+    /// Whether this is the path of the null device, `/dev/null`.
+    #[tactic(auto, unfolding(crate::specs::Places::is_null_path))]
+    pub fn is_null_device(&self) -> bool
+        ensures { result ≡ is_null_path self.now }
+    {
+        match self.parts.as_slice() {
+            [folder, name] => folder.as_slice() == b"dev".as_slice()
+                && name.as_slice() == b"null".as_slice(),
+            _ => false,
+        }
     }
 
     /// A copy of this path.

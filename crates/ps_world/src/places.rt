@@ -1,8 +1,9 @@
 //! What a path, as a script writes it, names.
-ghost use Rattle.std.specs.Prelude.{◌≡◌, ◌<◌, false, length, position, IfOk, IfSome, IfNone};
+ghost use Rattle.std.specs.Prelude.{◌≡◌, ◌<◌, false, length, position, IfOk, IfSome, IfNone, IsOk, Some, None};
 ghost use Rattle.ps_world.specs.Counts.{Counts};
-ghost use Rattle.ps_world.specs.Paths.{components, is_slash, stays, goes_up, has_slash};
-ghost use Rattle.ps_world.specs.Places.{enter as enter_lem, last_place as last_place_lem, resolve_from, nulled as nulled_lem, start_of as start_of_lem, resolve, NamesFileIn, is_null_path, IsLastComponent, BeginsWithComponent};
+ghost use Rattle.ps_world.specs.Files.{Files, kind_at};
+ghost use Rattle.ps_world.specs.Paths.{Components, components, is_slash, parent_of, stays, goes_up, has_slash};
+ghost use Rattle.ps_world.specs.Places.{enter as enter_lem, ending_at as ending_at_lem, last_place as last_place_lem, makeable as makeable_lem, IsDirIfTold, IsNoNullPath, needs_files, resolve_from, nulled as nulled_lem, start_of as start_of_lem, resolve, StandsIn, IsLastComponent, BeginsWithComponent};
 
 use crate::components::{is_going_up, is_staying, split_component};
 use crate::error::WorldErr;
@@ -23,6 +24,13 @@ pub enum Place {
     Null,
 }
 
+/// Where a path has led, and whether the tree has told that a directory is there.
+#[derive(Drop)]
+struct Stand {
+    path: Path,
+    is_told: bool,
+}
+
 const NULL_DEVICE: &[u8] = b"/dev/null";
 
 /// Resolves a path as a script writes it.
@@ -30,10 +38,18 @@ const NULL_DEVICE: &[u8] = b"/dev/null";
 /// A text that begins with a slash starts at the root, another at the tree's working directory. `.` stays, `..` goes to the parent and
 /// stays at the root, and every component but the last must name a directory; so a slash after a file's name leads nowhere.
 /// The text `/dev/null`, and every other that leads to that path, is the null device.
+///
+/// The tree is asked what stands at the last place, and where nothing does what is above it. The empty text and `/dev/null` ask it
+/// nothing.
 pub fn look<T: Tree>(alloc: Global, tree: &mut T, text: &[u8]) -> Result<Place, WorldErr>
     ensures place { IfOk result (λ place. IfSome (T.state tree.old).held (λ files.
         place ≡ resolve files (T.state tree.old).home text.now)) }
-    ensures file { IfOk result (λ place. IfSome (T.state tree.old).held (λ files. NamesFileIn files place)) }
+    ensures stands { IfOk result (λ place. IfSome (T.state tree.old).held (λ files. StandsIn files place)) }
+    ensures apart { IfOk result IsNoNullPath }
+    ensures plain { needs_files text.now ≡ false → IfOk result (λ place.
+        (files : Files) (home : Components) → place ≡ resolve files home text.now) }
+    ensures told { needs_files text.now ≡ false → IsOk result }
+    ensures unasked { needs_files text.now ≡ false → tree.new ≡ tree.old }
     ensures state { T.state tree.new ≡ T.state tree.old }
     ensures cause { Counts (T.faults tree.old) (T.faults tree.new) result }
 {
@@ -62,99 +78,137 @@ fn start_of<T: Tree>(alloc: Global, tree: &T, text: &[u8]) -> Result<Path, Alloc
 fn walk<T: Tree>(alloc: Global, tree: &mut T, start: Path, text: &[u8]) -> Result<Place, WorldErr>
     ensures place { IfOk result (λ place. IfSome (T.state tree.old).held (λ files.
         place ≡ resolve_from files start (components text.now))) }
-    ensures file { IfOk result (λ place. IfSome (T.state tree.old).held (λ files. NamesFileIn files place)) }
     ensures state { T.state tree.new ≡ T.state tree.old }
     ensures cause { Counts (T.faults tree.old) (T.faults tree.new) result }
 {
-    let mut dir = start;
+    let mut stand = Stand {
+        path: start,
+        is_told: false,
+    };
     let mut left = text;
     while let Some((component, rest)) = split_component(left) {
-        match enter(alloc, tree, dir, component)? {
-            Some(inner) => dir = inner,
+        match enter(alloc, tree, stand, component)? {
+            Some(inner) => stand = inner,
             None => return Ok(Place::Missing),
         }
         left = rest;
     }
-    last_place(alloc, tree, dir, left)
+    last_place(alloc, tree, stand, left)
 }
 
 /// The directory that a component leads to, where it leads to one.
 fn enter<T: Tree>(
     alloc: Global,
     tree: &mut T,
-    dir: Path,
+    stand: Stand,
     component: &[u8],
-) -> Result<Option<Path>, WorldErr>
+) -> Result<Option<Stand>, WorldErr>
     requires part { has_slash component.now ≡ false }
-    ensures inner { IfOk result (λ inner. IfSome (T.state tree.old).held (λ files.
-        inner ≡ enter_lem files dir component.now)) }
+    requires told { IsDirIfTold (T.state tree.old).held stand.is_told stand.path }
+    ensures inner { IfOk result (λ inner. IfSome inner (λ next. IfSome (T.state tree.old).held (λ files.
+        enter_lem files stand.path component.now ≡ Some next.path))) }
+    ensures none { IfOk result (λ inner. IfNone inner (IfSome (T.state tree.old).held (λ files.
+        enter_lem files stand.path component.now ≡ None))) }
+    ensures told { IfOk result (λ inner. IfSome inner (λ next. IsDirIfTold (T.state tree.old).held next.is_told next.path)) }
     ensures state { T.state tree.new ≡ T.state tree.old }
     ensures cause { Counts (T.faults tree.old) (T.faults tree.new) result }
 {
-    let mut path = dir;
+    let Stand { mut path, is_told } = stand;
     if is_staying(component) {
-        return Ok(Some(path));
+        return Ok(Some(Stand { path, is_told }));
     }
     if is_going_up(component) {
         path.pop();
-        return Ok(Some(path));
+        return Ok(Some(Stand {
+            path,
+            is_told: false,
+        }));
     }
     path.push(alloc, component)?;
     match tree.kind(&path)? {
-        Kind::Dir => Ok(Some(path)),
+        Kind::Dir => Ok(Some(Stand {
+            path,
+            is_told: true,
+        })),
         Kind::File | Kind::Missing => Ok(None),
     }
 }
 
 /// What the last component of a path names.
+#[tactic(auto, using(crate::proofs::PlacesLemmas::parent_of_child))]
 fn last_place<T: Tree>(
     alloc: Global,
     tree: &mut T,
-    dir: Path,
+    stand: Stand,
     component: &[u8],
 ) -> Result<Place, WorldErr>
     requires part { has_slash component.now ≡ false }
+    requires told { IsDirIfTold (T.state tree.old).held stand.is_told stand.path }
     ensures place { IfOk result (λ place. IfSome (T.state tree.old).held (λ files.
-        place ≡ last_place_lem files dir component.now)) }
-    ensures file { IfOk result (λ place. IfSome (T.state tree.old).held (λ files. NamesFileIn files place)) }
+        place ≡ last_place_lem files stand.path component.now)) }
     ensures state { T.state tree.new ≡ T.state tree.old }
     ensures cause { Counts (T.faults tree.old) (T.faults tree.new) result }
 {
-    let mut path = dir;
+    let Stand { mut path, is_told } = stand;
     if is_staying(component) {
-        return Ok(Place::Dir(path));
+        return ending_at(tree, path, is_told);
     }
     if is_going_up(component) {
         path.pop();
-        return Ok(Place::Dir(path));
+        return ending_at(tree, path, false);
     }
     path.push(alloc, component)?;
     match tree.kind(&path)? {
-        Kind::Missing => Ok(Place::Makeable(path)),
+        Kind::Missing => makeable(tree, path, is_told),
         Kind::Dir => Ok(Place::Dir(path)),
         Kind::File => Ok(Place::File(path)),
     }
 }
 
-/// The null device in place of what stands at its path.
-fn nulled(place: Place) -> Place
-    ensures { result ≡ nulled_lem place }
+/// What is named where a path ends in a directory.
+fn ending_at<T: Tree>(tree: &mut T, path: Path, is_told: bool) -> Result<Place, WorldErr>
+    requires told { IsDirIfTold (T.state tree.old).held is_told path }
+    ensures place { IfOk result (λ place. IfSome (T.state tree.old).held (λ files.
+        place ≡ ending_at_lem (kind_at files path) path)) }
+    ensures state { T.state tree.new ≡ T.state tree.old }
+    ensures cause { Counts (T.faults tree.old) (T.faults tree.new) result }
 {
-    match place {
-        Place::Makeable(path) | Place::Dir(path) | Place::File(path) if is_null(&path) =>
-            Place::Null,
-        other => other,
+    if is_told {
+        return Ok(Place::Dir(path));
+    }
+    match tree.kind(&path)? {
+        Kind::Dir => Ok(Place::Dir(path)),
+        Kind::File | Kind::Missing => Ok(Place::Missing),
     }
 }
 
-/// Whether this is the path of the null device.
-#[tactic(auto, unfolding(crate::specs::Places::is_null_path))]
-fn is_null(path: &Path) -> bool
-    ensures { result ≡ is_null_path path.now }
+/// What a name is that nothing has.
+fn makeable<T: Tree>(tree: &mut T, path: Path, is_told: bool) -> Result<Place, WorldErr>
+    requires told { IsDirIfTold (T.state tree.old).held is_told (parent_of path) }
+    ensures place { IfOk result (λ place. IfSome (T.state tree.old).held (λ files.
+        place ≡ makeable_lem (kind_at files (parent_of path)) path)) }
+    ensures state { T.state tree.new ≡ T.state tree.old }
+    ensures cause { Counts (T.faults tree.old) (T.faults tree.new) result }
 {
-    match path.parts.as_slice() {
-        [folder, name] => folder.as_slice() == b"dev".as_slice()
-            && name.as_slice() == b"null".as_slice(),
-        _ => false,
+    if is_told {
+        return Ok(Place::Makeable(path));
+    }
+    let mut parent = path.copy()?;
+    parent.pop();
+    match tree.kind(&parent)? {
+        Kind::Dir => Ok(Place::Makeable(path)),
+        Kind::File | Kind::Missing => Ok(Place::Missing),
+    }
+}
+
+/// The null device in place of what stands at its path.
+fn nulled(place: Place) -> Place
+    ensures value { result ≡ nulled_lem place }
+    ensures apart { IsNoNullPath result }
+{
+    match place {
+        Place::Makeable(path) | Place::Dir(path) | Place::File(path) if path.is_null_device() =>
+            Place::Null,
+        other => other,
     }
 }

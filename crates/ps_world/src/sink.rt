@@ -1,7 +1,8 @@
 //! Where bytes go.
 ghost use Rattle.std.specs.Prelude.{◌≡◌, ℕ, ◌<◌, ◌≤◌, List, length, take, Option, MatchResult, IfOk, IfSome};
+ghost use Rattle.ps_lines.specs.Texts.{BeginsWith};
 ghost use Rattle.ps_world.specs.Counts.{Counts};
-ghost use Rattle.ps_world.specs.Told.{then_bytes, IsBegunBy};
+ghost use Rattle.ps_world.specs.Told.{then_bytes};
 
 use crate::error::WorldErr;
 
@@ -35,5 +36,5 @@ pub trait Sink {
         ensures cause { Counts (faults self.old) (faults self.new) result };
 
     /// What was sent is the front of what was taken.
-    ghost sent_first: { (sink : Self) → IfSome (taken sink) (λ taken. IfSome (sent sink) (IsBegunBy taken)) };
+    ghost sent_first: { (sink : Self) → IfSome (taken sink) (λ taken. IfSome (sent sink) (BeginsWith taken)) };
 }

@@ -2,6 +2,5 @@ pub mod BoundedLemmas
 pub mod FindLemmas
 pub mod FolderLemmas
 pub mod ListingLemmas
-pub mod MakingLemmas
 pub mod PathLemmas
 pub mod SettledLemmas

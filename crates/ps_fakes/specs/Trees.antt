@@ -90,6 +90,17 @@ placed_of stored = (stored.path, node_in stored.content)
 abbrev pub files_of : List Stored → Files
 files_of stored = finite.from_entries (map placed_of stored)
 
+-- the bytes of a file that is in
+abbrev pub file_in : Option Node → Option (List ℕ)
+file_in None = None
+file_in (Some (Bytes bytes)) = Some bytes
+file_in (Some Directory) = None
+file_in (Some WriterOut) = None
+
+-- the bytes of the file whose path the text spells
+abbrev pub file_of : Files → List ℕ → Option (List ℕ)
+file_of files text = option_map_or (λ path. file_in (finite.get files path)) (path_of text) None
+
 -- what the tree is to its callers
 abbrev pub state_of : MemTree → TreeState
 state_of tree = record { home = tree.home; held = Some (files_of tree.stored.items); lent = tree.lent; back = tree.back }

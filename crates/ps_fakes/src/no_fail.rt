@@ -1,11 +1,11 @@
 //! Objects in memory whose calls never fail.
 ghost use Rattle.std.specs.Prelude.{◌≡◌, ℕ, ◌-◌, ◌^◌, ◌≤◌, ◌&&◌, [], vec_len, is_some, IfOk, IfSome, IsTrue, Some, unwrap_or};
 ghost use Rattle.std.specs.Global.{Vec};
-ghost use Rattle.std.specs.Option.{option_map};
+ghost use Rattle.std.specs.Option.{option_copied, option_map};
 ghost use Rattle.ps_world.specs.Files.{NoWriterOut};
 ghost use Rattle.ps_fakes.specs.Bounded.{AreBounded, are_bounded as are_bounded_lem, is_bounded as is_bounded_lem};
 ghost use Rattle.ps_fakes.specs.Standing.{is_tree as is_tree_lem};
-ghost use Rattle.ps_fakes.specs.Trees.{entries_of, files_of, fresh_state, rows_of, state_of};
+ghost use Rattle.ps_fakes.specs.Trees.{entries_of, file_of, files_of, fresh_state, rows_of, state_of};
 
 use crate::rows::copy_rows;
 use crate::sink::MemSink;
@@ -67,10 +67,8 @@ pub struct NoFailSink {
 }
 
 impl Sink for NoFailSink {
-    ghost use Rattle.std.specs.Prelude.{drop};
     ghost use Rattle.ps_fakes.specs.Streams.{sent_by, taken_by};
-    ghost use Rattle.std.proofs.Common.{sym};
-    ghost use Rattle.std.proofs.lemmas.List.{take-append-drop};
+    ghost use Rattle.ps_world.proofs.ToldLemmas.{begins-take};
 
     ghost taken = { λ whole. taken_by whole.sink };
 
@@ -78,7 +76,7 @@ impl Sink for NoFailSink {
 
     ghost faults = { λ _. 0 };
 
-    ghost sent_first = { λ whole. (drop whole.sink.flushed whole.sink.bytes.items, sym (take-append-drop _ _)) };
+    ghost sent_first = { λ whole. begins-take whole.sink.flushed whole.sink.bytes.items };
 
     fn write(&mut self, bytes: &[u8]) -> Result<usize, WorldErr> {
         if bytes.len() > MOST_BYTES - self.sink.taken().len() {
@@ -210,6 +208,14 @@ impl NoFailTree {
         }
         let tree = NoFailTree::new(alloc, home, entries)?;
         Ok(Some(tree))
+    }
+
+    /// The bytes of the file whose path a text spells; None where no file is, and while its writer is out.
+    pub fn file(&self, text: &[u8]) -> Result<Option<&[u8]>, Memory>
+        ensures { IfOk result (λ bytes. IfSome (⟦<NoFailTree as Tree>⟧.state self.now).held (λ files.
+            option_copied bytes ≡ file_of files text.now)) }
+    {
+        self.tree.file(text)
     }
 }
 

@@ -16,13 +16,12 @@ pub struct MemSink {
 }
 
 impl Sink for MemSink {
-    ghost use Rattle.std.specs.Prelude.{◌<◌, ◌||◌, ◌↔◌, length, take, drop, MatchResult, IfOk, IsErrOf, IsTrue, is_err};
+    ghost use Rattle.std.specs.Prelude.{◌<◌, ◌||◌, ◌↔◌, length, take, MatchResult, IfOk, IsErrOf, IsTrue, is_err};
     ghost use Rattle.ps_world.specs.Counts.{Counts};
     ghost use Rattle.ps_world.specs.Told.{then_bytes};
     ghost use Rattle.ps_fakes.specs.Plans.{CountsCall, fails_next};
     ghost use Rattle.ps_fakes.specs.Streams.{taken_by, sent_by, taken_of, is_full};
-    ghost use Rattle.std.proofs.Common.{sym};
-    ghost use Rattle.std.proofs.lemmas.List.{take-append-drop};
+    ghost use Rattle.ps_world.proofs.ToldLemmas.{begins-take};
 
     ghost taken = { taken_by };
 
@@ -30,7 +29,7 @@ impl Sink for MemSink {
 
     ghost faults = { λ sink. sink.plan.faults };
 
-    ghost sent_first = { λ sink. (drop sink.flushed sink.bytes.items, sym (take-append-drop _ _)) };
+    ghost sent_first = { λ sink. begins-take sink.flushed sink.bytes.items };
 
     /// Fails exactly where it is planned, and where nothing can be taken of a piece that isn't empty.
     fn write(&mut self, bytes: &[u8]) -> Result<usize, WorldErr>

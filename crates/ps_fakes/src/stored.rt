@@ -1,10 +1,10 @@
 //! What a tree in memory holds, as a list that is scanned from the front.
 ghost use Rattle.std.specs.Prelude.{◌≡◌, ◌++◌, ℕ, length, map, Some, IfOk, OnErr, OnOk};
-ghost use Rattle.std.specs.FinMap.{insert};
+ghost use Rattle.std.specs.FinMap.{get, insert};
 ghost use Rattle.std.specs.Global.{Vec};
-ghost use Rattle.std.specs.Option.{option_map};
+ghost use Rattle.std.specs.Option.{option_copied, option_map};
 ghost use Rattle.ps_world.specs.Files.{kind_at as kind_at_lem, kind_of as kind_of_lem, bytes_at as bytes_at_lem, bytes_of as bytes_of_lem};
-ghost use Rattle.ps_fakes.specs.Trees.{above, entries_of, files_of, folder as folder_lem, folders, named_path as named_path_lem, node_at, node_in, node_of, placed, placed_of};
+ghost use Rattle.ps_fakes.specs.Trees.{above, entries_of, file_in as file_in_lem, files_of, folder as folder_lem, folders, named_path as named_path_lem, node_at, node_in, node_of, placed, placed_of};
 
 use ps_world::{Kind, Path};
 use std::alloc::{AllocError, Global};
@@ -65,6 +65,27 @@ fn bytes_of(stored: &Stored) -> &[u8]
     match &stored.content {
         Content::File(bytes) => bytes.as_slice(),
         Content::Folder | Content::Out => &[],
+    }
+}
+
+/// The bytes of the file at a path, where one is in.
+#[tactic(auto, using(crate::proofs::FindLemmas::get_first))]
+pub fn file_at<'a>(stored: &'a [Stored], path: &Path) -> Option<&'a [u8]>
+    ensures { option_copied result ≡ file_in_lem (get (files_of stored.now) path.now) }
+{
+    match find(stored, path) {
+        None => None,
+        Some(found) => file_in(found),
+    }
+}
+
+/// The bytes of this, where it is a file that is in.
+fn file_in(stored: &Stored) -> Option<&[u8]>
+    ensures { option_copied result ≡ file_in_lem (Some (placed_of stored.now).1) }
+{
+    match &stored.content {
+        Content::File(bytes) => Some(bytes.as_slice()),
+        Content::Folder | Content::Out => None,
     }
 }
 

@@ -409,6 +409,50 @@ fn looks_up_long_names(rt: HostRuntime) -> Result<(), Fail> {
     )
 }
 
+/// A look at each of these texts makes so many calls of the tree: not one fewer, and none that comes behind them.
+fn calls<R: Abort + AllocGlobal>(rt: &R, rows: &[(&[u8], u64)]) -> Result<(), Fail> {
+    let alloc = rt.alloc();
+    let files: [(&[u8], Option<&[u8]>); 1] = [(b"/w/d/a", Some(b"1"))];
+    for (text, calls) in rows {
+        for planned in [calls.saturating_sub(1), *calls] {
+            let tree = MemTree::of_table(alloc, b"/w", &files, vec![in alloc; planned]?)?;
+            let mut tree = tree.expect(rt, "the files make a tree");
+            let place = look(alloc, &mut tree, text);
+            assert_eq!(rt; place.is_ok(), planned == *calls, "{text:?} at {planned}");
+        }
+    }
+    Ok(())
+}
+
+/// The last place is asked for, and where nothing is there the directory above it; each place once.
+#[test]
+fn a_look_asks_for_each_place_once(rt: HostRuntime) -> Result<(), Fail> {
+    calls(
+        &rt,
+        &[
+            (b"", 0),
+            (b"/dev/null", 0),
+            (b".", 1),
+            (b"..", 1),
+            (b"/", 1),
+            (b"d", 1),
+            (b"d/", 1),
+            (b"d/.", 1),
+            (b"d/..", 2),
+            (b"d/a", 2),
+            (b"d/a/", 2),
+            (b"d/nope", 2),
+            (b"d/./nope", 2),
+            (b"d/../nope", 3),
+            (b"nope", 2),
+            (b"./nope", 2),
+            (b"../nope", 2),
+            (b"/nope", 2),
+            (b"nope/a", 1),
+        ],
+    )
+}
+
 /// Whether these files make a tree with this home.
 fn stands(alloc: Global, home: &[u8], files: &[(&[u8], Option<&[u8]>)]) -> Result<bool, Memory> {
     let tree = MemTree::of_table(alloc, home, files, Vec::new(alloc))?;
@@ -502,7 +546,8 @@ fn read_file<R: Abort + AllocGlobal>(
     ensures whole { IfSome (⟦<MemTree as Tree>⟧.state tree.new).held NoWriterOut }
 {
     let Place::File(path) = look(rt.alloc(), tree, text)? else {
-        return Ok(());
+        // No test wants this answer.
+        return Err(WorldErr::Memory);
     };
     let mut reader = tree.open(&path)?;
     for want in wants {

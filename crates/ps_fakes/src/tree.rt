@@ -8,7 +8,9 @@ use crate::rows::copy_rows;
 use crate::sink::MemSink;
 use crate::source::MemSource;
 use crate::standing::is_tree;
-use crate::stored::{Content, Stored, bytes_at, folders_of, kind_at, named_path, place_all, put};
+use crate::stored::{
+    Content, Stored, bytes_at, file_at, folders_of, kind_at, named_path, place_all, put,
+};
 use ps_lines::{Memory, is_closed};
 use ps_world::{Kind, Mode, Path, Sink, Source, Tree, WorldErr};
 use std::alloc::{AllocError, Global};
@@ -188,10 +190,11 @@ impl Tree for MemTree {
 }
 
 impl MemTree {
+    ghost use Rattle.std.specs.Option.{option_copied};
     ghost use Rattle.ps_world.specs.Counts.{one_more};
     ghost use Rattle.ps_world.specs.Files.{NoWriterOut, begun, bytes_at as bytes_at_lem};
     ghost use Rattle.ps_world.specs.Paths.{Components};
-    ghost use Rattle.ps_fakes.specs.Trees.{GivesAs, entries_of, files_of, fresh_state, names_path, reads_of, rows_of};
+    ghost use Rattle.ps_fakes.specs.Trees.{GivesAs, entries_of, file_of, files_of, fresh_state, names_path, reads_of, rows_of};
     ghost use Rattle.ps_fakes.specs.Standing.{is_tree as is_tree_lem};
     ghost use Rattle.ps_fakes.specs.Streams.{NeverFails};
 
@@ -300,6 +303,20 @@ impl MemTree {
         ensures { result ≡ ⟦<MemTree as Tree>⟧.faults self.now }
     {
         self.plan.faults
+    }
+
+    /// The bytes of the file whose path a text spells; None where no file is, and while its writer is out.
+    ///
+    /// This is for a test's own look: it is no call of the tree, has no number and never fails by plan.
+    pub fn file(&self, text: &[u8]) -> Result<Option<&[u8]>, Memory>
+        ensures { IfOk result (λ bytes. IfSome (⟦<MemTree as Tree>⟧.state self.now).held (λ files.
+            option_copied bytes ≡ file_of files text.now)) }
+    {
+        let alloc = *self.stored.allocator();
+        match Path::read(alloc, text)? {
+            Some(path) => Ok(file_at(self.stored.as_slice(), &path)),
+            None => Ok(None),
+        }
     }
 
     /// A writer of the file at a path.

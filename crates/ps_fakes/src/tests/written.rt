@@ -4,7 +4,7 @@ ghost use Rattle.ps_world.specs.Files.{NoWriterOut};
 ghost use Rattle.ps_world.specs.TreeState.{lend, take_out};
 
 use super::*;
-use ps_world::{Kind, Mode, Path, read_all, read_front, write_all};
+use ps_world::{Kind, Mode, Path, read_all, read_front, read_line, write_all};
 
 /// The path that a text spells.
 fn path_of<R: Abort + AllocGlobal>(rt: &R, text: &[u8]) -> Result<Path, Fail> {
@@ -48,7 +48,7 @@ fn lists<R: Abort + AllocGlobal, T: Tree>(
 }
 
 /// Lends a writer of the file at a path, where one can be made.
-#[tactic(auto, using(crate::proofs::MakingLemmas::made_anew, crate::proofs::MakingLemmas::made_new))]
+#[tactic(auto, using(ps_world::proofs::WritingLemmas::made_anew, ps_world::proofs::WritingLemmas::made_new))]
 fn make<T: Tree>(tree: &mut T, path: &Path, mode: Mode) -> Result<Option<T::Writer>, WorldErr>
     requires whole { IfSome (T.state tree.old).held NoWriterOut }
     ensures some { IfOk result (λ writer. IfSome writer (λ _. T.state tree.new ≡ lend (take_out path.now (T.state tree.old)))) }
@@ -176,11 +176,12 @@ fn call_each<T: Tree>(tree: &mut T, dir: &Path, file: &Path) -> Result<(), World
     requires whole { IfSome (T.state tree.old).held NoWriterOut }
 {
     let Kind::Dir = tree.kind(dir)? else {
-        return Ok(());
+        // No test wants this answer where no call has failed.
+        return Err(WorldErr::Memory);
     };
     tree.list(dir)?;
     let Kind::File = tree.kind(file)? else {
-        return Ok(());
+        return Err(WorldErr::Memory);
     };
     tree.ends_line(file)?;
     let reader = tree.open(file)?;
@@ -203,6 +204,67 @@ fn each_call_of_a_tree_fails_where_planned(rt: HostRuntime) -> Result<(), Fail> 
         assert_eq!(rt; tree.faults(), u64::from(call < 7), "at {call}");
         assert_eq!(rt; tree.lent(), tree.back(), "at {call}");
     }
+    Ok(())
+}
+
+/// What `file` tells of a path while its writer is out, and before and after.
+#[test]
+fn a_test_looks_at_a_file(rt: HostRuntime) -> Result<(), Fail> {
+    let alloc = rt.alloc();
+    let tree = MemTree::of_table(alloc, b"/w", &FILES, vec![in alloc; 9]?)?;
+    let mut tree = tree.expect(&rt, "the files make a tree");
+    assert!(rt; tree.file(b"/w/a")? == Some(b"1".as_slice()));
+    assert!(rt; tree.file(b"/w/e")?.is_none());
+    assert!(rt; tree.file(b"/w/none")?.is_none());
+    assert!(rt; tree.file(b"w/a")?.is_none());
+    let path = path_of(&rt, b"/w/a")?;
+    assert!(rt; write_file(&mut tree, &path, Mode::Append, b"2")?);
+    assert!(rt; tree.file(b"/w/a")? == Some(b"12".as_slice()));
+    let tree = NoFailTree::of_table(alloc, b"/w", &FILES)?;
+    let tree = tree.expect(&rt, "the files make a tree");
+    assert!(rt; tree.file(b"/w/d/b")? == Some(b"2\n".as_slice()));
+    Ok(())
+}
+
+/// Of the text this line is taken, which a newline ends or not, and this is left.
+fn takes_line<R: Abort + AllocGlobal>(
+    rt: &R,
+    text: &[u8],
+    line: &[u8],
+    closed: bool,
+    rest: &[u8],
+) -> Result<(), Fail> {
+    let alloc = rt.alloc();
+    let mut source = MemSource::new(Vec::from_slice(alloc, text)?, Vec::new(alloc));
+    let mut found = Vec::new(alloc);
+    assert_eq!(rt; read_line(&mut source, &mut found)?, closed, "{text:?}");
+    assert!(rt; found.as_slice() == line, "{text:?} begins with {found:?}");
+    let left = read_all(alloc, &mut source)?;
+    assert!(rt; left.as_slice() == rest, "{left:?} is left of {text:?}");
+    Ok(())
+}
+
+/// A line is taken with its newline, and nothing behind it (XCU read).
+#[test]
+fn one_line_is_taken(rt: HostRuntime) -> Result<(), Fail> {
+    takes_line(&rt, b"", b"", false, b"")?;
+    takes_line(&rt, b"\n", b"", true, b"")?;
+    takes_line(&rt, b"a", b"a", false, b"")?;
+    takes_line(&rt, b"ab\n", b"ab", true, b"")?;
+    takes_line(&rt, b"ab\ncd\n", b"ab", true, b"cd\n")?;
+    takes_line(&rt, b"\0\r \n\n", b"\0\r ", true, b"\n")
+}
+
+/// The bytes before a failed read stand in the line, and the next ones are still to come.
+#[test]
+fn a_failed_line_loses_nothing(rt: HostRuntime) -> Result<(), Fail> {
+    let alloc = rt.alloc();
+    let mut source = MemSource::new(Vec::from_slice(alloc, b"abc\nd")?, vec![in alloc; 2]?);
+    let mut found = Vec::from_slice(alloc, b"-")?;
+    assert_eq!(rt; read_line(&mut source, &mut found), Err(WorldErr::Failed));
+    assert!(rt; found.as_slice() == b"-ab".as_slice());
+    assert!(rt; read_line(&mut source, &mut found)?);
+    assert!(rt; found.as_slice() == b"-abc".as_slice());
     Ok(())
 }
 

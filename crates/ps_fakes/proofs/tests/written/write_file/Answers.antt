@@ -1,4 +1,4 @@
-use Rattle.ps_fakes.proofs.MakingLemmas.{whole_after}
+use Rattle.ps_world.proofs.WritingLemmas.{whole_after}
 use Rattle.ps_fakes.proofs.tests.written.write_file.Goals as goal
 
 pub returns-in_ok-written-in-Some : goal.returns-in_ok-written-in-Some

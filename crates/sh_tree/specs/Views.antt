@@ -1,20 +1,26 @@
 -- The tree that a value of the code stands for: a fold, with lists for vectors.
-use Rattle.std.specs.Prelude.{ℕ, Bool, List, [], ◌∷◌, map}
+use Rattle.std.specs.Prelude.{Bool, List, [], ◌∷◌, map}
 use Rattle.std.specs.declared.option.Option.{Option}
 use Rattle.std.specs.declared.option.Option.TheVariants.{None, Some}
 use Rattle.std.specs.Option.{option_map}
 use Rattle.sh_tree.specs.Trees.{WordTree, no_part, part, PartTree, plain, quoted, parameter, substitution, arithmetic, FormTree, bare, length_of, default, assign, check_omitted, check, alternate, cut_suffix, cut_prefix, RedirTree, ListTree, no_item, item, AndOrTree, and_or, JoinedTrees, none_joined, joined, PipelineTree, pipeline, CommandTrees, no_command, command, CommandTree, simple, group, subshell, if_branches, while_loop, until_loop, for_loop, BranchTrees, no_branch, branch, ElseTree, no_else, else_list, SimpleTree, simple_command, InTree, no_in, in_words, WordsTree, words, TailTree, tail, SubTrees, no_sub, sub, ScriptTree}
 use Rattle.sh_tree.specs.declared.words.Word.{Word}
+use Rattle.sh_tree.specs.declared.words.Part.{Part}
+use Rattle.sh_tree.specs.declared.words.Form.{Form}
 use Rattle.sh_tree.specs.declared.words.Form.TheOpen.{Form-F, Part-F, Word-F}
-use Rattle.sh_tree.specs.declared.words.Form.TheOpen as open_word
-use Rattle.sh_tree.specs.declared.words.Form.TheFolds.{fold-Word}
+use Rattle.sh_tree.specs.declared.words.Form.TheFolds.{fold-Word, fold-Part, fold-Form}
 use Rattle.sh_tree.specs.declared.commands.Join.{Join}
 use Rattle.sh_tree.specs.declared.commands.List as declared_list
 use Rattle.sh_tree.specs.declared.commands.Redir.{Redir}
 use Rattle.sh_tree.specs.declared.commands.Script.{Script}
+use Rattle.sh_tree.specs.declared.commands.AndOr.{AndOr}
+use Rattle.sh_tree.specs.declared.commands.Command.{Command}
+use Rattle.sh_tree.specs.declared.commands.Pipeline.{Pipeline}
+use Rattle.sh_tree.specs.declared.commands.Simple.{Simple}
+use Rattle.sh_tree.specs.declared.commands.Tail.{Tail}
+use Rattle.sh_tree.specs.declared.commands.Words.{Words}
 use Rattle.sh_tree.specs.declared.commands.Command.TheOpen.{Command-F, AndOr-F, List-F, Pipeline-F, Simple-F, Tail-F, Words-F}
-use Rattle.sh_tree.specs.declared.commands.Command.TheOpen as open_command
-use Rattle.sh_tree.specs.declared.commands.Command.TheFolds.{fold-List}
+use Rattle.sh_tree.specs.declared.commands.Command.TheFolds.{fold-List, fold-Command, fold-AndOr, fold-Pipeline, fold-Simple, fold-Tail, fold-Words}
 
 -- the parts in front of `more`
 abbrev pub parts_onto : List PartTree → WordTree → WordTree
@@ -48,6 +54,16 @@ word_step word = parts_onto word.parts.items no_part
 -- the tree of a word
 abbrev pub word_tree : Word → WordTree
 word_tree = fold-Word FormTree PartTree WordTree form_step part_step word_step
+
+-- the trees of a part and of a form, and of the word with these parts
+abbrev pub part_tree : Part → PartTree
+part_tree = fold-Part FormTree PartTree WordTree form_step part_step word_step
+
+abbrev pub form_tree : Form → FormTree
+form_tree = fold-Form FormTree PartTree WordTree form_step part_step word_step
+
+abbrev pub parts_tree : List Part → WordTree
+parts_tree parts = parts_onto (map part_tree parts) no_part
 
 -- a redirection
 abbrev pub redir_tree : Redir → RedirTree
@@ -113,11 +129,58 @@ tail_step it = tail (map redir_tree it.redirs.items) (subs_onto it.subs.items no
 abbrev pub words_step : Words-F CommandTree AndOrTree ListTree PipelineTree SimpleTree TailTree WordsTree → WordsTree
 words_step it = words (map word_tree it.words.items) (subs_onto it.subs.items no_sub)
 
+-- the trees of a command and of what is in it
+abbrev pub command_tree : Command → CommandTree
+command_tree =
+    fold-Command CommandTree AndOrTree ListTree PipelineTree SimpleTree TailTree WordsTree command_step and_or_step list_step
+    pipeline_step simple_step tail_step words_step
+
+abbrev pub and_or_tree : AndOr → AndOrTree
+and_or_tree =
+    fold-AndOr CommandTree AndOrTree ListTree PipelineTree SimpleTree TailTree WordsTree command_step and_or_step list_step
+    pipeline_step simple_step tail_step words_step
+
+abbrev pub pipeline_tree : Pipeline → PipelineTree
+pipeline_tree =
+    fold-Pipeline CommandTree AndOrTree ListTree PipelineTree SimpleTree TailTree WordsTree command_step and_or_step list_step
+    pipeline_step simple_step tail_step words_step
+
+abbrev pub simple_tree : Simple → SimpleTree
+simple_tree =
+    fold-Simple CommandTree AndOrTree ListTree PipelineTree SimpleTree TailTree WordsTree command_step and_or_step list_step
+    pipeline_step simple_step tail_step words_step
+
+abbrev pub tail_tree : Tail → TailTree
+tail_tree =
+    fold-Tail CommandTree AndOrTree ListTree PipelineTree SimpleTree TailTree WordsTree command_step and_or_step list_step
+    pipeline_step simple_step tail_step words_step
+
+abbrev pub words_tree : Words → WordsTree
+words_tree =
+    fold-Words CommandTree AndOrTree ListTree PipelineTree SimpleTree TailTree WordsTree command_step and_or_step list_step
+    pipeline_step simple_step tail_step words_step
+
 -- the tree of a list
 abbrev pub list_tree : declared_list.List → ListTree
 list_tree =
     fold-List CommandTree AndOrTree ListTree PipelineTree SimpleTree TailTree WordsTree command_step and_or_step list_step
     pipeline_step simple_step tail_step words_step
+
+-- the trees of what stands one behind the other in the code
+abbrev pub items_tree : List AndOr → ListTree
+items_tree items = items_onto (map and_or_tree items) no_item
+
+abbrev pub joined_tree : List (Join × Pipeline) → JoinedTrees
+joined_tree rest = joined_onto (map (λ next. (next.0, pipeline_tree next.1)) rest) none_joined
+
+abbrev pub stages_tree : List Command → CommandTrees
+stages_tree stages = commands_onto (map command_tree stages) no_command
+
+abbrev pub branches_tree : List (declared_list.List × declared_list.List) → BranchTrees
+branches_tree branches = branches_onto (map (λ branch. (list_tree branch.0, list_tree branch.1)) branches) no_branch
+
+abbrev pub subs_tree : List declared_list.List → SubTrees
+subs_tree subs = subs_onto (map list_tree subs) no_sub
 
 -- the tree of a script
 abbrev pub script_tree : Script → ScriptTree

@@ -1,139 +1,143 @@
--- What the runs of digits and blanks at the beginning of a text are, by its first byte behind removed backslash-newlines.
-use Rattle.std.proofs.Common.{◌≡◌, ℕ, Bool, true, false, List, [], ◌∷◌, ◌==◌, ◌&&◌, if◌then◌else◌, refl, ◌∙◌}
-use Rattle.sh_lex.specs.Bytes.{is_digit, is_blank}
-use Rattle.sh_lex.specs.Texts.{unspliced}
-use Rattle.sh_lex.specs.Numbers.{digits_end, leading_digits}
-use Rattle.sh_lex.specs.Operators.{behind_blanks}
+-- What the bytes of a text and the runs at its beginning are, by its first byte behind removed backslash-newlines; and how much is left.
+use Rattle.std.proofs.Common.{◌≡◌, ◌<◌, ◌≤◌, ℕ, Bool, true, false, List, [], ◌∷◌, ◌++◌, ◌==◌, ◌&&◌, if◌then◌else◌, length, refl, sym, ◌∙◌, ap, append_assoc, arith}
+use Rattle.std.proofs.lemmas.List.{append-nil}
+use Rattle.ps_lines.specs.Bytes.{is_name_start, is_name_byte}
+use Rattle.sh_lex.specs.Texts.{fronts, from_first, unspliced, passing, run, behind_passing, behind_run}
 use Rattle.sh_lex.specs.declared.bytes.TheConstants.{BACKSLASH, NEWLINE}
 
-digits_end-none_pair : (end : List ℕ) (a b : ℕ) (text : List ℕ) (test : Bool) → ((a == BACKSLASH) && (b == NEWLINE)) ≡ test
-    → (unspliced text ≡ [] → digits_end end text ≡ end)
-    → unspliced (a ∷ b ∷ text) ≡ [] → digits_end end (a ∷ b ∷ text) ≡ end
-unfolding unspliced digits_end
-digits_end-none_pair end a b text true e more h = simp e (more (simp e at h))
-digits_end-none_pair end a b text false e more h = let g : a ∷ b ∷ text ≡ [] = simp e at h in cc
+none_from : (all : List (ℕ × List ℕ)) → from_first all ≡ [] → all ≡ []
+none_from [] h = refl
+none_from (first ∷ rest) h = cc
 
 -- at the end of a text
-pub digits_end-none : (end : List ℕ) (text : List ℕ) → unspliced text ≡ [] → digits_end end text ≡ end
-unfolding unspliced digits_end
-digits_end-none end [] h = refl
-digits_end-none end (a ∷ []) h = cc
-digits_end-none end (a ∷ b ∷ text) h =
-    digits_end-none_pair end a b text ((a == BACKSLASH) && (b == NEWLINE)) refl (digits_end-none end text) h
+pub fronts-none : (text : List ℕ) → unspliced text ≡ [] → fronts text ≡ []
+unfolding unspliced
+fronts-none text h = none_from (fronts text) h
 
-digits_end-front_pair : (end : List ℕ) (byte : ℕ) (rest : List ℕ) (a b : ℕ) (text : List ℕ) (test : Bool)
-    → ((a == BACKSLASH) && (b == NEWLINE)) ≡ test
-    → (unspliced text ≡ byte ∷ rest → digits_end end text ≡ (if is_digit byte then digits_end rest rest else end))
-    → unspliced (a ∷ b ∷ text) ≡ byte ∷ rest → digits_end end (a ∷ b ∷ text) ≡ (if is_digit byte then digits_end rest rest else end)
-unfolding unspliced digits_end
-digits_end-front_pair end byte rest a b text true e more h = simp e (more (simp e at h))
-digits_end-front_pair end byte rest a b text false e more h =
-    let g : a ∷ b ∷ text ≡ byte ∷ rest = simp e at h in simp e (cc)
+-- behind the first byte those of what is left behind it follow
+same_pair : (one other : ℕ × List ℕ) (byte : ℕ) (rest : List ℕ) → one ≡ other → other.0 ≡ byte → other.1 ≡ rest
+    → (one.0 ≡ byte) × (one.1 ≡ rest)
+same_pair one other byte rest e h k = (ap (λ p. p.0) e ∙ h, ap (λ p. p.1) e ∙ k)
 
--- at a byte
-pub digits_end-front : (end : List ℕ) (byte : ℕ) (rest text : List ℕ) → unspliced text ≡ byte ∷ rest
-    → digits_end end text ≡ (if is_digit byte then digits_end rest rest else end)
-unfolding unspliced digits_end
-digits_end-front end byte rest [] h = cc
-digits_end-front end byte rest (a ∷ []) h = cc
-digits_end-front end byte rest (a ∷ b ∷ text) h =
-    digits_end-front_pair end byte rest a b text ((a == BACKSLASH) && (b == NEWLINE)) refl (digits_end-front end byte rest text) h
+fronts_if : (test : Bool) (first byte : ℕ) (behind rest : List ℕ) (more : List (ℕ × List ℕ))
+    → (from_first more ≡ byte ∷ rest → more ≡ (byte, rest) ∷ fronts rest)
+    → from_first (if test then more else (first, behind) ∷ fronts behind) ≡ byte ∷ rest
+    → (if test then more else (first, behind) ∷ fronts behind) ≡ (byte, rest) ∷ fronts rest
+fronts_if true first byte behind rest more on h = on h
+fronts_if false first byte behind rest more on h =
+    let byte_is : first ≡ byte = cc in
+    let rest_is : behind ≡ rest = cc in
+    rw (byte_is, rest_is) refl
 
-leading_digits-none_pair : (a b : ℕ) (text : List ℕ) (test : Bool) → ((a == BACKSLASH) && (b == NEWLINE)) ≡ test
-    → (unspliced text ≡ [] → leading_digits text ≡ [])
-    → unspliced (a ∷ b ∷ text) ≡ [] → leading_digits (a ∷ b ∷ text) ≡ []
-unfolding unspliced leading_digits
-leading_digits-none_pair a b text true e more h = simp e (more (simp e at h))
-leading_digits-none_pair a b text false e more h = let g : a ∷ b ∷ text ≡ [] = simp e at h in cc
+pub fronts-more : (byte : ℕ) (rest text : List ℕ) → unspliced text ≡ byte ∷ rest → fronts text ≡ (byte, rest) ∷ fronts rest
+unfolding unspliced fronts
+fronts-more byte rest [] h = cc
+fronts-more byte rest (first ∷ []) h =
+    let byte_is : first ≡ byte = cc in
+    let rest_is : [] ≡ rest = cc in
+    rw (byte_is, sym rest_is) refl
+fronts-more byte rest (first ∷ second ∷ text) h =
+    fronts_if ((first == BACKSLASH) && (second == NEWLINE)) first byte (second ∷ text) rest (fronts text) (fronts-more byte rest text) h
 
--- at the end of a text
-pub leading_digits-none : (text : List ℕ) → unspliced text ≡ [] → leading_digits text ≡ []
-unfolding unspliced leading_digits
-leading_digits-none [] h = refl
-leading_digits-none (a ∷ []) h = cc
-leading_digits-none (a ∷ b ∷ text) h =
-    leading_digits-none_pair a b text ((a == BACKSLASH) && (b == NEWLINE)) refl (leading_digits-none text) h
+module _ (passes : ℕ → Bool) where
+  -- at the end of a text, at a byte that passes, and at another one
+  pub run-none : (text : List ℕ) → unspliced text ≡ [] → run passes text ≡ []
+  unfolding run
+  run-none text h = ap (passing passes) (fronts-none text h)
 
-leading_digits-front_pair : (byte : ℕ) (rest : List ℕ) (a b : ℕ) (text : List ℕ) (test : Bool)
-    → ((a == BACKSLASH) && (b == NEWLINE)) ≡ test
-    → (unspliced text ≡ byte ∷ rest → leading_digits text ≡ (if is_digit byte then byte ∷ leading_digits rest else []))
-    → unspliced (a ∷ b ∷ text) ≡ byte ∷ rest → leading_digits (a ∷ b ∷ text) ≡ (if is_digit byte then byte ∷ leading_digits rest else [])
-unfolding unspliced leading_digits
-leading_digits-front_pair byte rest a b text true e more h = simp e (more (simp e at h))
-leading_digits-front_pair byte rest a b text false e more h =
-    let g : a ∷ b ∷ text ≡ byte ∷ rest = simp e at h in simp e (cc)
+  pub run-byte : (byte : ℕ) (rest text : List ℕ) → unspliced text ≡ byte ∷ rest → passes byte ≡ true
+      → run passes text ≡ byte ∷ run passes rest
+  unfolding run
+  run-byte byte rest text h d = ap (passing passes) (fronts-more byte rest text h) ∙ (simp d)
 
--- at a byte
-pub leading_digits-front : (byte : ℕ) (rest text : List ℕ) → unspliced text ≡ byte ∷ rest
-    → leading_digits text ≡ (if is_digit byte then byte ∷ leading_digits rest else [])
-unfolding unspliced leading_digits
-leading_digits-front byte rest [] h = cc
-leading_digits-front byte rest (a ∷ []) h = cc
-leading_digits-front byte rest (a ∷ b ∷ text) h =
-    leading_digits-front_pair byte rest a b text ((a == BACKSLASH) && (b == NEWLINE)) refl (leading_digits-front byte rest text) h
+  pub run-other : (byte : ℕ) (rest text : List ℕ) → unspliced text ≡ byte ∷ rest → passes byte ≡ false → run passes text ≡ []
+  unfolding run
+  run-other byte rest text h d = ap (passing passes) (fronts-more byte rest text h) ∙ (simp d)
 
-behind_blanks-none_pair : (a b : ℕ) (text : List ℕ) (test : Bool) → ((a == BACKSLASH) && (b == NEWLINE)) ≡ test
-    → (unspliced text ≡ [] → behind_blanks text ≡ [])
-    → unspliced (a ∷ b ∷ text) ≡ [] → behind_blanks (a ∷ b ∷ text) ≡ []
-unfolding unspliced behind_blanks
-behind_blanks-none_pair a b text true e more h = simp e (more (simp e at h))
-behind_blanks-none_pair a b text false e more h = let g : a ∷ b ∷ text ≡ [] = simp e at h in cc
+  pub behind_run-none : (text : List ℕ) → unspliced text ≡ [] → behind_run passes text ≡ text
+  unfolding behind_run
+  behind_run-none text h = ap (behind_passing passes text) (fronts-none text h)
 
--- at the end of a text
-pub behind_blanks-none : (text : List ℕ) → unspliced text ≡ [] → behind_blanks text ≡ []
-unfolding unspliced behind_blanks
-behind_blanks-none [] h = refl
-behind_blanks-none (a ∷ []) h = cc
-behind_blanks-none (a ∷ b ∷ text) h =
-    behind_blanks-none_pair a b text ((a == BACKSLASH) && (b == NEWLINE)) refl (behind_blanks-none text) h
+  pub behind_run-byte : (byte : ℕ) (rest text : List ℕ) → unspliced text ≡ byte ∷ rest → passes byte ≡ true
+      → behind_run passes text ≡ behind_run passes rest
+  unfolding behind_run
+  behind_run-byte byte rest text h d = ap (behind_passing passes text) (fronts-more byte rest text h) ∙ (simp d)
 
-behind_blanks-front_pair : (byte : ℕ) (rest : List ℕ) (a b : ℕ) (text : List ℕ) (test : Bool)
-    → ((a == BACKSLASH) && (b == NEWLINE)) ≡ test
-    → (unspliced text ≡ byte ∷ rest → behind_blanks text ≡ (if is_blank byte then behind_blanks rest else byte ∷ rest))
-    → unspliced (a ∷ b ∷ text) ≡ byte ∷ rest → behind_blanks (a ∷ b ∷ text) ≡ (if is_blank byte then behind_blanks rest else byte ∷ rest)
-unfolding unspliced behind_blanks
-behind_blanks-front_pair byte rest a b text true e more h = simp e (more (simp e at h))
-behind_blanks-front_pair byte rest a b text false e more h =
-    let g : a ∷ b ∷ text ≡ byte ∷ rest = simp e at h in simp e (cc)
+  pub behind_run-other : (byte : ℕ) (rest text : List ℕ) → unspliced text ≡ byte ∷ rest → passes byte ≡ false
+      → behind_run passes text ≡ text
+  unfolding behind_run
+  behind_run-other byte rest text h d = ap (behind_passing passes text) (fronts-more byte rest text h) ∙ (simp d)
 
--- at a byte
-pub behind_blanks-front : (byte : ℕ) (rest text : List ℕ) → unspliced text ≡ byte ∷ rest
-    → behind_blanks text ≡ (if is_blank byte then behind_blanks rest else byte ∷ rest)
-unfolding unspliced behind_blanks
-behind_blanks-front byte rest [] h = cc
-behind_blanks-front byte rest (a ∷ []) h = cc
-behind_blanks-front byte rest (a ∷ b ∷ text) h =
-    behind_blanks-front_pair byte rest a b text ((a == BACKSLASH) && (b == NEWLINE)) refl (behind_blanks-front byte rest text) h
+  -- where the run ends, the bytes so far are all
+  run_ends : (done rest whole : List ℕ) → run passes rest ≡ [] → done ++ run passes rest ≡ whole → done ≡ whole
+  run_ends done rest whole none h = sym (append-nil done) ∙ ap (λ x. done ++ x) (sym none) ∙ h
 
--- at a digit, and at another byte
-pub digits_end-digit : (end : List ℕ) (byte : ℕ) (rest text : List ℕ) → unspliced text ≡ byte ∷ rest → is_digit byte ≡ true
-    → digits_end end text ≡ digits_end rest rest
-digits_end-digit end byte rest text h d = digits_end-front end byte rest text h ∙ (simp d)
+  pub run_ends_none : (done rest whole : List ℕ) → unspliced rest ≡ [] → done ++ run passes rest ≡ whole → done ≡ whole
+  run_ends_none done rest whole e h = run_ends done rest whole (run-none rest e) h
 
-pub digits_end-other : (end : List ℕ) (byte : ℕ) (rest text : List ℕ) → unspliced text ≡ byte ∷ rest → is_digit byte ≡ false
-    → digits_end end text ≡ end
-digits_end-other end byte rest text h d = digits_end-front end byte rest text h ∙ (simp d)
+  pub run_ends_other : (byte : ℕ) (after done rest whole : List ℕ) → unspliced rest ≡ byte ∷ after → passes byte ≡ false
+      → done ++ run passes rest ≡ whole → done ≡ whole
+  run_ends_other byte after done rest whole e d h = run_ends done rest whole (run-other byte after rest e d) h
 
-pub ruleset digits = (digits_end-none, digits_end-digit, digits_end-other)
+  -- where it goes on, there is one more
+  pub run_goes_on : (byte : ℕ) (after done rest whole : List ℕ) → unspliced rest ≡ byte ∷ after → passes byte ≡ true
+      → done ++ run passes rest ≡ whole → (done ++ byte ∷ []) ++ run passes after ≡ whole
+  run_goes_on byte after done rest whole e d h =
+      append_assoc done (byte ∷ []) (run passes after) ∙ ap (λ x. done ++ x) (sym (run-byte byte after rest e d)) ∙ h
 
--- at a digit, and at another byte
-pub leading_digits-digit : (byte : ℕ) (rest text : List ℕ) → unspliced text ≡ byte ∷ rest → is_digit byte ≡ true
-    → leading_digits text ≡ byte ∷ leading_digits rest
-leading_digits-digit byte rest text h d = leading_digits-front byte rest text h ∙ (simp d)
+pub ruleset runs = (run-none, run-byte, run-other, behind_run-none, behind_run-byte, behind_run-other)
 
-pub leading_digits-other : (byte : ℕ) (rest text : List ℕ) → unspliced text ≡ byte ∷ rest → is_digit byte ≡ false
-    → leading_digits text ≡ []
-leading_digits-other byte rest text h d = leading_digits-front byte rest text h ∙ (simp d)
+-- a name goes on behind its first byte
+pub run-name : (byte : ℕ) (rest text : List ℕ) → unspliced text ≡ byte ∷ rest → is_name_start byte ≡ true
+    → run is_name_byte text ≡ byte ∷ run is_name_byte rest
+run-name byte rest text h start = run-byte is_name_byte byte rest text h (simp start)
 
-pub ruleset spelled_digits = (leading_digits-none, leading_digits-digit, leading_digits-other)
+pub behind_run-name : (byte : ℕ) (rest text : List ℕ) → unspliced text ≡ byte ∷ rest → is_name_start byte ≡ true
+    → behind_run is_name_byte text ≡ behind_run is_name_byte rest
+behind_run-name byte rest text h start = behind_run-byte is_name_byte byte rest text h (simp start)
 
--- at a blank, and at another byte
-pub behind_blanks-blank : (byte : ℕ) (rest text : List ℕ) → unspliced text ≡ byte ∷ rest → is_blank byte ≡ true
-    → behind_blanks text ≡ behind_blanks rest
-behind_blanks-blank byte rest text h d = behind_blanks-front byte rest text h ∙ (simp d)
+pub ruleset names = (run-name, behind_run-name)
 
-pub behind_blanks-other : (byte : ℕ) (rest text : List ℕ) → unspliced text ≡ byte ∷ rest → is_blank byte ≡ false
-    → behind_blanks text ≡ byte ∷ rest
-behind_blanks-other byte rest text h d = behind_blanks-front byte rest text h ∙ (simp d)
+-- removed backslash-newlines leave no more
+length-from_first_if : (test : Bool) (first count : ℕ) (behind : List ℕ) (one two : List (ℕ × List ℕ)) → length (from_first one) ≤ count
+    → length behind < count → length (from_first (if test then one else (first, behind) ∷ two)) ≤ count
+length-from_first_if true first count behind one two h k = h
+length-from_first_if false first count behind one two h k = omega arith
 
-pub ruleset blanks = (behind_blanks-none, behind_blanks-blank, behind_blanks-other)
+length-unspliced_within : (count : ℕ) (text : List ℕ) → length text ≤ count → length (unspliced text) ≤ count
+unfolding unspliced fronts
+length-unspliced_within count [] h = omega arith
+length-unspliced_within count (first ∷ []) h = h
+length-unspliced_within count (first ∷ second ∷ text) h =
+    length-from_first_if ((first == BACKSLASH) && (second == NEWLINE)) first count (second ∷ text) (fronts text) (fronts (second ∷ text))
+    (length-unspliced_within count text (omega arith)) (omega arith)
+
+pub length-unspliced : (text : List ℕ) → length (unspliced text) ≤ length text
+length-unspliced text = length-unspliced_within (length text) text (omega arith)
+
+-- a run leaves no more
+length-behind_if : (passes : ℕ → Bool) (test : Bool) (first count : ℕ) (end behind : List ℕ) (one two : List (ℕ × List ℕ))
+    → length (behind_passing passes end one) ≤ count → length (behind_passing passes behind two) ≤ count → length end ≤ count
+    → length (behind_passing passes end (if test then one else (first, behind) ∷ two)) ≤ count
+length-behind_if passes true first count end behind one two h k m = h
+length-behind_if passes false first count end behind one two h k m = length-choice (passes first) (behind_passing passes behind two) end count k m
+  where
+    length-choice : (test : Bool) (left right : List ℕ) (count : ℕ) → length left ≤ count → length right ≤ count
+        → length (if test then left else right) ≤ count
+    length-choice true left right count h k = h
+    length-choice false left right count h k = k
+
+length-behind_passing : (passes : ℕ → Bool) (count : ℕ) (end text : List ℕ) → length end ≤ count → length text ≤ count
+    → length (behind_passing passes end (fronts text)) ≤ count
+unfolding fronts
+length-behind_passing passes count end [] h k = h
+length-behind_passing passes count end (first ∷ []) h k =
+    length-behind_if passes false first count end [] [] [] h (omega arith) h
+length-behind_passing passes count end (first ∷ second ∷ text) h k =
+    length-behind_if passes ((first == BACKSLASH) && (second == NEWLINE)) first count end (second ∷ text) (fronts text)
+    (fronts (second ∷ text)) (length-behind_passing passes count end text h (omega arith))
+    (length-behind_passing passes count (second ∷ text) (second ∷ text) (omega arith) (omega arith)) h
+
+pub length-behind_run : (passes : ℕ → Bool) (text : List ℕ) → length (behind_run passes text) ≤ length text
+unfolding behind_run
+length-behind_run passes text = length-behind_passing passes (length text) text text (omega arith) (omega arith)

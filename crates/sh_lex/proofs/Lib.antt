@@ -1,4 +1,6 @@
 pub mod Fronts
+pub mod PlaceLemmas
+pub mod HeadLemmas
 pub mod Shrinking
 pub mod Shorter
 pub mod Stacks
@@ -6,3 +8,6 @@ pub mod Readings
 pub mod Scripts
 pub mod Markings
 pub mod Marked
+pub mod OrderLemmas
+pub mod KeepsLemmas
+pub mod StandLemmas

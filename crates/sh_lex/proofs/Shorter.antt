@@ -1,38 +1,25 @@
 -- A step never gives back more text than it was given.
 use Rattle.std.proofs.Common.{◌≡◌, ℕ, Bool, true, false, not, Option, None, Some, ◌<◌, ◌≤◌, ◌+◌, List, [], ◌∷◌, ◌==◌, ◌&&◌, if◌then◌else◌, length, drop, refl, ap, arith, rules, length-drop}
 use Rattle.sh_lex.specs.Bytes.{is_digit, ends_word}
-use Rattle.sh_lex.specs.Texts.{unspliced, behind_quote, behind_comment, behind_backslash}
+use Rattle.sh_lex.specs.Texts.{unspliced, behind_run, behind_quote, behind_comment, behind_backslash}
 use Rattle.sh_lex.specs.Acts.{Act, Found, nothing, gap, open_parenthesis, close_parenthesis, token, word, offence}
-use Rattle.sh_lex.specs.Numbers.{digits_end, number_at, after_digit}
+use Rattle.sh_lex.specs.Numbers.{number_at, after_digit}
 use Rattle.sh_lex.specs.Operators.{and_at, pipe_at, semi_at, less_at, great_at, delimiter, lexeme_at, lexeme}
 use Rattle.sh_lex.specs.Dollars.{opening, substitution, parenthesis, dollar_at, after_dollar, name_at}
 use Rattle.sh_lex.specs.DoubleQuotes.{double_quotes_at}
-use Rattle.sh_lex.specs.Braces.{single_quotes, quote_in_braces, backslash_in_braces, braces_at, braces_word_at, operator_at, head_at, brace_head_at}
+use Rattle.sh_lex.specs.Heads.{Head, whole, with_word, no_form, trims, brace_head}
+use Rattle.sh_lex.specs.Braces.{single_quotes, quote_in_braces, backslash_in_braces, braces_at, braces_word_at, head_at}
 use Rattle.sh_lex.specs.Arithmetic.{expression_at, closing_at, arithmetic_at, parentheses_at}
 use Rattle.sh_lex.specs.Commands.{word_at, word_begin, between_at, word_end, in_word, in_commands}
 use Rattle.sh_lex.specs.Reads.{act}
 use Rattle.sh_lex.proofs.Shrinking.{Shrinks, BeginsWord, LeavesLess}
-use Rattle.sh_lex.specs.declared.bytes.TheConstants.{BACKSLASH, NEWLINE}
+use Rattle.sh_lex.proofs.Fronts.{length-unspliced, length-behind_run}
+use Rattle.sh_lex.proofs.HeadLemmas.{Stays, stays_whole, stays_word, stays_none, brace_head-Stays}
 use Rattle.sh_lex.specs.declared.parts.Nest.{Nest}
 use Rattle.sh_lex.specs.declared.parts.Part.{Part}
 use Rattle.sh_lex.specs.declared.parts.Spot.{Spot}
-use Rattle.sh_lex.specs.declared.parts.Head.{Head}
 use Rattle.sh_lex.specs.declared.parts.Part.TheVariants as part
 use Rattle.sh_lex.specs.declared.parts.Spot.TheVariants as spot
-use Rattle.sh_lex.specs.declared.parts.Head.TheVariants as head
-
-unspliced_pair : (a b : ℕ) (text : List ℕ) (test : Bool) → ((a == BACKSLASH) && (b == NEWLINE)) ≡ test
-    → length (unspliced text) ≤ length text → length (unspliced (a ∷ b ∷ text)) ≤ length (a ∷ b ∷ text)
-unfolding unspliced
-unspliced_pair a b text true e more = simp e (omega arith)
-unspliced_pair a b text false e more = simp e (omega arith)
-
--- removed backslash-newlines leave no more
-pub length-unspliced : (text : List ℕ) → length (unspliced text) ≤ length text
-unfolding unspliced
-length-unspliced [] = omega arith
-length-unspliced (a ∷ []) = omega arith
-length-unspliced (a ∷ b ∷ text) = unspliced_pair a b text ((a == BACKSLASH) && (b == NEWLINE)) refl (length-unspliced text)
 
 -- a choice shrinks where both sides do
 pub Shrinks-if : (count : ℕ) (test : Bool) (left right : Act) → Shrinks count left → Shrinks count right
@@ -142,37 +129,12 @@ module _ (nest : Nest) (left : ℕ) (count : ℕ) where
   braces_word-Shrinks quoted (byte ∷ rest) h =
       Shrinks-if count ((byte == 126) && not quoted) _ _ tt (braces-Shrinks quoted (byte ∷ rest) h)
 
-  operator-Shrinks : (quoted assigns : Bool) (byte : ℕ) (rest : List ℕ) → length rest < count
-      → Shrinks count (operator_at nest left quoted assigns byte rest)
-  operator-Shrinks quoted assigns byte rest h =
-      let within : length (byte ∷ rest) ≤ count = omega arith in
-      let otherwise : Shrinks count (braces_at nest left quoted (byte ∷ rest)) = braces-Shrinks quoted (byte ∷ rest) within in
-      search (Shrinks-if, otherwise, rules)
-
-  head-Shrinks : (quoted : Bool) (head : Head) (byte : ℕ) (rest : List ℕ) → length rest < count
-      → Shrinks count (head_at nest left quoted head byte rest)
-  head-Shrinks quoted head.Start byte rest h =
-      let within : length (byte ∷ rest) ≤ count = omega arith in
-      let otherwise : Shrinks count (braces_at nest left quoted (byte ∷ rest)) = braces-Shrinks quoted (byte ∷ rest) within in
-      search (Shrinks-if, otherwise, rules)
-  head-Shrinks quoted head.Name byte rest h = search (Shrinks-if, operator-Shrinks, rules)
-  head-Shrinks quoted head.Place byte rest h = search (Shrinks-if, operator-Shrinks, rules)
-  head-Shrinks quoted head.Status byte rest h = operator-Shrinks quoted false byte rest h
-  head-Shrinks quoted (head.Colon assigns) byte rest h =
-      let within : length (byte ∷ rest) ≤ count = omega arith in
-      let otherwise : Shrinks count (braces_at nest left quoted (byte ∷ rest)) = braces-Shrinks quoted (byte ∷ rest) within in
-      search (Shrinks-if, otherwise, rules)
-  head-Shrinks quoted (head.Trim sign) byte rest h =
-      let within : length (byte ∷ rest) ≤ count = omega arith in
-      let otherwise : Shrinks count (braces_word_at nest left quoted (byte ∷ rest)) = braces_word-Shrinks quoted (byte ∷ rest) within in
-      Shrinks-if count (byte == sign) _ _ h otherwise
-  head-Shrinks quoted head.Word byte rest h =
-      let within : length (byte ∷ rest) ≤ count = omega arith in braces_word-Shrinks quoted (byte ∷ rest) within
-
-  brace_head-Shrinks : (quoted : Bool) (head : Head) (text : List ℕ) → length text ≤ count
-      → Shrinks count (brace_head_at nest left quoted head text)
-  brace_head-Shrinks quoted head [] h = tt
-  brace_head-Shrinks quoted head (byte ∷ rest) h = head-Shrinks quoted head byte rest (omega arith)
+  head-Shrinks : (quoted : Bool) (text : List ℕ) (found : Head) → length text ≤ count → Stays count found
+      → Shrinks count (head_at nest left quoted text found)
+  head-Shrinks quoted text (whole what measured rest) h (stays_whole k) = k
+  head-Shrinks quoted text (with_word what by rest) h (stays_word k) =
+      braces_word-Shrinks (quoted && not (trims by)) (unspliced rest) (omega (arith, length-unspliced rest))
+  head-Shrinks quoted text no_form h stays_none = braces-Shrinks quoted (unspliced text) (omega (arith, length-unspliced text))
 
   expression-Shrinks : (self : Part) (byte : ℕ) (rest : List ℕ) → length rest < count
       → Shrinks count (expression_at nest left self byte rest)
@@ -198,29 +160,6 @@ module _ (nest : Nest) (left : ℕ) (count : ℕ) where
       let shorter : length rest < count = omega arith in
       let within : length rest ≤ count = omega arith in
       Shrinks-if count (byte == 41) _ _ within (expression-Shrinks (part.Parentheses nest left) byte rest shorter)
-
--- digits
-digits_end_if : (test : Bool) (end more : List ℕ) (count : ℕ) → length end ≤ count → length more ≤ count
-    → length (if test then more else end) ≤ count
-digits_end_if true end more count h k = k
-digits_end_if false end more count h k = h
-
-digits_end_pair : (end : List ℕ) (a b : ℕ) (text : List ℕ) (count : ℕ) (test : Bool) → ((a == BACKSLASH) && (b == NEWLINE)) ≡ test
-    → length (digits_end end text) ≤ count → length (digits_end (b ∷ text) (b ∷ text)) ≤ count → length end ≤ count
-    → length (digits_end end (a ∷ b ∷ text)) ≤ count
-unfolding digits_end
-digits_end_pair end a b text count true e h k m = simp e h
-digits_end_pair end a b text count false e h k m = simp e (digits_end_if (is_digit a) end (digits_end (b ∷ text) (b ∷ text)) count m k)
-
-pub length-digits_end : (end text : List ℕ) (count : ℕ) → length end ≤ count → length text ≤ count
-    → length (digits_end end text) ≤ count
-unfolding digits_end
-length-digits_end end [] count h k = h
-length-digits_end end (a ∷ []) count h k = digits_end_if (is_digit a) end [] count h (omega arith)
-length-digits_end end (a ∷ b ∷ text) count h k =
-    digits_end_pair end a b text count ((a == BACKSLASH) && (b == NEWLINE)) refl
-    (length-digits_end end text count h (omega arith))
-    (length-digits_end (b ∷ text) (b ∷ text) count (omega arith) (omega arith)) h
 
 -- what begins at a text, whose first byte is `byte`
 module _ (text : List ℕ) (byte : ℕ) (rest : List ℕ) (begins : unspliced text ≡ byte ∷ rest) where
@@ -277,11 +216,8 @@ module _ (text : List ℕ) (byte : ℕ) (rest : List ℕ) (begins : unspliced te
 
     digit-LeavesLess : LeavesLess text (after_digit byte rest)
     digit-LeavesLess =
-        number-LeavesLess (length rest + 1) (length (digits_end rest rest) == length rest) (digits_end rest rest)
-        (unspliced (digits_end rest rest))
-        (let within : length (digits_end rest rest) ≤ length rest
-        = length-digits_end rest rest (length rest) (omega arith) (omega arith) in
-        omega (arith, within, rest_shorter))
+        number-LeavesLess (length rest + 1) (length (behind_run is_digit rest) == length rest) (behind_run is_digit rest)
+        (unspliced (behind_run is_digit rest)) (omega (arith, length-behind_run is_digit rest, rest_shorter))
 
     other-LeavesLess : LeavesLess text
         (if byte == 35 then gap (behind_comment rest) else if is_digit byte then after_digit byte rest else word)
@@ -357,8 +293,8 @@ act-Shrinks (part.Commands nest opened at) text = commands-Shrinks nest (length 
 act-Shrinks part.Name text = name-Shrinks (length text) text (unspliced text) (omega arith) (length-unspliced text)
 act-Shrinks (part.DoubleQuotes nest left) text =
     double_quotes-Shrinks nest left (length text) (unspliced text) (length-unspliced text)
-act-Shrinks (part.BraceHead nest left quoted head) text =
-    brace_head-Shrinks nest left (length text) quoted head (unspliced text) (length-unspliced text)
+act-Shrinks (part.BraceHead nest left quoted) text =
+    head-Shrinks nest left (length text) quoted text (brace_head text) (omega arith) (brace_head-Stays (length text) text (omega arith))
 act-Shrinks (part.Braces nest left quoted) text =
     braces-Shrinks nest left (length text) quoted (unspliced text) (length-unspliced text)
 act-Shrinks (part.Arithmetic nest left) text =

@@ -2,20 +2,17 @@
 -- inner expansion. `quoted` says that quotes work as inside double quotes: there `'` is ordinary, `"` opens a string of its own
 -- and a backslash quotes `}` too. The words of `%`, `%%`, `#` and `##` are never quoted from outside. In a `${ }` that has none
 -- of the forms of an expansion quotes work as in `:-`.
-use Rattle.std.specs.Prelude.{ℕ, Bool, true, false, not, List, [], ◌∷◌, ◌+◌, ◌==◌, ◌||◌, ◌&&◌, if◌then◌else◌, length, drop}
+use Rattle.std.specs.Prelude.{ℕ, Bool, true, false, not, List, [], ◌∷◌, ◌+◌, ◌==◌, ◌&&◌, if◌then◌else◌, length, drop}
 use Rattle.std.specs.declared.option.Option.{Option}
 use Rattle.std.specs.declared.option.Option.TheVariants.{None, Some}
-use Rattle.ps_lines.specs.Bytes.{is_name_start, is_name_byte}
-use Rattle.sh_lex.specs.Bytes.{is_digit}
 use Rattle.sh_lex.specs.Texts.{unspliced, behind_quote, behind_backslash}
 use Rattle.sh_lex.specs.Acts.{Act, goes, enters, ends, offends}
 use Rattle.sh_lex.specs.Dollars.{after_dollar}
-use Rattle.sh_lex.specs.declared.bytes.TheConstants.{DOUBLE_QUOTE, BACKQUOTE, DOLLAR, BACKSLASH, QUOTE, CLOSE_BRACE, COLON, DASH, QUESTION, PLUS, EQUALS, PERCENT, HASH, TILDE}
+use Rattle.sh_lex.specs.Heads.{Head, whole, with_word, no_form, trims, brace_head}
+use Rattle.sh_lex.specs.declared.bytes.TheConstants.{DOUBLE_QUOTE, BACKQUOTE, DOLLAR, BACKSLASH, QUOTE, CLOSE_BRACE, TILDE}
 use Rattle.sh_lex.specs.declared.parts.Nest.{Nest}
-use Rattle.sh_lex.specs.declared.parts.Head.{Head}
 use Rattle.sh_lex.specs.declared.parts.Part.{Part}
 use Rattle.sh_lex.specs.declared.parts.Part.TheVariants as part
-use Rattle.sh_lex.specs.declared.parts.Head.TheVariants as head
 use Rattle.sh_lex.specs.declared.parts.Fault.TheVariants as fault
 use Rattle.sh_lex.specs.declared.parts.Spelling.TheVariants as spelling
 
@@ -54,44 +51,12 @@ braces_word_at nest left quoted (byte ∷ rest) =
     if (byte == TILDE) && not quoted then offends (fault.Spelled spelling.Tilde (length rest + 1))
     else braces_at nest left quoted (byte ∷ rest)
 
--- the operators that assign, test or replace; only a name can be assigned
-abbrev pub is_operator : Bool → ℕ → Bool
-is_operator assigns byte =
-    (byte == DASH) || (byte == QUESTION) || (byte == PLUS) || ((byte == EQUALS) && assigns)
+-- the beginning: behind a form without a word it has ended, and a word begins behind an operator. What has no form has quotes as in `:-`
+-- (own)
+abbrev pub head_at : Nest → ℕ → Bool → List ℕ → Head → Act
+head_at nest left quoted text (whole what measured rest) = ends rest
+head_at nest left quoted text (with_word what by rest) = braces_word_at nest left (quoted && not (trims by)) (unspliced rest)
+head_at nest left quoted text no_form = in_braces nest left quoted text
 
--- behind a parameter
-abbrev pub operator_at : Nest → ℕ → Bool → Bool → ℕ → List ℕ → Act
-operator_at nest left quoted assigns byte rest =
-    if byte == COLON then goes (part.BraceHead nest left quoted (head.Colon assigns)) rest
-    else if is_operator assigns byte then goes (part.BraceHead nest left quoted head.Word) rest
-    else if (byte == PERCENT) || (byte == HASH) then goes (part.BraceHead nest left false (head.Trim byte)) rest
-    else braces_at nest left quoted (byte ∷ rest)
-
--- the parameter and the operator, up to the word
-abbrev pub head_at : Nest → ℕ → Bool → Head → ℕ → List ℕ → Act
-head_at nest left quoted head.Start byte rest =
-    if is_name_start byte then goes (part.BraceHead nest left quoted head.Name) rest
-    else if is_digit byte then goes (part.BraceHead nest left quoted head.Place) rest
-    else if byte == QUESTION then goes (part.BraceHead nest left quoted head.Status) rest
-    else braces_at nest left quoted (byte ∷ rest)
-head_at nest left quoted head.Name byte rest =
-    if is_name_byte byte then goes (part.BraceHead nest left quoted head.Name) rest
-    else operator_at nest left quoted true byte rest
-head_at nest left quoted head.Place byte rest =
-    if is_digit byte then goes (part.BraceHead nest left quoted head.Place) rest
-    else operator_at nest left quoted false byte rest
-head_at nest left quoted head.Status byte rest = operator_at nest left quoted false byte rest
-head_at nest left quoted (head.Colon assigns) byte rest =
-    if is_operator assigns byte then goes (part.BraceHead nest left quoted head.Word) rest
-    else braces_at nest left quoted (byte ∷ rest)
-head_at nest left quoted (head.Trim sign) byte rest =
-    if byte == sign then goes (part.BraceHead nest left quoted head.Word) rest
-    else braces_word_at nest left quoted (byte ∷ rest)
-head_at nest left quoted head.Word byte rest = braces_word_at nest left quoted (byte ∷ rest)
-
-abbrev pub brace_head_at : Nest → ℕ → Bool → Head → List ℕ → Act
-brace_head_at nest left quoted head [] = offends (fault.UnclosedBrace left)
-brace_head_at nest left quoted head (byte ∷ rest) = head_at nest left quoted head byte rest
-
-abbrev pub in_brace_head : Nest → ℕ → Bool → Head → List ℕ → Act
-in_brace_head nest left quoted head text = brace_head_at nest left quoted head (unspliced text)
+abbrev pub in_brace_head : Nest → ℕ → Bool → List ℕ → Act
+in_brace_head nest left quoted text = head_at nest left quoted text (brace_head text)

@@ -11,7 +11,6 @@ use Rattle.sh_lex.specs.declared.parts.TheConstants.{MAX_LEVELS}
 use Rattle.sh_lex.specs.declared.parts.Nest.{Nest}
 use Rattle.sh_lex.specs.declared.parts.Part.{Part}
 use Rattle.sh_lex.specs.declared.parts.Part.TheVariants as part
-use Rattle.sh_lex.specs.declared.parts.Head.TheVariants as head
 use Rattle.sh_lex.specs.declared.parts.Spot.TheVariants as spot
 use Rattle.sh_lex.specs.declared.parts.Fault.TheVariants as fault
 use Rattle.sh_lex.specs.declared.parts.Spelling.TheVariants as spelling
@@ -49,7 +48,7 @@ dollar_at nest quoted left outer text (byte ∷ rest) =
     if byte == DOLLAR then offends (fault.Spelled spelling.DollarDollar left)
     else if byte == BANG then offends (fault.Spelled spelling.DollarBang left)
     else if byte == DASH then offends (fault.Spelled spelling.DollarDash left)
-    else if byte == OPEN_BRACE then opening nest left (part.BraceHead (inside_braces nest) left quoted head.Start) outer rest
+    else if byte == OPEN_BRACE then opening nest left (part.BraceHead (inside_braces nest) left quoted) outer rest
     else if byte == OPEN then parenthesis nest left outer rest (unspliced rest)
     else if is_name_start byte then enters part.Name outer rest
     else if is_parameter byte then goes outer rest

@@ -1,7 +1,9 @@
 pub mod Bytes
 pub mod Texts
+pub mod Runs
 pub mod Acts
 pub mod Dollars
+pub mod Heads
 pub mod DoubleQuotes
 pub mod Braces
 pub mod Arithmetic
@@ -10,6 +12,7 @@ pub mod Operators
 pub mod Commands
 pub mod Reads
 pub mod Lexes
+pub mod Laws
 pub mod Lexing
 pub mod Marks
 pub mod Marking

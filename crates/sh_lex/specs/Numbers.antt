@@ -2,29 +2,11 @@
 -- `>`, `>>` or `>&` exactly `1` or `2` (own); a longer operator isn't in the profile itself.
 use Rattle.std.specs.Prelude.{ℕ, Bool, false, List, [], ◌∷◌, ◌+◌, ◌==◌, ◌||◌, ◌&&◌, if◌then◌else◌, length}
 use Rattle.sh_lex.specs.Bytes.{is_digit}
-use Rattle.sh_lex.specs.Texts.{unspliced}
+use Rattle.sh_lex.specs.Texts.{unspliced, behind_run}
 use Rattle.sh_lex.specs.Acts.{Found, token, word, offence}
-use Rattle.sh_lex.specs.declared.bytes.TheConstants.{BACKSLASH, NEWLINE, LESS, GREAT, AND, PIPE, ZERO, ONE, TWO}
+use Rattle.sh_lex.specs.declared.bytes.TheConstants.{LESS, GREAT, AND, PIPE, ZERO, ONE, TWO}
 use Rattle.sh_lex.specs.declared.tokens.TokenKind.TheVariants as kind
 use Rattle.sh_lex.specs.declared.parts.Fault.TheVariants as fault
-
--- what is left behind the digits at the beginning of a text; `end` is what is left behind those so far
-unfoldable pub digits_end : List ℕ → List ℕ → List ℕ
-digits_end end [] = end
-digits_end end (first ∷ []) = if is_digit first then [] else end
-digits_end end (first ∷ second ∷ rest) =
-    if (first == BACKSLASH) && (second == NEWLINE) then digits_end end rest
-    else if is_digit first then digits_end (second ∷ rest) (second ∷ rest)
-    else end
-
--- the digits at the beginning of a text
-unfoldable pub leading_digits : List ℕ → List ℕ
-leading_digits [] = []
-leading_digits (first ∷ []) = if is_digit first then first ∷ [] else []
-leading_digits (first ∷ second ∷ rest) =
-    if (first == BACKSLASH) && (second == NEWLINE) then leading_digits rest
-    else if is_digit first then first ∷ leading_digits (second ∷ rest)
-    else []
 
 -- the first byte of a text is this one
 abbrev pub begins_with : ℕ → List ℕ → Bool
@@ -53,5 +35,5 @@ number_at digit left single text (byte ∷ rest) =
 -- `rest` is what is left behind the first digit
 abbrev pub after_digit : ℕ → List ℕ → Found
 after_digit digit rest =
-    number_at digit (length rest + 1) (length (digits_end rest rest) == length rest)
-    (digits_end rest rest) (unspliced (digits_end rest rest))
+    number_at digit (length rest + 1) (length (behind_run is_digit rest) == length rest)
+    (behind_run is_digit rest) (unspliced (behind_run is_digit rest))

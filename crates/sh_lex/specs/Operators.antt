@@ -2,10 +2,10 @@
 -- profile are refused (own). `left` is the number of bytes left at the operator, `text` what is left behind its first byte.
 use Rattle.std.specs.Prelude.{ℕ, Bool, true, List, [], ◌∷◌, ◌+◌, ◌==◌, ◌||◌, ◌&&◌, if◌then◌else◌, length}
 use Rattle.sh_lex.specs.Bytes.{is_digit, is_blank, ends_word}
-use Rattle.sh_lex.specs.Texts.{unspliced, behind_comment}
-use Rattle.sh_lex.specs.Numbers.{begins_with, digits_end, after_digit}
+use Rattle.sh_lex.specs.Texts.{unspliced, behind_run, behind_comment}
+use Rattle.sh_lex.specs.Numbers.{begins_with, after_digit}
 use Rattle.sh_lex.specs.Acts.{Found, nothing, gap, open_parenthesis, close_parenthesis, token, word, offence}
-use Rattle.sh_lex.specs.declared.bytes.TheConstants.{BACKSLASH, NEWLINE, LESS, GREAT, AND, PIPE, SEMI, DASH, ONE, TWO, HASH, OPEN, CLOSE}
+use Rattle.sh_lex.specs.declared.bytes.TheConstants.{NEWLINE, LESS, GREAT, AND, PIPE, SEMI, DASH, ONE, TWO, HASH, OPEN, CLOSE}
 use Rattle.sh_lex.specs.declared.tokens.Op.TheVariants as op
 use Rattle.sh_lex.specs.declared.tokens.TokenKind.TheVariants as kind
 use Rattle.sh_lex.specs.declared.parts.Fault.TheVariants as fault
@@ -39,15 +39,6 @@ less_at left text (byte ∷ rest) =
     else if byte == GREAT then offence (fault.Spelled spelling.LessGreat left)
     else token (kind.Op op.Less) text
 
--- what is left behind the blanks at the beginning of a text
-unfoldable pub behind_blanks : List ℕ → List ℕ
-behind_blanks [] = []
-behind_blanks (first ∷ []) = if is_blank first then [] else first ∷ []
-behind_blanks (first ∷ second ∷ rest) =
-    if (first == BACKSLASH) && (second == NEWLINE) then behind_blanks rest
-    else if is_blank first then behind_blanks (second ∷ rest)
-    else first ∷ second ∷ rest
-
 -- no word goes on at this text
 abbrev pub has_no_word : List ℕ → Bool
 has_no_word [] = true
@@ -56,7 +47,7 @@ has_no_word (byte ∷ rest) = ends_word byte
 -- digits that begin with `digit` are an IoNumber, or the word `1` or `2`
 abbrev pub is_number_or_target : ℕ → List ℕ → Bool
 is_number_or_target digit rest =
-    begins_with LESS (unspliced (digits_end rest rest)) || begins_with GREAT (unspliced (digits_end rest rest))
+    begins_with LESS (unspliced (behind_run is_digit rest)) || begins_with GREAT (unspliced (behind_run is_digit rest))
     || (((digit == ONE) || (digit == TWO)) && has_no_word (unspliced rest))
 
 -- no word follows, or it is `1` or `2`
@@ -72,7 +63,7 @@ great_at left text (byte ∷ rest) =
     if byte == GREAT then token (kind.Op op.DGreat) rest
     else if byte == PIPE then offence (fault.Spelled spelling.GreatPipe left)
     else if byte == AND then
-    (if is_target (behind_blanks rest) then token (kind.Op op.GreatAnd) rest
+    (if is_target (unspliced (behind_run is_blank rest)) then token (kind.Op op.GreatAnd) rest
     else offence (fault.Spelled spelling.GreatAnd left))
     else token (kind.Op op.Great) text
 

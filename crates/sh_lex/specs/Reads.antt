@@ -18,7 +18,7 @@ abbrev pub act : Part → List ℕ → Act
 act (part.Commands nest opened at) text = in_commands nest opened at text
 act part.Name text = in_name text
 act (part.DoubleQuotes nest left) text = in_double_quotes nest left text
-act (part.BraceHead nest left quoted head) text = in_brace_head nest left quoted head text
+act (part.BraceHead nest left quoted) text = in_brace_head nest left quoted text
 act (part.Braces nest left quoted) text = in_braces nest left quoted text
 act (part.Arithmetic nest left) text = in_arithmetic nest left text
 act (part.Parentheses nest left) text = in_parentheses nest left text

@@ -1,26 +1,25 @@
 //! Parameter expansions in braces (XCU 2.6.2).
 ghost use Rattle.std.specs.Prelude.{◌≡◌, ◌∷◌};
 ghost use Rattle.sh_lex.specs.Acts.{act_of};
-ghost use Rattle.sh_lex.specs.Braces.{quote_in_braces, backslash_in_braces, braces_at, in_braces, braces_word_at, is_operator, operator_at, head_at, in_brace_head};
+ghost use Rattle.sh_lex.specs.Texts.{unspliced};
+ghost use Rattle.sh_lex.specs.Braces.{quote_in_braces, backslash_in_braces, braces_at, in_braces, braces_word_at, in_brace_head};
 
 use crate::acts::Step;
-use crate::bytes::{
-    BACKQUOTE, BACKSLASH, CLOSE_BRACE, COLON, DASH, DOLLAR, DOUBLE_QUOTE, EQUALS, HASH, PERCENT,
-    PLUS, QUESTION, QUOTE, TILDE, is_digit,
-};
+use crate::bytes::{BACKQUOTE, BACKSLASH, CLOSE_BRACE, DOLLAR, DOUBLE_QUOTE, QUOTE, TILDE};
 use crate::dollars::after_dollar;
-use crate::parts::{Fault, Head, Nest, Part, Spelling};
+use crate::heads::{Head, brace_head};
+use crate::parts::{Fault, Nest, Part, Spelling};
 use crate::quotes::single_quotes;
 use crate::texts::{behind_backslash, behind_byte, front};
-use ps_lines::{is_name_byte, is_name_start};
 
 /// At the beginning of a `${ }` that opened where `left` bytes were left.
-pub fn in_brace_head(nest: Nest, left: usize, quoted: bool, head: Head, text: &[u8]) -> Step<'_>
-    ensures { act_of result ≡ in_brace_head nest left quoted head text.now }
+pub fn in_brace_head(nest: Nest, left: usize, quoted: bool, text: &[u8]) -> Step<'_>
+    ensures { act_of result ≡ in_brace_head nest left quoted text.now }
 {
-    match front(text) {
-        Some((byte, rest)) => head_at(nest, left, quoted, head, byte, rest),
-        None => Step::Offends(Fault::UnclosedBrace(left)),
+    match brace_head(text) {
+        Head::Whole(_, _, rest) => Step::Ends(rest),
+        Head::WithWord(_, by, rest) => in_word(nest, left, quoted && !by.trims(), rest),
+        Head::NoForm => in_braces(nest, left, quoted, text),
     }
 }
 
@@ -34,79 +33,17 @@ pub fn in_braces(nest: Nest, left: usize, quoted: bool, text: &[u8]) -> Step<'_>
     }
 }
 
-/// At a byte of the parameter or its operator.
-fn head_at(nest: Nest, left: usize, quoted: bool, head: Head, byte: u8, rest: &[u8]) -> Step<'_>
-    ensures { act_of result ≡ head_at nest left quoted head byte rest.now }
+/// At the word behind an operator.
+fn in_word(nest: Nest, left: usize, quoted: bool, text: &[u8]) -> Step<'_>
+    ensures { act_of result ≡ braces_word_at nest left quoted (unspliced text.now) }
 {
-    match head {
-        Head::Start if is_name_start(byte) => Step::Goes(
-            Part::BraceHead(nest, left, quoted, Head::Name),
-            rest,
-        ),
-        Head::Start if is_digit(byte) => Step::Goes(
-            Part::BraceHead(nest, left, quoted, Head::Place),
-            rest,
-        ),
-        Head::Start if byte == QUESTION => Step::Goes(
-            Part::BraceHead(nest, left, quoted, Head::Status),
-            rest,
-        ),
-        Head::Start => braces_at(nest, left, quoted, byte, rest),
-        Head::Name if is_name_byte(byte) => Step::Goes(
-            Part::BraceHead(nest, left, quoted, Head::Name),
-            rest,
-        ),
-        Head::Name => operator_at(nest, left, quoted, true, byte, rest),
-        Head::Place if is_digit(byte) => Step::Goes(
-            Part::BraceHead(nest, left, quoted, Head::Place),
-            rest,
-        ),
-        Head::Place | Head::Status => operator_at(nest, left, quoted, false, byte, rest),
-        Head::Colon(assigns) if is_operator(assigns, byte) => {
-            Step::Goes(Part::BraceHead(nest, left, quoted, Head::Word), rest)
-        }
-        Head::Colon(_) => braces_at(nest, left, quoted, byte, rest),
-        Head::Trim(sign) if byte == sign => Step::Goes(
-            Part::BraceHead(nest, left, quoted, Head::Word),
-            rest,
-        ),
-        Head::Trim(_) | Head::Word => word_at(nest, left, quoted, byte, rest),
+    match front(text) {
+        Some((byte, rest)) => word_at(nest, left, quoted, byte, rest),
+        None => Step::Offends(Fault::UnclosedBrace(left)),
     }
 }
 
-/// At the byte behind a parameter; `assigns`: it can be assigned.
-fn operator_at(
-    nest: Nest,
-    left: usize,
-    quoted: bool,
-    assigns: bool,
-    byte: u8,
-    rest: &[u8],
-) -> Step<'_>
-    ensures { act_of result ≡ operator_at nest left quoted assigns byte rest.now }
-{
-    if byte == COLON {
-        Step::Goes(
-            Part::BraceHead(nest, left, quoted, Head::Colon(assigns)),
-            rest,
-        )
-    } else if is_operator(assigns, byte) {
-        Step::Goes(Part::BraceHead(nest, left, quoted, Head::Word), rest)
-    } else if byte == PERCENT || byte == HASH {
-        Step::Goes(Part::BraceHead(nest, left, false, Head::Trim(byte)), rest)
-    } else {
-        braces_at(nest, left, quoted, byte, rest)
-    }
-}
-
-/// Whether the byte is an operator that assigns, tests or replaces.
-fn is_operator(assigns: bool, byte: u8) -> bool
-    ensures { result ≡ is_operator assigns byte }
-{
-    byte == DASH || byte == QUESTION || byte == PLUS || (byte == EQUALS && assigns)
-}
-
-/// At the first byte behind an operator.
+/// At the first byte of that word.
 fn word_at(nest: Nest, left: usize, quoted: bool, byte: u8, rest: &[u8]) -> Step<'_>
     ensures { act_of result ≡ braces_word_at nest left quoted (byte ∷ rest.now) }
 {

@@ -6,7 +6,7 @@ ghost use Rattle.sh_lex.specs.Dollars.{opening, substitution, parenthesis, after
 
 use crate::acts::Step;
 use crate::bytes::{BANG, DASH, DOLLAR, OPEN, OPEN_BRACE, is_parameter};
-use crate::parts::{Fault, Head, MAX_LEVELS, Nest, Part, Spelling, Spot};
+use crate::parts::{Fault, MAX_LEVELS, Nest, Part, Spelling, Spot};
 use crate::texts::front;
 use ps_lines::{is_name_byte, is_name_start};
 
@@ -31,7 +31,7 @@ pub fn after_dollar(nest: Nest, quoted: bool, left: usize, outer: Part, text: &[
 
 /// Behind a `${`.
 fn braces(nest: Nest, quoted: bool, left: usize, outer: Part, rest: &[u8]) -> Step<'_>
-    ensures { act_of result ≡ opening nest left (Part.BraceHead (inside_braces nest) left quoted Head.Start) outer rest.now }
+    ensures { act_of result ≡ opening nest left (Part.BraceHead (inside_braces nest) left quoted) outer rest.now }
 {
     if is_full(nest) {
         return Step::Offends(Fault::TooDeep(left));
@@ -40,11 +40,7 @@ fn braces(nest: Nest, quoted: bool, left: usize, outer: Part, rest: &[u8]) -> St
         levels: nest.levels + 1,
         in_braces: true,
     };
-    Step::Enters(
-        Part::BraceHead(inside, left, quoted, Head::Start),
-        outer,
-        rest,
-    )
+    Step::Enters(Part::BraceHead(inside, left, quoted), outer, rest)
 }
 
 /// Behind a `$(`, with what is left behind it.

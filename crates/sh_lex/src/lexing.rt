@@ -1,18 +1,17 @@
 //! The scan over a script.
 ghost use Rattle.std.specs.Prelude.{◌≡◌, ℕ, ◌≤◌, ◌-◌, length, Ok, IfOk, IfErr};
 ghost use Rattle.sh_lex.specs.Texts.{unspliced};
-ghost use Rattle.sh_lex.specs.Numbers.{leading_digits};
 ghost use Rattle.sh_lex.specs.Lexes.{HasTokens, Tokens, token_between, spelled, told};
 ghost use Rattle.sh_lex.specs.Lexing.{Advances, StopsAt, Refuses};
 
 mod marks;
 
 use crate::acts::Lexeme;
-use crate::bytes::is_digit;
 use crate::operators::lexeme;
 use crate::parts::{Fault, Nest, Part, Spelling, Spot};
 use crate::reading::{Stop, past_construct};
 use crate::refusals::{LexRefusal, Static};
+use crate::runs::{Class, run};
 use crate::texts::front;
 use crate::tokens::{Op, Token, TokenKind};
 pub use marks::{Mark, read_marks};
@@ -135,7 +134,11 @@ fn told(alloc: Global, text: &[u8], fault: Fault) -> Result<Static, Memory>
             Ok(Static::OutOfProfile(spelled, offset(text, left)))
         }
         Fault::Number(left) => {
-            let digits = leading_digits(alloc, &text[text.len().saturating_sub(left)..])?;
+            let digits = run(
+                alloc,
+                Class::Digit,
+                &text[text.len().saturating_sub(left)..],
+            )?;
             let spelled = Text::copy_of(alloc, digits.as_slice())?;
             Ok(Static::OutOfProfile(spelled, offset(text, left)))
         }
@@ -148,23 +151,6 @@ fn offset(text: &[u8], left: usize) -> u32
     ensures { result ≡ length text.now - left }
 {
     text.len().saturating_sub(left) as u32
-}
-
-/// The digits at the beginning of the text.
-#[tactic(auto, using(crate::proofs::Fronts::spelled_digits))]
-fn leading_digits(alloc: Global, text: &[u8]) -> Result<Vec<u8>, Memory>
-    ensures { IfOk result (λ digits. digits.items ≡ leading_digits text.now) }
-{
-    let mut digits = Vec::new(alloc);
-    let mut rest = text;
-    while let Some((byte, after)) = front(rest) {
-        if !is_digit(byte) {
-            return Ok(digits);
-        }
-        digits.push(byte)?;
-        rest = after;
-    }
-    Ok(digits)
 }
 
 /// The bytes of a spelling that isn't in the profile.

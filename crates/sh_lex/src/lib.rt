@@ -6,7 +6,8 @@
 //! their place.
 //!
 //! `specs/` says what a token is: `Lexes` and `Offence` in `Lexes.antt`, marks in `Marks.antt`, and each construct in a file of its
-//! own.
+//! own; how tokens stand in a text, in words of its own, is in `Laws.antt`. `brace_head`, `behind_run`, `run`, `front` and
+//! `past_construct` are for whoever reads the inside of words.
 #![tactic(auto)]
 
 mod acts;
@@ -14,6 +15,7 @@ mod arithmetic;
 mod braces;
 mod bytes;
 mod dollars;
+mod heads;
 pub mod laws;
 mod lexing;
 mod numbers;
@@ -22,6 +24,7 @@ mod parts;
 mod quotes;
 mod reading;
 mod refusals;
+mod runs;
 #[cfg(test)]
 mod tests;
 mod texts;
@@ -29,9 +32,11 @@ mod tokens;
 mod words;
 
 pub use bytes::{is_digit, is_quoted_escape};
+pub use heads::{Head, Operator, Parameter, brace_head};
 pub use lexing::{MAX_SCRIPT, Mark, lex, read_marks};
-pub use parts::{Fault, Head, Nest, Part, Spelling, Spot};
+pub use parts::{Fault, Nest, Part, Spelling, Spot};
 pub use reading::{Stop, past_construct};
 pub use refusals::{LexRefusal, Static};
+pub use runs::{Class, behind_run, run};
 pub use texts::front;
 pub use tokens::{Op, Token, TokenKind};

@@ -1,12 +1,13 @@
 //! IoNumbers: digits directly before `<` or `>` (XCU 2.10.1 rule 2).
 ghost use Rattle.std.specs.Prelude.{◌≡◌, ◌≤◌, ◌<◌, length, Bool, MatchOption, IfOk};
 ghost use Rattle.sh_lex.specs.Texts.{unspliced};
-ghost use Rattle.sh_lex.specs.Numbers.{begins_with, digits_end, leading_digits, fits_less, fits_great, number_at, after_digit};
+ghost use Rattle.sh_lex.specs.Numbers.{begins_with, fits_less, fits_great, number_at, after_digit};
 ghost use Rattle.sh_lex.specs.Acts.{found_of};
 
 use crate::acts::Lexeme;
-use crate::bytes::{AND, GREAT, LESS, ONE, PIPE, TWO, ZERO, is_digit};
+use crate::bytes::{AND, GREAT, LESS, ONE, PIPE, TWO, ZERO};
 use crate::parts::Fault;
+use crate::runs::{Class, behind_run};
 use crate::texts::front;
 use crate::tokens::TokenKind;
 
@@ -18,22 +19,6 @@ pub fn begins_with(wanted: u8, text: &[u8]) -> bool
         Some((byte, _)) => byte == wanted,
         None => false,
     }
-}
-
-/// What is left behind the digits at the beginning of the text.
-#[tactic(auto, using(crate::proofs::Fronts::digits))]
-pub fn digits_end(text: &[u8]) -> &[u8]
-    ensures digits { result.now ≡ digits_end text.now text.now }
-    ensures within { length result.now ≤ length text.now }
-{
-    let mut end = text;
-    while let Some((byte, after)) = front(end) {
-        if !is_digit(byte) {
-            break;
-        }
-        end = after;
-    }
-    end
 }
 
 /// Whether digits fit an operator that begins with `<`, `behind` being what is left behind that byte.
@@ -57,7 +42,7 @@ fn fits_great(digit: u8, single: bool, behind: &[u8]) -> bool
 pub fn after_digit(digit: u8, rest: &[u8]) -> Lexeme<'_>
     ensures found { found_of result ≡ after_digit digit rest.now }
 {
-    let end = digits_end(rest);
+    let end = behind_run(Class::Digit, rest);
     let single = end.len() == rest.len();
     let left = rest.len() + 1;
     let Some((byte, behind)) = front(end) else {

@@ -1,16 +1,16 @@
 //! What begins where a token may begin: operators, gaps, IoNumbers (XCU 2.3, 2.10.2).
 ghost use Rattle.std.specs.Prelude.{◌≡◌, ◌≤◌, length};
 ghost use Rattle.sh_lex.specs.Texts.{unspliced};
-ghost use Rattle.sh_lex.specs.Operators.{and_at, pipe_at, semi_at, less_at, great_at, delimiter, behind_blanks, has_no_word, is_number_or_target, is_target, lexeme};
+ghost use Rattle.sh_lex.specs.Operators.{and_at, pipe_at, semi_at, less_at, great_at, delimiter, has_no_word, is_number_or_target, is_target, lexeme};
 ghost use Rattle.sh_lex.specs.Acts.{found_of};
 
 use crate::acts::Lexeme;
 use crate::bytes::{
-    AND, CLOSE, DASH, GREAT, HASH, LESS, NEWLINE, ONE, OPEN, PIPE, SEMI, TWO, ends_word, is_blank,
-    is_digit,
+    AND, CLOSE, DASH, GREAT, HASH, LESS, NEWLINE, ONE, OPEN, PIPE, SEMI, TWO, ends_word, is_digit,
 };
-use crate::numbers::{after_digit, begins_with, digits_end};
+use crate::numbers::{after_digit, begins_with};
 use crate::parts::{Fault, Spelling};
+use crate::runs::{Class, behind_run};
 use crate::texts::{behind_comment, front};
 use crate::tokens::{Op, TokenKind};
 
@@ -110,25 +110,13 @@ fn great_at(left: usize, text: &[u8]) -> Lexeme<'_>
     match byte {
         GREAT => Lexeme::Token(TokenKind::Op(Op::DGreat), rest),
         PIPE => Lexeme::Offence(Fault::Spelled(Spelling::GreatPipe, left)),
-        AND if is_target(behind_blanks(rest)) => Lexeme::Token(TokenKind::Op(Op::GreatAnd), rest),
+        AND if is_target(behind_run(Class::Blank, rest)) => Lexeme::Token(
+            TokenKind::Op(Op::GreatAnd),
+            rest,
+        ),
         AND => Lexeme::Offence(Fault::Spelled(Spelling::GreatAnd, left)),
         _ => Lexeme::Token(TokenKind::Op(Op::Great), text),
     }
-}
-
-/// What is left behind the blanks at the beginning of the text, and behind removed backslash-newlines there.
-#[tactic(auto, using(crate::proofs::Fronts::blanks))]
-fn behind_blanks(text: &[u8]) -> &[u8]
-    ensures { behind_blanks text.now ≡ unspliced result.now }
-{
-    let mut rest = text;
-    while let Some((byte, after)) = front(rest) {
-        if !is_blank(byte) {
-            break;
-        }
-        rest = after;
-    }
-    rest
 }
 
 /// Whether no word stands at the text, or the word `1` or `2`.
@@ -147,7 +135,7 @@ fn is_target(text: &[u8]) -> bool
 fn is_number_or_target(digit: u8, rest: &[u8]) -> bool
     ensures { result ≡ is_number_or_target digit rest.now }
 {
-    let end = digits_end(rest);
+    let end = behind_run(Class::Digit, rest);
     begins_with(LESS, end)
         || begins_with(GREAT, end)
         || ((digit == ONE || digit == TWO) && has_no_word(rest))

@@ -29,25 +29,6 @@ pub enum Spot {
     Elsewhere,
 }
 
-/// How far the beginning of a `${ }` has come, up to the word behind its operator (XCU 2.6.2).
-#[derive(Clone, Copy, Debug)]
-pub enum Head {
-    /// Behind the `${`.
-    Start,
-    /// In a name.
-    Name,
-    /// In the digits of a place.
-    Place,
-    /// Behind a `?`.
-    Status,
-    /// Behind the `:` of an operator, with whether the parameter can be assigned.
-    Colon(bool),
-    /// Behind the first `%` or `#` of an operator, which is this byte.
-    Trim(u8),
-    /// At the word behind an operator.
-    Word,
-}
-
 /// A construct that is open. An offset is told as the number of bytes that are left there, the byte at it included.
 #[derive(Clone, Copy, Debug)]
 pub enum Part {
@@ -57,8 +38,8 @@ pub enum Part {
     Name,
     /// Double quotes, with where they opened.
     DoubleQuotes(Nest, usize),
-    /// The beginning of a `${ }`, with where it opened and whether its word is in double quotes.
-    BraceHead(Nest, usize, bool, Head),
+    /// The beginning of a `${ }`, with where it opened and whether it is in double quotes.
+    BraceHead(Nest, usize, bool),
     /// The rest of a `${ }`, with where it opened and whether it is in double quotes.
     Braces(Nest, usize, bool),
     /// A `$(( ))`, with where it opened.

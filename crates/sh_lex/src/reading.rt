@@ -62,7 +62,7 @@ pub fn step(part: Part, text: &[u8]) -> Step<'_>
         Part::Commands(nest, opened, spot) => in_commands(nest, opened, spot, text),
         Part::Name => in_name(text),
         Part::DoubleQuotes(nest, left) => in_double_quotes(nest, left, text),
-        Part::BraceHead(nest, left, quoted, head) => in_brace_head(nest, left, quoted, head, text),
+        Part::BraceHead(nest, left, quoted) => in_brace_head(nest, left, quoted, text),
         Part::Braces(nest, left, quoted) => in_braces(nest, left, quoted, text),
         Part::Arithmetic(nest, left) => in_arithmetic(nest, left, text),
         Part::Parentheses(nest, left) => in_parentheses(nest, left, text),

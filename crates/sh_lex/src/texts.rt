@@ -6,7 +6,7 @@ use crate::bytes::{BACKSLASH, CLOSE_BRACE, NEWLINE, QUOTE, is_quoted_escape};
 
 /// The first byte of the text and what is left behind it, where a backslash-newline is removed (XCU 2.2.1).
 #[inline]
-#[tactic(auto, unfolding(crate::specs::Texts::unspliced))]
+#[tactic(auto, unfolding(crate::specs::Texts::unspliced, crate::specs::Texts::fronts))]
 pub fn front(text: &[u8]) -> Option<(u8, &[u8])>
     ensures front { MatchOption result (unspliced text.now ≡ []) (λ r. unspliced text.now ≡ r.0 ∷ r.1.now) }
     ensures shorter { IfSome result (λ r. length r.1.now < length text.now) }
@@ -23,7 +23,7 @@ pub fn front(text: &[u8]) -> Option<(u8, &[u8])>
 
 /// What is left behind a backslash-newline.
 #[inline]
-#[tactic(auto, unfolding(crate::specs::Texts::unspliced))]
+#[tactic(auto, unfolding(crate::specs::Texts::unspliced, crate::specs::Texts::fronts))]
 fn spliced(first: u8, after: &[u8]) -> Option<&[u8]>
     ensures spliced { MatchOption result (unspliced (first ∷ after.now) ≡ first ∷ after.now)
         (λ behind. unspliced (first ∷ after.now) ≡ unspliced behind.now) }

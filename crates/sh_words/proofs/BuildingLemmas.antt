@@ -3,7 +3,8 @@ use Rattle.std.proofs.Common.{◌≡◌, ℕ, Bool, true, false, List, [], ◌�
 use Rattle.sh_tree.specs.Trees.{WordTree, no_part, part, PartTree, plain, quoted, parameter, substitution, arithmetic, check}
 use Rattle.sh_words.specs.Pieces.{before, literal}
 use Rattle.sh_words.specs.Parameters.{check_form}
-use Rattle.sh_words.specs.Built.{part_tree, trees_onto, run_onto, run_ended, is_expansion}
+use Rattle.sh_tree.specs.Views.{part_tree}
+use Rattle.sh_words.specs.Built.{trees_onto, run_onto, run_ended, is_expansion}
 use Rattle.sh_tree.specs.declared.words.Part.{Part}
 
 -- two runs of bytes of the same quoting

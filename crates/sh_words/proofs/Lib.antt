@@ -1,4 +1,3 @@
-pub mod RunLemmas
 pub mod BuildingLemmas
 pub mod Shrinking
 pub mod ReadLemmas

@@ -3,13 +3,14 @@ use Rattle.std.proofs.Common.{◌≡◌, ℕ, zero, suc, Bool, not, ◌&&◌, �
 use Rattle.std.specs.Option.{option_map, option_or}
 use Rattle.sh_tree.specs.Trees.{WordTree, PartTree, parameter, substitution, arithmetic}
 use Rattle.sh_tree.specs.declared.words.Param.{Param}
-use Rattle.sh_words.specs.Parameters.{whole, with_word, commands, arithmetic_text, no_form, expansion, trims, bare_form, form_of}
+use Rattle.sh_lex.specs.Heads.{trims}
+use Rattle.sh_words.specs.Parameters.{whole, with_word, commands, arithmetic_text, no_form, expansion, bare_form, form_of}
 use Rattle.sh_words.specs.Words.{Outcome, done, Made, made, Passes, in_commands, in_braces, behind_byte, ReadsBehind, ReadsPieces, ReadsExpansion, is_parameter, is_substitution, has_word, has_arithmetic, has_no_form, word_too_deep, arithmetic_too_deep}
 use Rattle.sh_words.specs.declared.steps.Owner.TheVariants as owner
 use Rattle.sh_words.specs.declared.steps.Mode.TheVariants as mode
 use Rattle.sh_words.specs.declared.steps.Owner.{Owner}
 use Rattle.sh_words.specs.declared.reading.TheConstants.{MAX_LEVELS}
-use Rattle.sh_words.specs.declared.expansions.Operator.{Operator}
+use Rattle.sh_lex.specs.declared.Operator.{Operator}
 
 -- one level is open less in a word, and in an arithmetic expansion
 one_below : (most : ℕ) → (most ≡ 0 → ⊥) → most ≡ suc (most - 1)

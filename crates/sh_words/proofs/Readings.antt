@@ -5,17 +5,18 @@ use Rattle.sh_tree.specs.declared.words.Param.{Param}
 use Rattle.sh_lex.specs.Reads as lex
 use Rattle.sh_lex.specs.Texts.{unspliced}
 use Rattle.sh_lex.specs.declared.Part.{Part}
-use Rattle.sh_lex.proofs.Shorter.{length-unspliced}
+use Rattle.sh_lex.proofs.Fronts.{length-unspliced}
 use Rattle.sh_lex.proofs.Readings as lexed
 use Rattle.sh_words.specs.Built.{open_in}
 use Rattle.sh_words.specs.Steps.{Step, ends, passes, gives, expands, step}
-use Rattle.sh_words.specs.Parameters.{Expansion, whole, with_word, commands, arithmetic_text, no_form, expansion, trims, bare_form}
+use Rattle.sh_lex.specs.Heads.{trims}
+use Rattle.sh_words.specs.Parameters.{Expansion, whole, with_word, commands, arithmetic_text, no_form, expansion, bare_form}
 use Rattle.sh_words.specs.Words.{Outcome, done, Made, made, onto, found_onto, with_form, calculated, Passes, in_commands, in_braces, behind_byte, left_by, word_outcome, ReadsBehind, HasOneOutcome, ReadsPieces, has_ended, passes_on, gives_piece, expands_to, ReadsExpansion, is_parameter, is_substitution, has_word, has_arithmetic, has_no_form, word_too_deep, arithmetic_too_deep}
 use Rattle.sh_words.proofs.Shrinking.{Shrinks, at_end, at_quote, at_piece, at_dollar, step-Shrinks, Stays, in_whole, in_word, in_tokens, in_text, expansion-Stays}
 use Rattle.sh_words.specs.declared.steps.Owner.TheVariants as owner
 use Rattle.sh_words.specs.declared.steps.Mode.{Mode}
 use Rattle.sh_words.specs.declared.steps.Mode.TheVariants as mode
-use Rattle.sh_words.specs.declared.expansions.Operator.{Operator}
+use Rattle.sh_lex.specs.declared.Operator.{Operator}
 use Rattle.sh_words.specs.declared.reading.TheConstants.{MAX_LEVELS}
 
 -- at most so many bytes are left, and the numbers don't fall

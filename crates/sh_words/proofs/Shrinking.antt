@@ -1,16 +1,17 @@
 -- A step leaves less of the text unless what it stands in has ended, and an expansion leaves no more than it was given.
-use Rattle.std.proofs.Common.{ℕ, Bool, true, false, Option, None, Some, ◌<◌, ◌≤◌, ◌+◌, List, [], ◌∷◌, ◌==◌, ◌&&◌, if◌then◌else◌, length, arith, rules}
+use Rattle.std.proofs.Common.{ℕ, Bool, true, false, ◌<◌, ◌≤◌, ◌+◌, List, [], ◌∷◌, if◌then◌else◌, length, arith, rules}
 use Rattle.ps_lines.specs.Bytes.{is_name_byte}
-use Rattle.sh_lex.specs.Bytes.{is_digit}
-use Rattle.sh_lex.specs.Texts.{unspliced}
-use Rattle.sh_lex.proofs.Shorter.{length-unspliced}
-use Rattle.sh_lex.specs.declared.bytes.TheConstants.{BACKSLASH, NEWLINE}
+use Rattle.sh_lex.specs.Texts.{unspliced, behind_run}
+use Rattle.sh_lex.specs.Heads as head
+use Rattle.sh_lex.specs.Heads.{Head, brace_head}
+use Rattle.sh_lex.proofs.Fronts.{length-unspliced, length-behind_run}
+use Rattle.sh_lex.proofs.HeadLemmas as in_head
 use Rattle.sh_tree.specs.Trees.{PartTree}
 use Rattle.sh_tree.specs.declared.words.Param.{Param}
 use Rattle.sh_words.specs.Built.{open_in}
 use Rattle.sh_words.specs.Steps.{Step, ends, passes, gives, expands, dollar, opened, backslash, escape, unquoted_at, in_quotes_at, word_at, double_quotes_at, single_quotes_at, closing_at, parenthesis_closed, arithmetic_at, step}
-use Rattle.sh_words.specs.Parameters.{Expansion, whole, with_word, commands, arithmetic_text, no_form, run_end, behind_run, closing_brace, operator_at, colon_at, suffix_at, prefix_at, form_at, placed, parameter_at, measured_at, hash_at, formed_at, braces_at, parenthesis_at, expansion_at, expansion}
-use Rattle.sh_words.specs.declared.expansions.Operator.{Operator}
+use Rattle.sh_words.specs.Parameters.{Expansion, whole, with_word, commands, arithmetic_text, no_form, braced, parenthesis_at, expansion_at, expansion}
+use Rattle.sh_lex.specs.declared.Operator.{Operator}
 use Rattle.sh_words.specs.declared.steps.Owner.{Owner}
 use Rattle.sh_words.specs.declared.steps.Owner.TheVariants as owner
 use Rattle.sh_words.specs.declared.steps.Mode.{Mode}
@@ -36,9 +37,9 @@ module _ (depth count : ℕ) where
       → Shrinks depth count (gives piece next rest)
   gives-Shrinks piece next rest h k = at_piece h (omega arith)
 
-  dollar-Shrinks : (is_quoted : Bool) (at : Mode) (rest : List ℕ) → length rest < count → open_in at ≤ depth
-      → Shrinks depth count (dollar is_quoted at rest)
-  dollar-Shrinks is_quoted at rest h k =
+  dollar-Shrinks : (is_quoted are_quoted : Bool) (at : Mode) (rest : List ℕ) → length rest < count → open_in at ≤ depth
+      → Shrinks depth count (dollar is_quoted are_quoted at rest)
+  dollar-Shrinks is_quoted are_quoted at rest h k =
       search (Shrinks-if, at_end, at_quote, at_piece, at_dollar, gives-Shrinks, rules) depth 12
 
   opened-Shrinks : (quote : ℕ) (inside outside : Mode) (text front : List ℕ) → length text < count → length front < count
@@ -61,13 +62,13 @@ module _ (depth count : ℕ) where
   unquoted-Shrinks of byte rest h =
       let none : 0 ≤ depth = omega arith in
       let inside : length (unspliced rest) < count = omega (arith, length-unspliced rest) in
-      search (Shrinks-if, at_end, at_quote, at_piece, at_dollar, dollar-Shrinks, opened-Shrinks, backslash-Shrinks, gives-Shrinks, rules) depth 12
+      search (Shrinks-if, at_piece, at_dollar, dollar-Shrinks, opened-Shrinks, backslash-Shrinks, gives-Shrinks, rules) depth 12
 
   in_quotes-Shrinks : (of : Owner) (byte : ℕ) (rest : List ℕ) → length rest < count → Shrinks depth count (in_quotes_at of byte rest)
   in_quotes-Shrinks of byte rest h =
       let none : 0 ≤ depth = omega arith in
       let inside : length (unspliced rest) < count = omega (arith, length-unspliced rest) in
-      search (Shrinks-if, at_end, at_quote, at_piece, at_dollar, dollar-Shrinks, opened-Shrinks, escape-Shrinks, gives-Shrinks, rules) depth 12
+      search (Shrinks-if, at_piece, at_dollar, dollar-Shrinks, opened-Shrinks, escape-Shrinks, gives-Shrinks, rules) depth 12
 
   word-Shrinks : (of : Owner) (text : List ℕ) → length text ≤ count → Shrinks depth count (word_at of text)
   word-Shrinks of [] h = at_end h
@@ -124,112 +125,26 @@ Stays-if : (count : ℕ) (test : Bool) (left right : Expansion) → Stays count 
 Stays-if count true left right l r = l
 Stays-if count false left right l r = r
 
-length-run_end_if : (count : ℕ) (test pass : Bool) (end one two : List ℕ) → length end ≤ count
-    → length one ≤ count → length two ≤ count
-    → length (if test then one else if pass then two else end) ≤ count
-length-run_end_if count true pass end one two h k m = k
-length-run_end_if count false true end one two h k m = m
-length-run_end_if count false false end one two h k m = h
+braced_found : (count : ℕ) (found : Head) → in_head.Stays count found → Stays count (braced found)
+braced_found count (head.whole what measured rest) (in_head.stays_whole h) = in_whole h
+braced_found count (head.with_word what by rest) (in_head.stays_word h) = in_word h
+braced_found count head.no_form in_head.stays_none = in_none
 
-length-run_end_last : (count : ℕ) (pass : Bool) (end : List ℕ) → length end ≤ count → length (if pass then [] else end) ≤ count
-length-run_end_last count true end h = omega arith
-length-run_end_last count false end h = h
-
-length-run_end : (test : ℕ → Bool) (count : ℕ) (end text : List ℕ) → length end ≤ count → length text ≤ count
-    → length (run_end test end text) ≤ count
-unfolding run_end
-length-run_end test count end [] h k = h
-length-run_end test count end (a ∷ []) h k = length-run_end_last count (test a) end h
-length-run_end test count end (a ∷ b ∷ text) h k =
-    length-run_end_if count ((a == BACKSLASH) && (b == NEWLINE)) (test a) end _ _ h
-    (length-run_end test count end text h (omega arith))
-    (length-run_end test count (b ∷ text) (b ∷ text) (omega arith) (omega arith))
-
-pub length-behind_run : (test : ℕ → Bool) (text : List ℕ) → length (behind_run test text) ≤ length text
-length-behind_run test text = length-run_end test (length text) text text (omega arith) (omega arith)
-
--- and a parameter too
-data StaysBehind : ℕ → Option (Param × Bool × List ℕ) → Type 0 where
-  none_behind : {count : ℕ} → StaysBehind count None
-  is_behind : {count : ℕ} {what : Param} {assigns : Bool} {rest : List ℕ} → length rest ≤ count
-      → StaysBehind count (Some (what, assigns, rest))
-
-StaysBehind-if : (count : ℕ) (test : Bool) (left right : Option (Param × Bool × List ℕ)) → StaysBehind count left
-    → StaysBehind count right → StaysBehind count (if test then left else right)
-StaysBehind-if count true left right l r = l
-StaysBehind-if count false left right l r = r
+braced-Stays : (count : ℕ) (text : List ℕ) → length text ≤ count → Stays count (braced (brace_head text))
+braced-Stays count text h = braced_found count (brace_head text) (in_head.brace_head-Stays count text h)
 
 module _ (count : ℕ) where
-  closing_brace-Stays : (what : Param) (measured : Bool) (text : List ℕ) → length text ≤ count → Stays count (closing_brace what measured text)
-  closing_brace-Stays what measured [] h = in_none
-  closing_brace-Stays what measured (byte ∷ rest) h = search (Stays-if, in_whole, in_word, in_tokens, in_text, in_none, rules) depth 12
-
-  operator-Stays : (assigns colon : Bool) (what : Param) (byte : ℕ) (rest : List ℕ) → length rest ≤ count
-      → Stays count (operator_at assigns colon what byte rest)
-  operator-Stays assigns colon what byte rest h =
-      search (Stays-if, in_whole, in_word, in_tokens, in_text, in_none, rules) depth 12
-
-  colon-Stays : (assigns : Bool) (what : Param) (text : List ℕ) → length text ≤ count → Stays count (colon_at assigns what text)
-  colon-Stays assigns what [] h = in_none
-  colon-Stays assigns what (byte ∷ rest) h = operator-Stays assigns true what byte rest (omega arith)
-
-  suffix-Stays : (what : Param) (text front : List ℕ) → length text ≤ count → length front ≤ count → Stays count (suffix_at what text front)
-  suffix-Stays what text [] h k = in_word h
-  suffix-Stays what text (byte ∷ rest) h k = search (Stays-if, in_whole, in_word, in_tokens, in_text, in_none, rules) depth 12
-
-  prefix-Stays : (what : Param) (text front : List ℕ) → length text ≤ count → length front ≤ count → Stays count (prefix_at what text front)
-  prefix-Stays what text [] h k = in_word h
-  prefix-Stays what text (byte ∷ rest) h k = search (Stays-if, in_whole, in_word, in_tokens, in_text, in_none, rules) depth 12
-
-  form-Stays : (assigns : Bool) (what : Param) (text : List ℕ) → length text ≤ count → Stays count (form_at assigns what text)
-  form-Stays assigns what [] h = in_none
-  form-Stays assigns what (byte ∷ rest) h =
-      let less : length rest ≤ count = omega arith in
-      let inside : length (unspliced rest) ≤ count = omega (arith, length-unspliced rest) in
-      search (Stays-if, in_whole, in_word, in_tokens, in_text, in_none, colon-Stays, suffix-Stays, prefix-Stays, operator-Stays, rules) depth 12
-
-  placed-Stays : (value : Option ℕ) (rest : List ℕ) → length rest ≤ count → StaysBehind count (placed value rest)
-  placed-Stays None rest h = none_behind
-  placed-Stays (Some number) rest h = is_behind h
-
-  parameter-Stays : (byte : ℕ) (rest : List ℕ) → length rest ≤ count → StaysBehind count (parameter_at byte rest)
-  parameter-Stays byte rest h =
-      let name : length (behind_run is_name_byte rest) ≤ count = omega (arith, length-behind_run is_name_byte rest) in
-      let digits : length (behind_run is_digit rest) ≤ count = omega (arith, length-behind_run is_digit rest) in
-      search (StaysBehind-if, is_behind, none_behind, placed-Stays, rules) depth 12
-
-  measured-Stays : (found : Option (Param × Bool × List ℕ)) → StaysBehind count found → Stays count (measured_at found)
-  measured-Stays None none_behind = in_none
-  measured-Stays (Some (what, assigns, rest)) (is_behind h) =
-      closing_brace-Stays what true (unspliced rest) (omega (arith, length-unspliced rest))
-
-  formed-Stays : (found : Option (Param × Bool × List ℕ)) → StaysBehind count found → Stays count (formed_at found)
-  formed-Stays None none_behind = in_none
-  formed-Stays (Some (what, assigns, rest)) (is_behind h) =
-      form-Stays assigns what (unspliced rest) (omega (arith, length-unspliced rest))
-
-  hash-Stays : (text : List ℕ) → length text ≤ count → Stays count (hash_at text)
-  hash-Stays [] h = in_none
-  hash-Stays (byte ∷ rest) h =
-      search (Stays-if, in_whole, in_word, in_tokens, in_text, in_none, measured-Stays, parameter-Stays, rules) depth 12
-
-  braces-Stays : (text : List ℕ) → length text ≤ count → Stays count (braces_at text)
-  braces-Stays [] h = in_none
-  braces-Stays (byte ∷ rest) h =
-      let inside : length (unspliced rest) ≤ count = omega (arith, length-unspliced rest) in
-      search (Stays-if, in_whole, in_word, in_tokens, in_text, in_none, hash-Stays, closing_brace-Stays, formed-Stays, parameter-Stays, rules) depth 12
-
   parenthesis-Stays : (text front : List ℕ) → length text ≤ count → length front ≤ count → Stays count (parenthesis_at text front)
   parenthesis-Stays text [] h k = in_tokens h
   parenthesis-Stays text (byte ∷ rest) h k = search (Stays-if, in_whole, in_word, in_tokens, in_text, in_none, rules) depth 12
 
-  expansion_at-Stays : (text : List ℕ) → length text ≤ count → Stays count (expansion_at text)
-  expansion_at-Stays [] h = in_none
-  expansion_at-Stays (byte ∷ rest) h =
+  expansion_at-Stays : (text front : List ℕ) → length text ≤ count → length front ≤ count → Stays count (expansion_at text front)
+  expansion_at-Stays text [] h k = in_none
+  expansion_at-Stays text (byte ∷ rest) h k =
       let less : length rest ≤ count = omega arith in
       let inside : length (unspliced rest) ≤ count = omega (arith, length-unspliced rest) in
-      let name : length (behind_run is_name_byte rest) ≤ count = omega (arith, length-behind_run is_name_byte rest) in
-      search (Stays-if, in_whole, in_word, in_tokens, in_text, in_none, braces-Stays, parenthesis-Stays, rules) depth 12
+      let name : length (behind_run is_name_byte text) ≤ count = omega (arith, length-behind_run is_name_byte text) in
+      search (Stays-if, in_whole, braced-Stays, parenthesis-Stays, rules) depth 12
 
 pub expansion-Stays : (text : List ℕ) → Stays (length text) (expansion text)
-expansion-Stays text = expansion_at-Stays (length text) (unspliced text) (length-unspliced text)
+expansion-Stays text = expansion_at-Stays (length text) text (unspliced text) (omega arith) (length-unspliced text)

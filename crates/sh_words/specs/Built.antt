@@ -1,13 +1,11 @@
--- What the code's values stand for: the trees of parts, the parts that are built, and what a word that is read is.
+-- What the code's values stand for: the parts that are built, and what a word that is read is.
 use Rattle.std.specs.Prelude.{ℕ, Bool, true, false, List, map}
 use Rattle.std.specs.declared.option.Option.{Option}
 use Rattle.std.specs.declared.option.Option.TheVariants.{None, Some}
 use Rattle.std.specs.Option.{option_map}
-use Rattle.sh_tree.specs.Trees.{WordTree, no_part, part, PartTree, plain, quoted, parameter, substitution, arithmetic, FormTree}
-use Rattle.sh_tree.specs.Views.{form_step, part_step, word_step, parts_onto, word_tree}
+use Rattle.sh_tree.specs.Trees.{WordTree, part, PartTree, plain, quoted, parameter, substitution, arithmetic}
+use Rattle.sh_tree.specs.Views.{parts_onto, word_tree, part_tree, parts_tree}
 use Rattle.sh_tree.specs.declared.words.Part.{Part}
-use Rattle.sh_tree.specs.declared.words.Form.{Form}
-use Rattle.sh_tree.specs.declared.words.Form.TheFolds.{fold-Part, fold-Form}
 use Rattle.sh_words.specs.Pieces.{before, literal}
 use Rattle.sh_words.specs.Words.{Outcome, done, Made, made, WordOutcome}
 use Rattle.sh_words.specs.declared.steps.Mode.{Mode}
@@ -16,13 +14,6 @@ use Rattle.sh_words.specs.declared.building.Building.{Building}
 use Rattle.sh_words.specs.declared.reading.Reading.{Reading}
 use Rattle.sh_words.specs.declared.reading.Made as declared_made
 use Rattle.sh_words.specs.declared.reading.ReadWord.{ReadWord}
-
--- the trees of a part and of a form
-abbrev pub part_tree : Part → PartTree
-part_tree = fold-Part FormTree PartTree WordTree form_step part_step word_step
-
-abbrev pub form_tree : Form → FormTree
-form_tree = fold-Form FormTree PartTree WordTree form_step part_step word_step
 
 -- the parts of a list in front of `more`
 abbrev pub trees_onto : List Part → WordTree → WordTree
@@ -46,7 +37,7 @@ open_in (mode.Arithmetic depth) = depth
 
 -- a text that is read
 abbrev pub done_of : Reading → Outcome
-done_of read = done (trees_onto read.parts.items no_part) read.fault read.number read.rest.now
+done_of read = done (parts_tree read.parts.items) read.fault read.number read.rest.now
 
 -- an expansion that is read
 abbrev pub made_of : declared_made.Made → Made

@@ -37,11 +37,11 @@ abbrev pub begins_expansion : List ℕ → Bool
 begins_expansion [] = false
 begins_expansion (byte ∷ rest) = (byte == OPEN_BRACE) || (byte == OPEN) || is_name_start byte || is_parameter byte
 
--- a `$`: where it begins no expansion it is ordinary
-abbrev pub dollar : Bool → Mode → List ℕ → Step
-dollar is_quoted at rest =
+-- a `$`, with whether its expansion is quoted and whether bytes are: where it begins no expansion it is a byte
+abbrev pub dollar : Bool → Bool → Mode → List ℕ → Step
+dollar is_quoted are_quoted at rest =
     if begins_expansion (unspliced rest) then expands is_quoted (length rest + 1) rest
-    else gives (literal is_quoted (DOLLAR ∷ [])) at rest
+    else gives (literal are_quoted (DOLLAR ∷ [])) at rest
 
 -- a quote that opens: where the same quote follows, the string is empty, and it is a piece
 abbrev pub opened : ℕ → Mode → Mode → List ℕ → List ℕ → Step
@@ -65,7 +65,7 @@ escape is_quoted braces at (byte ∷ rest) =
 -- a byte of a word where quotes work as outside double quotes
 abbrev pub unquoted_at : Owner → ℕ → List ℕ → Step
 unquoted_at of byte rest =
-    if byte == DOLLAR then dollar false (mode.Word of) rest
+    if byte == DOLLAR then dollar false false (mode.Word of) rest
     else if byte == DOUBLE_QUOTE then opened DOUBLE_QUOTE (mode.DoubleQuotes of) (mode.Word of) rest (unspliced rest)
     else if byte == QUOTE then opened QUOTE (mode.SingleQuotes of) (mode.Word of) rest rest
     else if byte == BACKSLASH then backslash (mode.Word of) rest
@@ -74,7 +74,7 @@ unquoted_at of byte rest =
 -- a byte of the word of a `${ }` in double quotes: `'` is ordinary, and `"` opens a string of its own
 abbrev pub in_quotes_at : Owner → ℕ → List ℕ → Step
 in_quotes_at of byte rest =
-    if byte == DOLLAR then dollar true (mode.Word of) rest
+    if byte == DOLLAR then dollar true true (mode.Word of) rest
     else if byte == DOUBLE_QUOTE then opened DOUBLE_QUOTE (mode.DoubleQuotes of) (mode.Word of) rest (unspliced rest)
     else if byte == BACKSLASH then escape true true (mode.Word of) rest
     else gives (quoted (byte ∷ [])) (mode.Word of) rest
@@ -93,7 +93,7 @@ abbrev pub double_quotes_at : Owner → List ℕ → Step
 double_quotes_at of [] = ends []
 double_quotes_at of (byte ∷ rest) =
     if byte == DOUBLE_QUOTE then passes (mode.Word of) rest
-    else if byte == DOLLAR then dollar true (mode.DoubleQuotes of) rest
+    else if byte == DOLLAR then dollar true true (mode.DoubleQuotes of) rest
     else if byte == BACKSLASH then escape true false (mode.DoubleQuotes of) rest
     else gives (quoted (byte ∷ [])) (mode.DoubleQuotes of) rest
 
@@ -113,13 +113,13 @@ abbrev pub parenthesis_closed : ℕ → List ℕ → Step
 parenthesis_closed depth rest =
     if depth == 0 then closing_at rest (unspliced rest) else gives (plain (CLOSE ∷ [])) (mode.Arithmetic (depth - 1)) rest
 
--- the text of an arithmetic expansion (XCU 2.6.4): quotes are ordinary
+-- the text of an arithmetic expansion (XCU 2.6.4): quotes are ordinary, bytes are plain, and expansions are quoted
 abbrev pub arithmetic_at : ℕ → List ℕ → Step
 arithmetic_at depth [] = ends []
 arithmetic_at depth (byte ∷ rest) =
     if byte == CLOSE then parenthesis_closed depth rest
     else if byte == OPEN then gives (plain (OPEN ∷ [])) (mode.Arithmetic (depth + 1)) rest
-    else if byte == DOLLAR then dollar true (mode.Arithmetic depth) rest
+    else if byte == DOLLAR then dollar true false (mode.Arithmetic depth) rest
     else if byte == BACKSLASH then escape false false (mode.Arithmetic depth) rest
     else gives (plain (byte ∷ [])) (mode.Arithmetic depth) rest
 

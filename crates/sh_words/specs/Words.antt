@@ -7,20 +7,20 @@ use Rattle.std.specs.declared.option.Option.TheVariants.{None, Some}
 use Rattle.std.specs.Option.{option_map, option_or}
 use Rattle.sh_tree.specs.Trees.{WordTree, no_part, PartTree, parameter, substitution, arithmetic}
 use Rattle.ps_lines.specs.Bytes.{is_name_byte}
-use Rattle.sh_lex.specs.Texts.{unspliced}
+use Rattle.sh_lex.specs.Texts.{unspliced, run, behind_run}
+use Rattle.sh_lex.specs.Heads.{trims}
 use Rattle.sh_lex.specs.Reads as lex
 use Rattle.sh_lex.specs.declared.Part.{Part}
 use Rattle.sh_lex.specs.declared.Part.TheVariants as construct
 use Rattle.sh_lex.specs.declared.Spot.TheVariants as spot
-use Rattle.sh_lex.specs.declared.Head.TheVariants as head
 use Rattle.sh_tree.specs.declared.words.Param.{Param}
 use Rattle.sh_words.specs.Pieces.{before, found_before}
 use Rattle.sh_words.specs.Steps.{step, ends, passes, gives, expands}
-use Rattle.sh_words.specs.Parameters.{expansion, whole, with_word, commands, arithmetic_text, no_form, trims, form_of, bare_form, run, behind_run}
+use Rattle.sh_words.specs.Parameters.{expansion, whole, with_word, commands, arithmetic_text, no_form, form_of, bare_form}
 use Rattle.sh_words.specs.declared.steps.Owner.TheVariants as owner
 use Rattle.sh_words.specs.declared.steps.Mode.{Mode}
 use Rattle.sh_words.specs.declared.steps.Mode.TheVariants as mode
-use Rattle.sh_words.specs.declared.expansions.Operator.{Operator}
+use Rattle.sh_lex.specs.declared.Operator.{Operator}
 use Rattle.sh_words.specs.declared.reading.TheConstants.{MAX_LEVELS}
 
 -- what a text gives up to the end of what it stands in: its tree, how many bytes are left at its first `${` without a form, the
@@ -62,7 +62,7 @@ in_commands = construct.Commands (record { levels = 0; in_braces = false }) (Som
 
 -- a `${ }` (XCU 2.6.2), at whose `$` so many bytes are left
 abbrev pub in_braces : Bool → ℕ → Part
-in_braces is_quoted left = construct.BraceHead (record { levels = 0; in_braces = true }) left is_quoted head.Start
+in_braces is_quoted left = construct.BraceHead (record { levels = 0; in_braces = true }) left is_quoted
 
 -- what is left behind the first byte
 abbrev pub behind_byte : List ℕ → List ℕ

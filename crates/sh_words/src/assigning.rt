@@ -1,8 +1,8 @@
 //! Whether a word assigns a variable, as it is written.
 ghost use Rattle.std.specs.Prelude.{◌≡◌, false};
 ghost use Rattle.sh_tree.specs.Trees.{no_part};
-ghost use Rattle.sh_tree.specs.Views.{word_tree};
-ghost use Rattle.sh_words.specs.Built.{part_tree, form_tree, trees_onto};
+ghost use Rattle.sh_tree.specs.Views.{word_tree, part_tree, form_tree};
+ghost use Rattle.sh_words.specs.Built.{trees_onto};
 ghost use Rattle.sh_words.specs.Assigning.{is_pair, text_assigns, word_assigns, part_assigns, form_assigns};
 
 use sh_tree::{Form, Part, Word};

@@ -1,61 +1,27 @@
 //! The forms of an expansion (XCU 2.5, 2.6.2, narrowed).
-ghost use Rattle.std.specs.Prelude.{◌≡◌, ◌∷◌, IfOk, true};
-ghost use Rattle.std.specs.Option.{option_map};
-ghost use Rattle.sh_lex.specs.Texts.{unspliced};
-ghost use Rattle.sh_lex.specs.Bytes as byte_is;
-ghost use Rattle.sh_tree.specs.Views.{word_tree};
-ghost use Rattle.sh_words.specs.Built.{form_tree};
-ghost use Rattle.sh_words.specs.Parameters.{expansion_of, closing_brace, operator_at, colon_at, suffix_at, prefix_at, form_at, parameter_at, placed, place_value, run, behind_run, measured_at, hash_at, formed_at, braces_at, parenthesis_at, special, expansion_at, expansion, trims, check_form, form_of, bare_form};
+ghost use Rattle.std.specs.Prelude.{◌≡◌, IfOk};
+ghost use Rattle.ps_lines.specs.Bytes.{is_name_byte};
+ghost use Rattle.sh_lex.specs.Texts.{unspliced, run};
+ghost use Rattle.sh_lex.specs.Heads.{param_of, head_of};
+ghost use Rattle.sh_tree.specs.Views.{word_tree, form_tree};
+ghost use Rattle.sh_words.specs.Parameters.{expansion_of, braced, parenthesis_at, special, expansion, check_form, form_of, bare_form};
 
-use crate::runs::{name, place};
-use ps_lines::{Memory, is_name_start};
-use sh_lex::{front, is_digit};
+use ps_lines::{Memory, Text, is_name_start};
+use sh_lex::{Class, Head, Operator, Parameter, behind_run, brace_head, front, run};
 use sh_tree::{Form, Param, Word};
 use std::alloc::Global;
 
-/// The operator before the word of a `${ }`.
-#[derive(Clone, Copy, Debug)]
-pub enum Operator {
-    /// `-`, with whether there is a colon.
-    Default(bool),
-    /// `=`, the same.
-    Assign(bool),
-    /// `?`, the same.
-    Check(bool),
-    /// `+`, the same.
-    Alternate(bool),
-    /// `%`, with whether it is there twice.
-    CutSuffix(bool),
-    /// `#`, the same.
-    CutPrefix(bool),
-}
-
-impl Operator {
-    /// Whether the word is a pattern that is removed.
-    pub fn trims(self) -> bool
-        ensures { result ≡ trims self }
-    {
-        match self {
-            Operator::CutSuffix(_) | Operator::CutPrefix(_) => true,
-            Operator::Default(_)
-            | Operator::Assign(_)
-            | Operator::Check(_)
-            | Operator::Alternate(_) => false,
-        }
-    }
-
-    /// The form with this word.
-    pub fn form(self, word: Word) -> Form
-        ensures { form_tree result ≡ form_of self (word_tree word) }
-    {
-        match self {
-            Operator::Default(colon) => Form::Default { colon, word },
-            Operator::Assign(colon) => Form::Assign { colon, word },
-            Operator::Check(colon) => check(colon, word),
-            Operator::Alternate(colon) => Form::Alternate { colon, word },
-            Operator::CutSuffix(longest) => Form::CutSuffix { longest, word },
-            Operator::CutPrefix(longest) => Form::CutPrefix { longest, word },
-        }
+/// The form of an operator and this word.
+pub fn form_with(operator: Operator, word: Word) -> Form
+    ensures { form_tree result ≡ form_of operator (word_tree word) }
+{
+    match operator {
+        Operator::Default(colon) => Form::Default { colon, word },
+        Operator::Assign(colon) => Form::Assign { colon, word },
+        Operator::Check(colon) => check(colon, word),
+        Operator::Alternate(colon) => Form::Alternate { colon, word },
+        Operator::CutSuffix(longest) => Form::CutSuffix { longest, word },
+        Operator::CutPrefix(longest) => Form::CutPrefix { longest, word },
     }
 }
 
@@ -103,11 +69,11 @@ pub fn find_expansion(alloc: Global, text: &[u8]) -> Result<Expansion<'_>, Memor
         return Ok(Expansion::NoForm);
     };
     match byte {
-        b'{' => braces(alloc, rest),
+        b'{' => braced(alloc, brace_head(rest)),
         b'(' => Ok(parenthesis(rest)),
         _ if is_name_start(byte) => {
-            let (name, behind) = name(alloc, byte, rest)?;
-            Ok(Expansion::Whole(Param::Name(name), false, behind))
+            let name = Param::Name(name(alloc, text)?);
+            Ok(Expansion::Whole(name, false, behind_run(Class::Name, text)))
         }
         _ => Ok(Expansion::Whole(special(byte), false, rest)),
     }
@@ -136,134 +102,36 @@ fn parenthesis(text: &[u8]) -> Expansion<'_>
     }
 }
 
-/// Behind `${`.
-fn braces(alloc: Global, text: &[u8]) -> Result<Expansion<'_>, Memory>
-    ensures { IfOk result (λ found. expansion_of found ≡ braces_at (unspliced text.now)) }
+/// The expansion of which this is the beginning.
+fn braced<'a>(alloc: Global, head: Head<'a>) -> Result<Expansion<'a>, Memory>
+    ensures { IfOk result (λ found. expansion_of found ≡ braced (head_of head.entry)) }
 {
-    let Some((byte, rest)) = front(text) else {
-        return Ok(Expansion::NoForm);
-    };
-    match byte {
-        b'#' => hash(alloc, rest),
-        b'@' => Ok(closing_brace(Param::At, false, rest)),
-        b'*' => Ok(closing_brace(Param::Star, false, rest)),
-        _ => match parameter(alloc, byte, rest)? {
-            Some((what, assigns, behind)) => Ok(form(assigns, what, behind)),
-            None => Ok(Expansion::NoForm),
-        },
+    match head {
+        Head::Whole(what, measured, rest) => {
+            Ok(Expansion::Whole(param(alloc, what)?, measured, rest))
+        }
+        Head::WithWord(what, by, rest) => Ok(Expansion::WithWord(param(alloc, what)?, by, rest)),
+        Head::NoForm => Ok(Expansion::NoForm),
     }
 }
 
-/// Behind `${#`.
-fn hash(alloc: Global, text: &[u8]) -> Result<Expansion<'_>, Memory>
-    ensures { IfOk result (λ found. expansion_of found ≡ hash_at (unspliced text.now)) }
+/// The parameter, with a name of its own.
+fn param(alloc: Global, what: Parameter<'_>) -> Result<Param, Memory>
+    ensures { IfOk result (λ param. param ≡ param_of what.entry) }
 {
-    let Some((byte, rest)) = front(text) else {
-        return Ok(Expansion::NoForm);
-    };
-    if byte == b'}' {
-        return Ok(Expansion::Whole(Param::Count, false, rest));
-    }
-    match parameter(alloc, byte, rest)? {
-        Some((what, _, behind)) => Ok(closing_brace(what, true, behind)),
-        None => Ok(Expansion::NoForm),
+    match what {
+        Parameter::Name(text) => Ok(Param::Name(name(alloc, text)?)),
+        Parameter::Place(number) => Ok(Param::Place(number)),
+        Parameter::At => Ok(Param::At),
+        Parameter::Star => Ok(Param::Star),
+        Parameter::Count => Ok(Param::Count),
+        Parameter::Status => Ok(Param::Status),
     }
 }
 
-/// A parameter that can have each form, with whether it can be assigned and what is left behind it.
-fn parameter(alloc: Global, byte: u8, rest: &[u8]) -> Result<Option<(Param, bool, &[u8])>, Memory>
-    ensures { IfOk result (λ found. option_map (λ found. (found.0, found.1, found.2.now)) found ≡ parameter_at byte rest.now) }
+/// The name at the beginning of the text: the longest run of its bytes.
+pub fn name(alloc: Global, text: &[u8]) -> Result<Text, Memory>
+    ensures { IfOk result (λ name. name ≡ run is_name_byte text.now) }
 {
-    if is_name_start(byte) {
-        let (name, behind) = name(alloc, byte, rest)?;
-        return Ok(Some((Param::Name(name), true, behind)));
-    }
-    if is_digit(byte) {
-        return Ok(placed(byte, rest));
-    }
-    if byte == b'?' {
-        return Ok(Some((Param::Status, false, rest)));
-    }
-    Ok(None)
-}
-
-/// The place whose digits begin with this one.
-fn placed(first: u8, text: &[u8]) -> Option<(Param, bool, &[u8])>
-    requires { byte_is.is_digit first ≡ true }
-    ensures { option_map (λ found. (found.0, found.1, found.2.now)) result ≡ placed (place_value (first ∷ run byte_is.is_digit text.now)) (behind_run byte_is.is_digit text.now) }
-{
-    let (value, rest) = place(first, text);
-    match value {
-        Some(number) => Some((Param::Place(number), false, rest)),
-        None => None,
-    }
-}
-
-/// At the `}` that ends an expansion.
-fn closing_brace(what: Param, measured: bool, text: &[u8]) -> Expansion<'_>
-    ensures { expansion_of result ≡ closing_brace what measured (unspliced text.now) }
-{
-    match front(text) {
-        Some((b'}', rest)) => Expansion::Whole(what, measured, rest),
-        _ => Expansion::NoForm,
-    }
-}
-
-/// Behind the parameter of a `${ }`; `assigns`: it can be assigned.
-fn form(assigns: bool, what: Param, text: &[u8]) -> Expansion<'_>
-    ensures { expansion_of result ≡ form_at assigns what (unspliced text.now) }
-{
-    let Some((byte, rest)) = front(text) else {
-        return Expansion::NoForm;
-    };
-    match byte {
-        b'}' => Expansion::Whole(what, false, rest),
-        b':' => colon(assigns, what, rest),
-        b'%' => suffix(what, rest),
-        b'#' => prefix(what, rest),
-        _ => read_operator(assigns, false, what, byte, rest),
-    }
-}
-
-/// Behind the `:` of an operator.
-fn colon(assigns: bool, what: Param, text: &[u8]) -> Expansion<'_>
-    ensures { expansion_of result ≡ colon_at assigns what (unspliced text.now) }
-{
-    match front(text) {
-        Some((byte, rest)) => read_operator(assigns, true, what, byte, rest),
-        None => Expansion::NoForm,
-    }
-}
-
-/// At an operator that assigns, tests or replaces.
-fn read_operator(assigns: bool, colon: bool, what: Param, byte: u8, rest: &[u8]) -> Expansion<'_>
-    ensures { expansion_of result ≡ operator_at assigns colon what byte rest.now }
-{
-    match byte {
-        b'-' => Expansion::WithWord(what, Operator::Default(colon), rest),
-        b'?' => Expansion::WithWord(what, Operator::Check(colon), rest),
-        b'+' => Expansion::WithWord(what, Operator::Alternate(colon), rest),
-        b'=' if assigns => Expansion::WithWord(what, Operator::Assign(colon), rest),
-        _ => Expansion::NoForm,
-    }
-}
-
-/// Behind the first `%` of an operator.
-fn suffix(what: Param, text: &[u8]) -> Expansion<'_>
-    ensures { expansion_of result ≡ suffix_at what text.now (unspliced text.now) }
-{
-    match front(text) {
-        Some((b'%', rest)) => Expansion::WithWord(what, Operator::CutSuffix(true), rest),
-        _ => Expansion::WithWord(what, Operator::CutSuffix(false), text),
-    }
-}
-
-/// Behind the first `#` of an operator.
-fn prefix(what: Param, text: &[u8]) -> Expansion<'_>
-    ensures { expansion_of result ≡ prefix_at what text.now (unspliced text.now) }
-{
-    match front(text) {
-        Some((b'#', rest)) => Expansion::WithWord(what, Operator::CutPrefix(true), rest),
-        _ => Expansion::WithWord(what, Operator::CutPrefix(false), text),
-    }
+    Ok(Text::from_vec(run(alloc, Class::Name, text)?))
 }

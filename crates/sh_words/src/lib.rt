@@ -7,8 +7,8 @@
 //!
 //! All calls are total. What isn't closed ends with the text.
 //!
-//! `specs/` says what a word is: `Pieces.antt` how its parts are joined, `Steps.antt` quoting, `Parameters.antt` the forms of
-//! expansions, `Words.antt` what is read, and `Assigning.antt` what assigns.
+//! `specs/` says what a word is: `Pieces.antt` how its parts are joined, `Steps.antt` quoting, `Parameters.antt` what a `$`
+//! begins, `Words.antt` what is read, and `Assigning.antt` what assigns.
 #![tactic(auto)]
 
 mod assigning;
@@ -16,7 +16,6 @@ mod building;
 mod expansions;
 pub mod laws;
 mod reading;
-mod runs;
 mod steps;
 #[cfg(test)]
 mod tests;

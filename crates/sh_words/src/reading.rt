@@ -2,17 +2,17 @@
 ghost use Rattle.std.specs.Prelude.{◌≡◌, ◌-◌, ◌&&◌, None, Some, [], not, ℕ, List, IfOk, length, true};
 ghost use Rattle.std.specs.Option.{option_map};
 ghost use Rattle.sh_tree.specs.Trees as tree;
-ghost use Rattle.sh_tree.specs.Views.{word_tree};
+ghost use Rattle.sh_tree.specs.Views.{word_tree, part_tree, form_tree};
+ghost use Rattle.sh_lex.specs.Heads.{trims};
 ghost use Rattle.sh_words.specs.Parameters as form;
 ghost use Rattle.sh_words.specs.Words.{made, Passes, in_commands, in_braces, behind_byte, ReadsPieces, ReadsExpansion, ReadsBehind, ReadsWord, assigned_name, ReadsAssign};
-ghost use Rattle.sh_words.specs.Built.{part_tree, form_tree, trees_onto, open_in, is_found, done_of, made_of, outcome_of};
+ghost use Rattle.sh_words.specs.Built.{trees_onto, open_in, is_found, done_of, made_of, outcome_of};
 
 use crate::building::Building;
-use crate::expansions::{Expansion, Operator, bare_form, find_expansion};
-use crate::runs::name_bytes;
+use crate::expansions::{Expansion, bare_form, find_expansion, form_with, name};
 use crate::steps::{Mode, Owner, Step, next_step};
 use ps_lines::{Memory, Text};
-use sh_lex::{Head, Nest, Spot, front, past_construct};
+use sh_lex::{Class, Nest, Operator, Spot, behind_run, front, past_construct};
 use sh_tree::{Form, Param, Part, Word};
 use std::alloc::Global;
 
@@ -75,9 +75,8 @@ pub fn read_assign(alloc: Global, bytes: &[u8], first: u32) -> Result<(Text, Rea
     ensures name { IfOk result (λ read. read.0 ≡ assigned_name bytes.now) }
     ensures value { IfOk result (λ read. ReadsAssign first bytes.now (outcome_of read.1)) }
 {
-    let mut name = Vec::new(alloc);
-    let rest = name_bytes(bytes, &mut name)?;
-    let name = Text::copy_of(alloc, name.as_slice())?;
+    let name = name(alloc, bytes)?;
+    let rest = behind_run(Class::Name, bytes);
     let value = read_behind(alloc, bytes, behind_byte(rest), first)?;
     Ok((name, value))
 }
@@ -235,7 +234,7 @@ fn with_word(
         rest,
     } = pieces(alloc, most - 1, Mode::Word(owner), number, text)?;
     Ok(Made {
-        part: Some(parameter_part(what, operator.form(word_of(parts)), quoted)),
+        part: Some(parameter_part(what, form_with(operator, word_of(parts)), quoted)),
         fault,
         number,
         rest,
@@ -257,7 +256,7 @@ fn no_part(left: usize, number: u32, rest: &[u8]) -> Made<'_>
 
 /// The owner of the word of an expansion that is quoted or not: outer quotes don't quote a pattern that is removed (XCU 2.6.2).
 fn word_owner(quoted: bool, operator: Operator) -> Owner
-    ensures { result ≡ Owner.Braces (quoted && not (form.trims operator)) }
+    ensures { result ≡ Owner.Braces (quoted && not (trims operator)) }
 {
     Owner::Braces(quoted && !operator.trims())
 }
@@ -367,7 +366,7 @@ fn without_form(
         levels: 0,
         in_braces: true,
     };
-    let head = sh_lex::Part::BraceHead(nest, left, quoted, Head::Start);
+    let head = sh_lex::Part::BraceHead(nest, left, quoted);
     let rest = past(alloc, head, behind_byte(text))?;
     Ok(no_part(left, number, rest))
 }

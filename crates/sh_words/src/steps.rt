@@ -79,7 +79,7 @@ fn unquoted(owner: Owner, byte: u8, rest: &[u8]) -> Step<'_>
 {
     let word = Mode::Word(owner);
     match byte {
-        b'$' => dollar(false, word, rest),
+        b'$' => dollar(false, false, word, rest),
         b'"' => double_quote(owner, rest),
         b'\'' => single_quote(owner, rest),
         b'\\' => backslash(word, rest),
@@ -93,7 +93,7 @@ fn in_quotes(owner: Owner, byte: u8, rest: &[u8]) -> Step<'_>
 {
     let word = Mode::Word(owner);
     match byte {
-        b'$' => dollar(true, word, rest),
+        b'$' => dollar(true, true, word, rest),
         b'"' => double_quote(owner, rest),
         b'\\' => escape(true, true, word, rest),
         _ => Step::Byte(true, byte, word, rest),
@@ -110,7 +110,7 @@ fn in_double_quotes(owner: Owner, text: &[u8]) -> Step<'_>
     };
     match byte {
         b'"' => Step::Passes(Mode::Word(owner), rest),
-        b'$' => dollar(true, inside, rest),
+        b'$' => dollar(true, true, inside, rest),
         b'\\' => escape(true, false, inside, rest),
         _ => Step::Byte(true, byte, inside, rest),
     }
@@ -142,7 +142,7 @@ fn in_arithmetic(depth: usize, text: &[u8]) -> Step<'_>
     match byte {
         b')' => parenthesis_closed(depth, rest),
         b'(' => Step::Byte(false, byte, Mode::Arithmetic(depth + 1), rest),
-        b'$' => dollar(true, arithmetic, rest),
+        b'$' => dollar(true, false, arithmetic, rest),
         b'\\' => escape(false, false, arithmetic, rest),
         _ => Step::Byte(false, byte, arithmetic, rest),
     }
@@ -161,14 +161,14 @@ fn parenthesis_closed(depth: usize, rest: &[u8]) -> Step<'_>
     }
 }
 
-/// Behind a `$`.
-fn dollar(quoted: bool, mode: Mode, rest: &[u8]) -> Step<'_>
-    ensures { step_of result ≡ dollar quoted mode rest.now }
+/// Behind a `$`; `quoted`: its expansion is, `bytes_quoted`: bytes are.
+fn dollar(quoted: bool, bytes_quoted: bool, mode: Mode, rest: &[u8]) -> Step<'_>
+    ensures { step_of result ≡ dollar quoted bytes_quoted mode rest.now }
 {
     if begins_expansion(rest) {
         Step::Expands(quoted, rest.len() + 1, rest)
     } else {
-        Step::Byte(quoted, b'$', mode, rest)
+        Step::Byte(bytes_quoted, b'$', mode, rest)
     }
 }
 

@@ -3,7 +3,7 @@ use Rattle.std.specs.Option.{option_map, option_or}
 use Rattle.sh_tree.specs.Trees.{no_part, quoted, parameter}
 use Rattle.sh_words.specs.Pieces.{before, found_before, literal}
 use Rattle.sh_words.specs.Parameters as form
-use Rattle.sh_words.specs.Built.{part_tree}
+use Rattle.sh_tree.specs.Views.{part_tree}
 use Rattle.sh_words.specs.Words.{done, ReadsPieces, has_ended, passes_on, gives_piece, expands_to}
 use Rattle.sh_words.proofs.ReadLemmas.{word_read, word_deep, arithmetic_read, arithmetic_deep, ended_read, found_read}
 use Rattle.sh_words.proofs.Readings.{passes-less, gives-less, expands-less, expansion-Leaves}
@@ -107,7 +107,7 @@ with_word-returns-clause-read t c = λ whole e.
     word_read c.args.most c.args.left c.args.number c.args.quoted whole c.args.text.now c.args.what c.args.operator c.word_owner-owner.result
     _ _ _ _ _ (λ none. search rules) e c.word_owner-owner.ensures c.in_ok-parts.ensures
     (c.parameter_part.ensures ∙ ap (λ f. parameter c.args.what f c.args.quoted)
-    (c.form.ensures ∙ ap (form.form_of c.args.operator) c.word_of.ensures))
+    (c.form_with.ensures ∙ ap (form.form_of c.args.operator) c.word_of.ensures))
 
 pub arithmetic-returns-clause-read : goal.arithmetic-returns-clause-read
 arithmetic-returns-clause-read t c = λ whole e.

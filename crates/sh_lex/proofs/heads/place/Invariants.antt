@@ -1,7 +1,8 @@
 use Rattle.std.proofs.Common.{◌≡◌, ℕ, List, ◌∷◌, ◌++◌, length}
 use Rattle.sh_lex.specs.Bytes.{is_digit}
-use Rattle.sh_words.specs.Parameters.{run, behind_run, place_value}
-use Rattle.sh_words.proofs.runs.place.Given as goal
+use Rattle.sh_lex.specs.Texts.{run, behind_run}
+use Rattle.sh_lex.specs.Heads.{place_value}
+use Rattle.sh_lex.proofs.heads.place.Given as goal
 
 -- the digits so far, and those to come
 abbrev pub invariant-loop-byte : goal.invariant-loop-byte

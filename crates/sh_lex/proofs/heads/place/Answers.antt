@@ -1,8 +1,9 @@
 use Rattle.std.proofs.Common.{◌≡◌, ◌++◌, [], ◌∷◌, subst, refl, rules}
 use Rattle.sh_lex.specs.Bytes.{is_digit}
-use Rattle.sh_words.specs.Parameters.{place_value}
-use Rattle.sh_words.proofs.RunLemmas.{run_ends_none, run_ends_other, run_goes_on, place_value-one, runs}
-use Rattle.sh_words.proofs.runs.place.Goals as goal
+use Rattle.sh_lex.specs.Heads.{place_value}
+use Rattle.sh_lex.proofs.Fronts.{run_ends_none, run_ends_other, run_goes_on, runs}
+use Rattle.sh_lex.proofs.PlaceLemmas.{place_value-one}
+use Rattle.sh_lex.proofs.heads.place.Goals as goal
 
 pub loop-byte-init : goal.loop-byte-init
 loop-byte-init c = record {

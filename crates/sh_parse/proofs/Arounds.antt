@@ -1,7 +1,7 @@
 -- The open constructs, from the innermost.
 use Rattle.std.proofs.Common.{◌≡◌, List, [], ◌∷◌, ◌++◌, refl, ap}
-use Rattle.sh_parse.specs.Building as b
-use Rattle.sh_parse.specs.Built.{level_of, levels_of}
+use Rattle.sh_parse.specs.Inner.Building as b
+use Rattle.sh_parse.specs.Inner.Built.{level_of, levels_of}
 use Rattle.sh_parse.specs.declared.levels.Level.{Level}
 
 pub levels_last : (front : List Level) (last : Level) → levels_of (front ++ last ∷ []) ≡ level_of last ∷ levels_of front

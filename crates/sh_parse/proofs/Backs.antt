@@ -5,7 +5,7 @@ use Rattle.std.proofs.lemmas.Bool.{leb-true}
 use Rattle.sh_tree.specs.Trees.{ListTree, JoinedTrees, PipelineTree, CommandTree, CommandTrees, BranchTrees, ElseTree, InTree, SubTrees, item, and_or, none_joined, joined, pipeline, no_command, command, simple, group, subshell, if_branches, while_loop, until_loop, for_loop, no_branch, branch, no_else, else_list, no_in, in_words, no_sub, sub, no_item}
 use Rattle.sh_parse.specs.Pieces.{WordViews, Piece, assign, argument, redirection, gathered, no_piece, tail_of, words_of, default_number}
 use Rattle.sh_parse.specs.Places.{used, redirects, begins_piece, is_name, begins_pipeline, is_used}
-use Rattle.sh_parse.specs.Owed.{Part, Move, Next, Verdict, pieces, a_pipeline, a_command, pipes, next_command, joins, next_pipeline, separator, again, body, close_brace, close_parenthesis, close_substitution, then_body, branches, end_if, do_body, end_loop, loop_name, loop_head, loop_lines, loop_separator, loop_do, operator, target, substitutions, push, opens, skip, stuck, move, moved, step, levels, verdict, verdict_behind, goes, deeper, fails, deep, fine, bad, may_end, is_option, branch_by, word_by, redirection_by, piece_by, needed, command_by, pipeline_by, followed}
+use Rattle.sh_parse.specs.Inner.Owed.{Part, Move, Next, Verdict, pieces, a_pipeline, a_command, pipes, next_command, joins, next_pipeline, separator, again, body, close_brace, close_parenthesis, close_substitution, then_body, branches, end_if, do_body, end_loop, loop_name, loop_head, loop_lines, loop_separator, loop_do, operator, target, substitutions, push, opens, skip, stuck, move, moved, step, levels, verdict, verdict_behind, goes, deeper, fails, deep, fine, bad, may_end, is_option, branch_by, word_by, redirection_by, piece_by, needed, command_by, pipeline_by, followed}
 use Rattle.sh_parse.specs.Grammar as g
 use Rattle.sh_parse.specs.Grammar.{NoneNext, IsAgain, IsBody, IsList, IsSeparated, IsJoined, IsNextPipeline, IsPipeline, IsPiped, IsNextCommand, IsCommand, IsBranches, IsLoopHead, IsLoopLines, IsLoopSeparator, IsLoopDo, IsPieces, IsPiece, IsSubs, is_sub_open, is_pipe, is_join, is_separator, is_newline, goes_on, is_bang}
 use Rattle.sh_parse.specs.declared.items.Item.{Item}

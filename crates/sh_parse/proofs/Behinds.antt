@@ -8,7 +8,7 @@ use Rattle.std.proofs.lemmas.List.{reverse-append, append-nil}
 use Rattle.sh_lex.specs.declared.lexing.marks.Mark.{Mark}
 use Rattle.sh_lex.specs.declared.lexing.marks.Mark.TheVariants as mark
 use Rattle.sh_parse.specs.Texts.{word_end}
-use Rattle.sh_parse.specs.Behind.{open_ends, IsBehind}
+use Rattle.sh_parse.specs.Inner.Behind.{open_ends, IsBehind}
 use Rattle.sh_parse.specs.declared.texts.Behind.{Behind}
 
 -- a word inside which words are open has the next of the ends

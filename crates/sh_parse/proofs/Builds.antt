@@ -7,8 +7,8 @@ use Rattle.sh_tree.specs.declared.commands.Join.{Join}
 use Rattle.sh_tree.specs.declared.commands.Join.TheVariants as join
 use Rattle.sh_parse.specs.Pieces.{WordViews, Piece, gathered, no_piece, with_piece, tail_of, words_of, subs_then}
 use Rattle.sh_parse.specs.Places.{used, redirects, begins_piece}
-use Rattle.sh_parse.specs.Owed.{Part, Move, pieces, a_pipeline, a_command, pipes, next_command, joins, next_pipeline, separator, again, body, close_brace, close_parenthesis, close_substitution, then_body, branches, end_if, do_body, end_loop, loop_name, loop_head, loop_lines, loop_separator, loop_do, operator, target, substitutions, push, opens, skip, stuck, move, word_by, redirection_by, piece_by, command_by, pipeline_by, followed}
-use Rattle.sh_parse.specs.Building.{Construct, whole, in_group, in_subshell, in_condition, in_branch, in_else, in_while, in_while_body, in_until, in_until_body, unnamed, in_for, Listing, listing, making, Level, level, State, state, nothing, fresh, start, list_then, compound, chained, with_stage, pieces_over, is_loop, left_out, role_of, acted, word_as, walk_by, walked, behind, build, script_built}
+use Rattle.sh_parse.specs.Inner.Owed.{Part, Move, pieces, a_pipeline, a_command, pipes, next_command, joins, next_pipeline, separator, again, body, close_brace, close_parenthesis, close_substitution, then_body, branches, end_if, do_body, end_loop, loop_name, loop_head, loop_lines, loop_separator, loop_do, operator, target, substitutions, push, opens, skip, stuck, move, word_by, redirection_by, piece_by, command_by, pipeline_by, followed}
+use Rattle.sh_parse.specs.Inner.Building.{Construct, whole, in_group, in_subshell, in_condition, in_branch, in_else, in_while, in_while_body, in_until, in_until_body, unnamed, in_for, Listing, listing, making, Level, level, State, state, nothing, fresh, start, list_then, compound, chained, with_stage, pieces_over, is_loop, left_out, role_of, acted, word_as, walk_by, walked, behind, build, script_built}
 use Rattle.sh_parse.specs.Grammar as g
 use Rattle.sh_parse.specs.Grammar.{Reads, NoneNext, IsAgain, IsBody, IsList, IsSeparated, IsJoined, IsNextPipeline, IsPipeline, IsPiped, IsNextCommand, IsCommand, IsBranches, IsLoopHead, IsLoopLines, IsLoopSeparator, IsLoopDo, IsPieces, IsPiece, IsSubs, is_sub_open, is_pipe, is_join, is_separator, goes_on}
 use Rattle.sh_parse.proofs.Lists.{list_then-none, list_then-assoc, subs_then-none, subs_then-assoc, joined_onto-last, commands_onto-last, branches_onto-last}

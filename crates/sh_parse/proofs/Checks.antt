@@ -1,8 +1,8 @@
 -- One step of the check.
 use Rattle.std.proofs.Common.{◌≡◌, ◌⊎◌, inl, inr, ℕ, ◌+◌, ◌<◌, ◌≤◌, List, [], ◌∷◌, ◌++◌, length, cond, sym, ◌∙◌, ap, nat_le}
 use Rattle.std.proofs.lemmas.Bool.{le-leb, lt-leb}
-use Rattle.sh_parse.specs.Owed.{Part, Move, push, opens, skip, stuck, move, moved, step, levels, verdict, verdict_behind, bad, deep}
-use Rattle.sh_parse.specs.Moves.{parts_of, move_of, with_more, owing_of, stacked}
+use Rattle.sh_parse.specs.Inner.Owed.{Part, Move, push, opens, skip, stuck, move, moved, step, levels, verdict, verdict_behind, bad, deep}
+use Rattle.sh_parse.specs.Inner.Moves.{parts_of, move_of, with_more, owing_of, stacked}
 use Rattle.sh_parse.proofs.Runs.{on_push, on_skip, on_opens}
 use Rattle.sh_parse.proofs.Movings.{stacked_last}
 use Rattle.sh_parse.specs.declared.items.Item.{Item}

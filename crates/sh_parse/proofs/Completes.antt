@@ -1,7 +1,7 @@
 -- Every stack that steps make can be completed: each part by its shortest ending.
 use Rattle.std.proofs.Common.{◌≡◌, ℕ, Bool, true, false, List, [], ◌∷◌, ◌++◌, cond, refl, sym, subst, append_assoc, Option, Some, None}
 use Rattle.sh_parse.specs.Places.{used, redirects, is_name}
-use Rattle.sh_parse.specs.Owed.{Part, Move, Next, pieces, a_pipeline, a_command, pipes, next_command, joins, next_pipeline, separator, again, body, close_brace, close_parenthesis, close_substitution, then_body, branches, end_if, do_body, end_loop, loop_name, loop_head, loop_lines, loop_separator, loop_do, operator, target, substitutions, push, opens, skip, stuck, move, moved, step, verdict, goes, deeper, fails, fine, word_by, redirection_by, piece_by, needed, branch_by, command_by, pipeline_by, followed}
+use Rattle.sh_parse.specs.Inner.Owed.{Part, Move, Next, pieces, a_pipeline, a_command, pipes, next_command, joins, next_pipeline, separator, again, body, close_brace, close_parenthesis, close_substitution, then_body, branches, end_if, do_body, end_loop, loop_name, loop_head, loop_lines, loop_separator, loop_do, operator, target, substitutions, push, opens, skip, stuck, move, moved, step, verdict, goes, deeper, fails, fine, word_by, redirection_by, piece_by, needed, branch_by, command_by, pipeline_by, followed}
 use Rattle.sh_parse.specs.declared.items.Item.{Item}
 use Rattle.sh_parse.specs.declared.items.Item.TheVariants as token
 use Rattle.sh_parse.specs.declared.items.WordKind.TheVariants as word

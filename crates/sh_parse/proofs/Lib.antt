@@ -18,3 +18,4 @@ pub mod OneOutcome
 pub mod Parsings
 pub mod Seekings
 pub mod Misusing
+pub mod NumberingLemmas

@@ -5,8 +5,9 @@ use Rattle.std.proofs.lemmas.List.{map-append}
 use Rattle.sh_tree.specs.Trees.{ListTree, no_item, item, AndOrTree, JoinedTrees, joined, PipelineTree, CommandTree, CommandTrees, command, BranchTrees, branch, SubTrees, no_sub, sub}
 use Rattle.sh_tree.specs.Views.{commands_onto, joined_onto, branches_onto, items_onto, subs_onto}
 use Rattle.sh_tree.specs.declared.commands.Join.{Join}
-use Rattle.sh_parse.specs.Pieces.{subs_then, sub_count}
-use Rattle.sh_parse.specs.Building.{list_then}
+use Rattle.sh_tree.specs.Numbering.{sub_count}
+use Rattle.sh_parse.specs.Pieces.{subs_then}
+use Rattle.sh_parse.specs.Inner.Building.{list_then}
 
 -- lists with more behind them
 pub list_then-none : (list : ListTree) → list_then list no_item ≡ list

@@ -3,7 +3,7 @@ use Rattle.std.proofs.Common.{◌≡◌, ℕ, false, List, length, refl, sym, �
 use Rattle.sh_tree.specs.Trees.{WordTree}
 use Rattle.sh_words.specs.Words.{WordOutcome, ReadsBehind, ReadsWord, ReadsAssign, assigned_value}
 use Rattle.sh_words.proofs.Readings.{behind_one}
-use Rattle.sh_parse.specs.WordsOf.{word_of, value_of, words_of}
+use Rattle.sh_parse.specs.Inner.WordsOf.{word_of, value_of, words_of}
 use Rattle.sh_words.specs.Assigning.{word_assigns}
 use Rattle.sh_parse.specs.Pieces.{WordViews}
 use Rattle.sh_parse.specs.Outcomes.{bytes_at, in_text, IsReadAs, AreWordsOf}

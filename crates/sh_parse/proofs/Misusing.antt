@@ -5,10 +5,10 @@ use Rattle.std.proofs.lemmas.Option.{none-some, same_Some, cond_some}
 use Rattle.std.proofs.Math.Nat.{min-le_left, min-le_right}
 use Rattle.sh_parse.specs.Pieces.{WordViews}
 use Rattle.sh_parse.specs.Places.{begins_piece}
-use Rattle.sh_parse.specs.Owed.{Part, Move, Next, Verdict, again, push, opens, skip, stuck, move, moved, step, levels, verdict, verdict_behind, goes, deeper, fails, fine, deep}
+use Rattle.sh_parse.specs.Inner.Owed.{Part, Move, Next, Verdict, again, push, opens, skip, stuck, move, moved, step, levels, verdict, verdict_behind, goes, deeper, fails, fine, deep}
 use Rattle.sh_parse.specs.Stops.{offset_of}
 use Rattle.sh_parse.specs.Misuses.{IsIllFormed, MayBegin, mixes, IsMixed, FirstMisuse}
-use Rattle.sh_parse.specs.Seeking.{earliest, form_at, first_form, takes, may_open, owed_behind, begins_mixed, mix_at, first_mix, earlier}
+use Rattle.sh_parse.specs.Inner.Seeking.{earliest, form_at, first_form, takes, may_open, owed_behind, begins_mixed, mix_at, first_mix, earlier}
 use Rattle.sh_parse.proofs.Tops.{reads_fine, fine_reads}
 use Rattle.sh_parse.proofs.Completes.{Sound, anything, finish, completes, step_sound, NextSound}
 use Rattle.sh_parse.specs.declared.items.Item.{Item}

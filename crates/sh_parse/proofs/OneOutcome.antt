@@ -22,7 +22,7 @@ use Rattle.sh_parse.proofs.OneList.{one_list}
 use Rattle.sh_parse.proofs.Misusing.{misuse_some}
 use Rattle.sh_parse.proofs.Tops.{one_outcome}
 use Rattle.sh_parse.proofs.TextItems.{some_items}
-use Rattle.sh_parse.specs.WordsOf.{words_of}
+use Rattle.sh_parse.specs.Inner.WordsOf.{words_of}
 use Rattle.sh_parse.proofs.ManyWords.{words_same, some_words}
 
 -- how the items of a text that is lexed end

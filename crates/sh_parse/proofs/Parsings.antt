@@ -8,7 +8,7 @@ use Rattle.sh_lex.specs.declared.tokens.Token.{Token}
 use Rattle.sh_parse.specs.Pieces.{WordViews}
 use Rattle.sh_parse.specs.Texts.{HasItems}
 use Rattle.sh_parse.specs.Outcomes.{Reading, IsSound, EndsAt, IsScript, IsStopped}
-use Rattle.sh_parse.specs.WordsOf.{words_of}
+use Rattle.sh_parse.specs.Inner.WordsOf.{words_of}
 use Rattle.sh_parse.proofs.ManyWords.{some_words}
 use Rattle.sh_parse.specs.Stops.{Refuses as RefusesGrammar}
 use Rattle.sh_parse.specs.Parses.{Refuses, RefusesItems, of_grammar}

@@ -1,8 +1,8 @@
 -- One step of the code that seeks the first misuse.
 use Rattle.std.proofs.Common.{◌≡◌, ◌⊎◌, inl, inr, true, false, List, [], ◌∷◌, ◌++◌, sym, ap}
-use Rattle.sh_parse.specs.Owed.{Part, Move, push, opens, skip, stuck, move, moved, step}
-use Rattle.sh_parse.specs.Moves.{owing_of}
-use Rattle.sh_parse.specs.Seeking.{takes, may_open, owed_behind}
+use Rattle.sh_parse.specs.Inner.Owed.{Part, Move, push, opens, skip, stuck, move, moved, step}
+use Rattle.sh_parse.specs.Inner.Moves.{owing_of}
+use Rattle.sh_parse.specs.Inner.Seeking.{takes, may_open, owed_behind}
 use Rattle.sh_parse.proofs.Checks.{push_is, opens_is, skip_is, stuck_is}
 use Rattle.sh_parse.specs.declared.items.Item.{Item}
 use Rattle.sh_parse.specs.declared.items.Item.TheVariants as item

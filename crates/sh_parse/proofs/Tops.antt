@@ -4,7 +4,7 @@ use Rattle.std.proofs.lemmas.Bool.{le-leb, leb-true, leb-false}
 use Rattle.std.proofs.lemmas.List.{append-nil}
 use Rattle.sh_tree.specs.Trees.{ScriptTree}
 use Rattle.sh_parse.specs.Pieces.{WordViews}
-use Rattle.sh_parse.specs.Owed.{Part, Next, Verdict, again, step, levels, verdict, verdict_behind, may_end, goes, deeper, fails, fine, bad, deep}
+use Rattle.sh_parse.specs.Inner.Owed.{Part, Next, Verdict, again, step, levels, verdict, verdict_behind, may_end, goes, deeper, fails, fine, bad, deep}
 use Rattle.sh_parse.specs.Grammar.{IsAgain, Reads, script_of}
 use Rattle.sh_parse.specs.Stops.{Begins, EndsHere, StopsBad, StopsDeep, Stop, HasScript, HasStop, HasOneOutcome, offset_left}
 use Rattle.sh_parse.proofs.Runs.{again_run}

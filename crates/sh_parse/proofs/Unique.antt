@@ -3,7 +3,7 @@ use Rattle.std.proofs.Common.{◌≡◌, ℕ, true, false, List, [], ◌∷◌, 
 use Rattle.sh_tree.specs.Trees.{ListTree, JoinedTrees, PipelineTree, CommandTree, CommandTrees, BranchTrees, ElseTree, InTree, SubTrees, item, and_or, joined, pipeline, command, simple, group, subshell, if_branches, while_loop, until_loop, for_loop, branch, else_list, in_words, sub}
 use Rattle.sh_parse.specs.Pieces.{WordViews, Piece, assign, argument, redirection, gathered, no_piece, tail_of, words_of, default_number}
 use Rattle.sh_parse.specs.Places.{begins_piece, is_used}
-use Rattle.sh_parse.specs.Owed.{Move, push, opens, skip, stuck, piece_by, pipeline_by}
+use Rattle.sh_parse.specs.Inner.Owed.{Move, push, opens, skip, stuck, piece_by, pipeline_by}
 use Rattle.sh_parse.specs.Grammar as g
 use Rattle.sh_parse.specs.Grammar.{NoneNext, IsAgain, IsBody, IsList, IsSeparated, IsJoined, IsNextPipeline, IsPipeline, IsPiped, IsNextCommand, IsCommand, IsBranches, IsLoopHead, IsLoopLines, IsLoopSeparator, IsLoopDo, IsPieces, IsPiece, IsSubs, goes_on, Reads, script_of}
 use Rattle.sh_parse.proofs.Runs.{Moves, Begins, list_begins, pipeline_begins, command_begins, piece_begins}

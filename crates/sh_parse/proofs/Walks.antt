@@ -1,8 +1,8 @@
 -- One step of what is read.
 use Rattle.std.proofs.Common.{◌≡◌, ◌⊎◌, inl, inr, List, ◌∷◌, ◌++◌, ap, sym, ◌∙◌}
 use Rattle.sh_parse.specs.Pieces.{WordViews}
-use Rattle.sh_parse.specs.Owed.{Part, Move, push, opens, skip, stuck, move}
-use Rattle.sh_parse.specs.Building.{State, walked, walk_by, acted, left_out, role_of}
+use Rattle.sh_parse.specs.Inner.Owed.{Part, Move, push, opens, skip, stuck, move}
+use Rattle.sh_parse.specs.Inner.Building.{State, walked, walk_by, acted, left_out, role_of}
 use Rattle.sh_parse.specs.declared.items.Item.{Item}
 
 module _ (views : WordViews) (first : Item) (part : Part) (stack : List Part) (now : State) where

@@ -1,11 +1,12 @@
 -- What the bytes of a word allow it to be (XCU 2.4, 2.10.2 rules 1, 5 to 7), behind the removal of backslash-newlines (XCU 2.2.1). A
 -- word that is quoted somewhere has a byte that no name has.
-use Rattle.std.specs.Prelude.{ℕ, Bool, true, false, List, [], ◌∷◌, ◌==◌, ◌&&◌, if◌then◌else◌, codes}
+use Rattle.std.specs.Prelude.{ℕ, Bool, true, false, List, [], ◌∷◌, ◌==◌, ◌&&◌, if◌then◌else◌, map, codes}
 use Rattle.std.specs.Str.{bytes_eq}
 use Rattle.std.specs.declared.option.Option.{Option}
 use Rattle.std.specs.declared.option.Option.TheVariants.{None, Some}
 use Rattle.ps_lines.specs.Bytes.{is_name_start, is_name_byte}
-use Rattle.sh_lex.specs.declared.bytes.TheConstants.{BACKSLASH, NEWLINE, EQUALS}
+use Rattle.sh_lex.specs.Texts.{fronts}
+use Rattle.sh_lex.specs.declared.bytes.TheConstants.{EQUALS}
 use Rattle.sh_parse.specs.declared.items.WordKind.{WordKind}
 use Rattle.sh_parse.specs.declared.items.WordKind.TheVariants as word
 use Rattle.sh_parse.specs.declared.items.Reserved.{Reserved}
@@ -13,10 +14,7 @@ use Rattle.sh_parse.specs.declared.items.Reserved.TheVariants as reserved
 
 -- a word without backslash-newlines
 unfoldable pub spelled : List ℕ → List ℕ
-spelled [] = []
-spelled (first ∷ []) = first ∷ []
-spelled (first ∷ second ∷ rest) =
-    if (first == BACKSLASH) && (second == NEWLINE) then spelled rest else first ∷ spelled (second ∷ rest)
+spelled word = map (λ front. front.0) (fronts word)
 
 -- the reserved words (XCU 2.4)
 unfoldable pub reserved_by : List ℕ → Option Reserved

@@ -1,8 +1,9 @@
 -- What a simple command is made of (XCU 2.9.1): its assignments, words and redirections, in text order. They are gathered by kind,
 -- and the command substitutions of all of them are numbered in text order.
-use Rattle.std.specs.Prelude.{ℕ, Bool, ◌+◌, List, [], ◌∷◌, ◌++◌}
+use Rattle.std.specs.Prelude.{ℕ, Bool, List, [], ◌∷◌, ◌++◌}
 use Rattle.std.specs.declared.option.Option.{Option}
 use Rattle.sh_tree.specs.Trees.{WordTree, SimpleTree, simple_command, SubTrees, no_sub, sub, TailTree, tail, WordsTree, words}
+use Rattle.sh_tree.specs.Numbering.{sub_count}
 use Rattle.sh_tree.specs.declared.commands.How.{How}
 use Rattle.sh_tree.specs.declared.commands.How.TheVariants as how
 use Rattle.sh_parse.specs.declared.items.Span.{Span}
@@ -21,10 +22,6 @@ pub data Piece : Type 0 where
   assign : Span → SubTrees → Piece
   argument : Span → SubTrees → Piece
   redirection : ℕ → How → Span → SubTrees → Piece
-
-abbrev pub sub_count : SubTrees → ℕ
-sub_count no_sub = 0
-sub_count (sub first rest) = sub_count rest + 1
 
 abbrev pub subs_then : SubTrees → SubTrees → SubTrees
 subs_then no_sub more = more

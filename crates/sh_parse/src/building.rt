@@ -1,8 +1,8 @@
 //! How items change what is read of a script.
 ghost use Rattle.std.specs.Prelude.{◌≡◌, ◌∷◌, [], IfOk, OnOk, IfSome, IfNone};
 ghost use Rattle.sh_tree.specs.Views.{script_tree};
-ghost use Rattle.sh_parse.specs.Building.{start, opened, closed, sub_closed, turns, named, on_listing, on_making, with_assign, with_argument, with_target, with_number, with_how, with_sign, with_bang, pieces_over, left_out, pipeline_done, and_or_done, role_of, keyword, no_piece_by, word_as, word_by_role, redirect_by_role, acted, script_built};
-ghost use Rattle.sh_parse.specs.Built.{construct_of, level_of, levels_of, state_of};
+ghost use Rattle.sh_parse.specs.Inner.Building.{start, opened, closed, sub_closed, turns, named, on_listing, on_making, with_assign, with_argument, with_target, with_number, with_how, with_sign, with_bang, pieces_over, left_out, pipeline_done, and_or_done, role_of, keyword, no_piece_by, word_as, word_by_role, redirect_by_role, acted, script_built};
+ghost use Rattle.sh_parse.specs.Inner.Built.{construct_of, level_of, levels_of, state_of};
 ghost use Rattle.sh_parse.specs.Pieces.{default_number};
 
 use crate::items::{Item, Reserved, Span, WordKind};

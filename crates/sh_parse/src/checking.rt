@@ -1,8 +1,8 @@
 //! The plain check of a list of items: one pass, with a stack of what is still owed.
 ghost use Rattle.std.specs.Prelude.{◌≡◌, ◌∷◌, [], ◌++◌, ◌<◌, ◌≤◌, length, MatchOption, IfOk, IfErr, OnOk};
 ghost use Rattle.sh_parse.specs.Pieces.{WordViews};
-ghost use Rattle.sh_parse.specs.Owed.{again, verdict, fine, levels, may_end};
-ghost use Rattle.sh_parse.specs.Moves.{parts_of, stacked, Tells, StepsTo, StopsStep};
+ghost use Rattle.sh_parse.specs.Inner.Owed.{again, verdict, fine, levels, may_end};
+ghost use Rattle.sh_parse.specs.Inner.Moves.{parts_of, stacked, Tells, StepsTo, StopsStep};
 ghost use Rattle.sh_parse.specs.declared.checking.Stop.TheVariants as stop_kind;
 ghost use Rattle.sh_parse.specs.Stops.{IsSomeScript, Refuses, offset_of, offset_left};
 

@@ -2,13 +2,13 @@
 ghost use Rattle.std.specs.Prelude.{◌≡◌, ◌∷◌, [], ◌++◌, map, IfOk, OnOk};
 ghost use Rattle.std.specs.Option.{option_map};
 ghost use Rattle.sh_tree.specs.Trees.{if_branches, no_branch};
-ghost use Rattle.sh_tree.specs.Views.{list_tree, branches_onto, else_of};
-ghost use Rattle.sh_parse.specs.Trees.{and_or_tree, command_tree, pipeline_tree, tail_tree, words_tree};
+ghost use Rattle.sh_tree.specs.Views.{list_tree, branches_onto, else_of, and_or_tree, command_tree, pipeline_tree, tail_tree, words_tree};
 ghost use Rattle.sh_parse.specs.Grammar.{script_of};
-ghost use Rattle.sh_parse.specs.Pieces.{words_of, sub_count};
-ghost use Rattle.sh_parse.specs.Building.{level, command_done, words_done, and_or_of, nothing, fresh, list_of, compound, command_made, chained, with_stage, pipeline_done, and_or_done, with_assign, with_argument, with_target, with_sub, turned, with_words};
+ghost use Rattle.sh_tree.specs.Numbering.{sub_count};
+ghost use Rattle.sh_parse.specs.Pieces.{words_of};
+ghost use Rattle.sh_parse.specs.Inner.Building.{level, command_done, words_done, and_or_of, nothing, fresh, list_of, compound, command_made, chained, with_stage, pipeline_done, and_or_done, with_assign, with_argument, with_target, with_sub, turned, with_words};
 ghost use Rattle.sh_parse.specs.declared.items.Reserved.TheVariants as reserved;
-ghost use Rattle.sh_parse.specs.Built.{branch_of, construct_of, chain_of, chain_parts, listing_of, making_of, pieces_of, level_of, subs_of, made_of};
+ghost use Rattle.sh_parse.specs.Inner.Built.{branch_of, construct_of, chain_of, chain_parts, listing_of, making_of, pieces_of, level_of, subs_of, made_of};
 
 use crate::items::{Reserved, Span};
 use crate::readers::WordReader;

@@ -6,7 +6,8 @@
 //! one, `first_misuse` what else is refused of a script, and `parse_items` gives its tree.
 //!
 //! `specs/` has what a text is (`Outcomes.antt`), the grammar (`Grammar.antt`), by cases on its rules, where a list of items
-//! stops to be the beginning of a script (`Stops.antt`), and what is misused in one (`Misuses.antt`).
+//! stops to be the beginning of a script (`Stops.antt`), and what is misused in one (`Misuses.antt`). `specs/Inner/` has words that
+//! only proofs and private functions need.
 #![tactic(auto)]
 
 mod building;
@@ -16,6 +17,7 @@ mod kinds;
 pub mod laws;
 mod levels;
 mod misuses;
+mod numbering;
 mod parsing;
 mod parts;
 mod pieces;

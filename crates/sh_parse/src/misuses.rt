@@ -1,10 +1,10 @@
 //! What is refused of items that are a script: expansions without a form, and command substitutions beside assigning expansions.
 ghost use Rattle.std.specs.Prelude.{◌≡◌, ◌∷◌, [], ◌<◌, ◌^◌, IfOk};
-ghost use Rattle.sh_parse.specs.Owed.{again, step};
+ghost use Rattle.sh_parse.specs.Inner.Owed.{again, step};
 ghost use Rattle.sh_parse.specs.Misuses.{FirstMisuse, own_items, substitutes, item_assigns, assigns};
-ghost use Rattle.sh_parse.specs.Moves.{stacked};
+ghost use Rattle.sh_parse.specs.Inner.Moves.{stacked};
 ghost use Rattle.sh_parse.specs.Places.{begins_piece};
-ghost use Rattle.sh_parse.specs.Seeking.{earliest, form_at, first_form, may_open, owed_behind, mix_at, first_mix, earlier, stays, inside_behind};
+ghost use Rattle.sh_parse.specs.Inner.Seeking.{earliest, form_at, first_form, may_open, owed_behind, mix_at, first_mix, earlier, stays, inside_behind};
 ghost use Rattle.sh_parse.specs.declared.pieces.Place.TheVariants as place;
 
 use crate::checking::{front, offset_of, owe, owe_all};

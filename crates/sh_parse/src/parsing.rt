@@ -2,10 +2,10 @@
 ghost use Rattle.std.specs.Prelude.{◌≡◌, [], ◌∷◌, IfOk, IfErr, OnOk};
 ghost use Rattle.sh_tree.specs.Views.{script_tree};
 ghost use Rattle.sh_parse.specs.Pieces.{WordViews};
-ghost use Rattle.sh_parse.specs.Owed.{again};
-ghost use Rattle.sh_parse.specs.Moves.{stacked};
-ghost use Rattle.sh_parse.specs.Building.{start, walked, ended, build, script_built};
-ghost use Rattle.sh_parse.specs.Built.{state_of};
+ghost use Rattle.sh_parse.specs.Inner.Owed.{again};
+ghost use Rattle.sh_parse.specs.Inner.Moves.{stacked};
+ghost use Rattle.sh_parse.specs.Inner.Building.{start, walked, ended, build, script_built};
+ghost use Rattle.sh_parse.specs.Inner.Built.{state_of};
 ghost use Rattle.sh_parse.specs.Stops.{HasScript, Refuses};
 
 use crate::building::{Building, role_of};

@@ -2,12 +2,14 @@
 ghost use Rattle.std.specs.Prelude.{◌≡◌, IfOk, IfErr};
 ghost use Rattle.sh_lex.specs.Lexes.{Lexes};
 ghost use Rattle.sh_tree.specs.Views.{script_tree};
+ghost use Rattle.sh_tree.specs.Numbering.{IsNumberedScript};
 ghost use Rattle.sh_parse.specs.Outcomes.{IsScript, IsSound};
 ghost use Rattle.sh_parse.specs.Parses.{Refuses, RefusesItems, of_misuse, of_grammar};
 
 use crate::checking::check;
 use crate::items::Item;
 use crate::misuses::{Misuse, first_misuse};
+use crate::numbering::check_numbers;
 use crate::parsing::build;
 use crate::readers::WordReader;
 use crate::refusals::{GrammarRefusal, Refusal};
@@ -31,9 +33,26 @@ pub enum ParseRefusal {
 ///
 /// Refused is, at the first token that no script goes on with, those of command substitutions at their place, `BadSyntax`, or
 /// `TooDeep` where the 65th level opens; and of a script the first, by offset, of `ParameterForm` and `SubstitutionMix`.
+/// The words of each of its commands name the command's substitutions, from 0 on and each once.
 /// The tokens of substitutions aren't among `tokens`: so the text is read once more, and `tokens` says that it can be.
-#[tactic(auto, using(crate::proofs::Parsings::refusal_of_text, crate::proofs::Parsings::not_refused))]
 pub fn parse(alloc: Global, text: &[u8], tokens: &[Token]) -> Result<Script, ParseRefusal>
+    requires { Lexes text.now tokens.now }
+    ensures script { IfOk result (λ script. IsScript text.now (script_tree script)) }
+    ensures numbered { IfOk result (λ script. IsNumberedScript (script_tree script)) }
+    ensures refusal { IfErr result (λ refusal. Refuses text.now refusal) }
+{
+    match read_script(alloc, text, tokens) {
+        Ok(script) => match check_numbers(alloc, &script) {
+            Ok(()) => Ok(script),
+            Err(Memory) => Err(ParseRefusal::Memory),
+        },
+        Err(refusal) => Err(refusal),
+    }
+}
+
+/// The script of a text that has these tokens, or its refusal.
+#[tactic(auto, using(crate::proofs::Parsings::refusal_of_text, crate::proofs::Parsings::not_refused))]
+fn read_script(alloc: Global, text: &[u8], tokens: &[Token]) -> Result<Script, ParseRefusal>
     requires { Lexes text.now tokens.now }
     ensures script { IfOk result (λ script. IsScript text.now (script_tree script)) }
     ensures refusal { IfErr result (λ refusal. Refuses text.now refusal) }

@@ -37,7 +37,7 @@ impl<'a> TextWords<'a> {
 impl<'a> WordReader for TextWords<'a> {
     ghost use Rattle.std.specs.Prelude.{◌≡◌, IfOk};
     ghost use Rattle.sh_tree.specs.Views.{word_tree};
-    ghost use Rattle.sh_parse.specs.WordsOf.{words_of};
+    ghost use Rattle.sh_parse.specs.Inner.WordsOf.{words_of};
 
     ghost views = { λ words. words_of words.text.now };
 

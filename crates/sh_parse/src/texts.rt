@@ -4,7 +4,7 @@ ghost use Rattle.std.specs.List.{between};
 ghost use Rattle.sh_lex.specs.Lexing.{Refuses};
 ghost use Rattle.sh_lex.specs.declared.lexing.marks.Mark.{Mark};
 ghost use Rattle.sh_parse.specs.Texts.{word_item, word_end, digit_at, operator_item, token_item, items_of, HasItems};
-ghost use Rattle.sh_parse.specs.Behind.{open_ends, IsBehind};
+ghost use Rattle.sh_parse.specs.Inner.Behind.{open_ends, IsBehind};
 
 use crate::items::{Item, Span};
 use crate::kinds::word_kind;

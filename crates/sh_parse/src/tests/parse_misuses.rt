@@ -3,7 +3,7 @@ use super::rows::expect_rows;
 use std::test::Fail;
 
 /// Expansions without a form. The greatest place of an argument is 4294967295.
-static FORMS: [&str; 34] = [
+static FORMS: [&str; 36] = [
     "${} => ParameterForm 0",
     "${x!} => ParameterForm 0",
     "echo ${x!} => ParameterForm 5",
@@ -23,6 +23,8 @@ static FORMS: [&str; 34] = [
     "${@:-a} => ParameterForm 0",
     "${#@} => ParameterForm 0",
     "${##} => ParameterForm 0",
+    "\"${4294967296%'}\" => ParameterForm 1",
+    "echo ${4294967296:-~} => ParameterForm 5",
     "${#-w} => ParameterForm 0",
     "${#x%a} => ParameterForm 0",
     "${#x:-a} => ParameterForm 0",

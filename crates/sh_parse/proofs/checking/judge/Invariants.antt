@@ -1,7 +1,7 @@
 -- The verdict on all is that on the rest, with what is owed there.
 use Rattle.std.proofs.Common.{◌≡◌, [], ◌∷◌, length}
-use Rattle.sh_parse.specs.Owed.{again, verdict}
-use Rattle.sh_parse.specs.Moves.{stacked}
+use Rattle.sh_parse.specs.Inner.Owed.{again, verdict}
+use Rattle.sh_parse.specs.Inner.Moves.{stacked}
 use Rattle.sh_parse.specs.declared.items.TheConstants.{MAX_LEVELS}
 use Rattle.sh_parse.proofs.checking.judge.Given as goal
 

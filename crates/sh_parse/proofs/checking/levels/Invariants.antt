@@ -1,7 +1,7 @@
 -- The levels so far, and those of the rest.
 use Rattle.std.proofs.Common.{◌≡◌, ◌+◌, ◌≤◌, length}
-use Rattle.sh_parse.specs.Owed.{levels}
-use Rattle.sh_parse.specs.Moves.{stacked}
+use Rattle.sh_parse.specs.Inner.Owed.{levels}
+use Rattle.sh_parse.specs.Inner.Moves.{stacked}
 use Rattle.sh_parse.proofs.checking.levels.Given as goal
 
 abbrev pub invariant-loop-first : goal.invariant-loop-first

@@ -1,7 +1,7 @@
 -- All before the rest may be left out.
 use Rattle.std.proofs.Common.{◌≡◌, length}
-use Rattle.sh_parse.specs.Owed.{may_end}
-use Rattle.sh_parse.specs.Moves.{stacked}
+use Rattle.sh_parse.specs.Inner.Owed.{may_end}
+use Rattle.sh_parse.specs.Inner.Moves.{stacked}
 use Rattle.sh_parse.proofs.checking.may_end.Given as goal
 
 abbrev pub invariant-loop-first : goal.invariant-loop-first

@@ -1,6 +1,6 @@
 use Rattle.std.proofs.Common.{◌≡◌, ◌≤◌, ◌<◌, ◌∙◌, ◌∷◌, ap, arith}
-use Rattle.sh_parse.specs.Owed.{verdict, levels}
-use Rattle.sh_parse.specs.Moves.{stacked}
+use Rattle.sh_parse.specs.Inner.Owed.{verdict, levels}
+use Rattle.sh_parse.specs.Inner.Moves.{stacked}
 use Rattle.sh_parse.specs.declared.items.TheConstants.{MAX_LEVELS}
 use Rattle.sh_parse.proofs.Checks.{popped, push_is, opens_is, skip_is, stuck_is, push_steps, opens_steps, opens_over, skip_steps, stuck_steps}
 use Rattle.sh_parse.proofs.checking.step.Goals as goal

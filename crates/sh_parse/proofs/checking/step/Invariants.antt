@@ -1,7 +1,7 @@
 -- The parts that were passed over skip the item.
 use Rattle.std.proofs.Common.{◌≡◌, List, ◌∷◌, vec_len}
-use Rattle.sh_parse.specs.Owed.{verdict}
-use Rattle.sh_parse.specs.Moves.{stacked}
+use Rattle.sh_parse.specs.Inner.Owed.{verdict}
+use Rattle.sh_parse.specs.Inner.Moves.{stacked}
 use Rattle.sh_parse.specs.declared.items.Item.{Item}
 use Rattle.sh_parse.specs.declared.items.TheConstants.{MAX_LEVELS}
 use Rattle.sh_parse.proofs.checking.step.Given as goal

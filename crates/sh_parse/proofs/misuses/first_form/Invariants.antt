@@ -1,6 +1,6 @@
 -- What was found so far, or what the rest has.
 use Rattle.std.proofs.Common.{◌≡◌, length}
-use Rattle.sh_parse.specs.Seeking.{earliest, first_form}
+use Rattle.sh_parse.specs.Inner.Seeking.{earliest, first_form}
 use Rattle.sh_parse.proofs.misuses.first_form.Given as goal
 
 abbrev pub invariant-loop-first : goal.invariant-loop-first

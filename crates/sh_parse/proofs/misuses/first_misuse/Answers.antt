@@ -1,7 +1,7 @@
 use Rattle.std.proofs.Common.{sym, subst, ◌∙◌, ap, [], ◌∷◌}
-use Rattle.sh_parse.specs.Owed.{again}
+use Rattle.sh_parse.specs.Inner.Owed.{again}
 use Rattle.sh_parse.specs.Misuses.{FirstMisuse}
-use Rattle.sh_parse.specs.Seeking.{earlier, first_mix}
+use Rattle.sh_parse.specs.Inner.Seeking.{earlier, first_mix}
 use Rattle.sh_parse.proofs.Misusing.{earlier_is_first}
 use Rattle.sh_parse.proofs.misuses.first_misuse.Goals as goal
 

@@ -1,8 +1,8 @@
 -- What was found so far, or what the rest has.
 use Rattle.std.proofs.Common.{◌≡◌, [], ◌∷◌, length}
-use Rattle.sh_parse.specs.Owed.{again}
-use Rattle.sh_parse.specs.Moves.{stacked}
-use Rattle.sh_parse.specs.Seeking.{earliest, first_mix}
+use Rattle.sh_parse.specs.Inner.Owed.{again}
+use Rattle.sh_parse.specs.Inner.Moves.{stacked}
+use Rattle.sh_parse.specs.Inner.Seeking.{earliest, first_mix}
 use Rattle.sh_parse.proofs.misuses.first_mix.Given as goal
 
 abbrev pub invariant-loop-first : goal.invariant-loop-first

@@ -1,6 +1,6 @@
 use Rattle.std.proofs.Common.{◌∙◌, sym, ap}
-use Rattle.sh_parse.specs.Moves.{stacked}
-use Rattle.sh_parse.specs.Seeking.{may_open}
+use Rattle.sh_parse.specs.Inner.Moves.{stacked}
+use Rattle.sh_parse.specs.Inner.Seeking.{may_open}
 use Rattle.sh_parse.proofs.Checks.{popped}
 use Rattle.sh_parse.proofs.Seekings.{open_goes, open_skips, open_stuck}
 use Rattle.sh_parse.proofs.misuses.may_open.Goals as goal

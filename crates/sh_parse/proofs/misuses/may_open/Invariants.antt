@@ -1,7 +1,7 @@
 -- The parts that were passed over skip a `(`.
 use Rattle.std.proofs.Common.{◌≡◌, length}
-use Rattle.sh_parse.specs.Moves.{stacked}
-use Rattle.sh_parse.specs.Seeking.{may_open}
+use Rattle.sh_parse.specs.Inner.Moves.{stacked}
+use Rattle.sh_parse.specs.Inner.Seeking.{may_open}
 use Rattle.sh_parse.proofs.misuses.may_open.Given as goal
 
 abbrev pub invariant-loop-part : goal.invariant-loop-part

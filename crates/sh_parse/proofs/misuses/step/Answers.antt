@@ -1,7 +1,7 @@
 use Rattle.std.proofs.Common.{◌∙◌, sym, ap}
-use Rattle.sh_parse.specs.Owed.{step}
-use Rattle.sh_parse.specs.Moves.{stacked}
-use Rattle.sh_parse.specs.Seeking.{owed_behind}
+use Rattle.sh_parse.specs.Inner.Owed.{step}
+use Rattle.sh_parse.specs.Inner.Moves.{stacked}
+use Rattle.sh_parse.specs.Inner.Seeking.{owed_behind}
 use Rattle.sh_parse.proofs.Checks.{popped, goes_is, skip_is, stuck_is}
 use Rattle.sh_parse.proofs.Seekings.{step_goes, step_skips, step_stuck}
 use Rattle.sh_parse.proofs.misuses.step.Goals as goal

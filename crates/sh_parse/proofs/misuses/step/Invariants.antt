@@ -1,7 +1,7 @@
 -- The parts that were passed over skip the item.
 use Rattle.std.proofs.Common.{◌≡◌, vec_len}
-use Rattle.sh_parse.specs.Owed.{step}
-use Rattle.sh_parse.specs.Moves.{stacked}
+use Rattle.sh_parse.specs.Inner.Owed.{step}
+use Rattle.sh_parse.specs.Inner.Moves.{stacked}
 use Rattle.sh_parse.proofs.misuses.step.Given as goal
 
 abbrev pub invariant-loop-part : goal.invariant-loop-part

@@ -1,9 +1,9 @@
 -- What is read of all items is what is read of the rest, behind what was read.
 use Rattle.std.proofs.Common.{◌≡◌, [], ◌∷◌, length}
-use Rattle.sh_parse.specs.Owed.{again}
-use Rattle.sh_parse.specs.Building.{build, start}
-use Rattle.sh_parse.specs.Built.{state_of}
-use Rattle.sh_parse.specs.Moves.{stacked}
+use Rattle.sh_parse.specs.Inner.Owed.{again}
+use Rattle.sh_parse.specs.Inner.Building.{build, start}
+use Rattle.sh_parse.specs.Inner.Built.{state_of}
+use Rattle.sh_parse.specs.Inner.Moves.{stacked}
 use Rattle.sh_parse.proofs.parsing.build.Given as goal
 
 abbrev pub invariant-loop-first : goal.invariant-loop-first

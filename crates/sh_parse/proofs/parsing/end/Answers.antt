@@ -1,7 +1,7 @@
 use Rattle.std.proofs.Common.{◌∙◌, ap, sym}
-use Rattle.sh_parse.specs.Building.{ended}
-use Rattle.sh_parse.specs.Built.{state_of}
-use Rattle.sh_parse.specs.Moves.{stacked}
+use Rattle.sh_parse.specs.Inner.Building.{ended}
+use Rattle.sh_parse.specs.Inner.Built.{state_of}
+use Rattle.sh_parse.specs.Inner.Moves.{stacked}
 use Rattle.sh_parse.proofs.Checks.{popped}
 use Rattle.sh_parse.proofs.parsing.end.Goals as goal
 

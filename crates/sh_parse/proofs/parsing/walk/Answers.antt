@@ -1,7 +1,7 @@
 use Rattle.std.proofs.Common.{◌∙◌, ap}
-use Rattle.sh_parse.specs.Building.{walked, acted}
-use Rattle.sh_parse.specs.Built.{state_of}
-use Rattle.sh_parse.specs.Moves.{stacked}
+use Rattle.sh_parse.specs.Inner.Building.{walked, acted}
+use Rattle.sh_parse.specs.Inner.Built.{state_of}
+use Rattle.sh_parse.specs.Inner.Moves.{stacked}
 use Rattle.sh_parse.proofs.Checks.{popped, goes_is, halts_is}
 use Rattle.sh_parse.proofs.Walks.{goes_on, left_over}
 use Rattle.sh_parse.proofs.parsing.walk.Goals as goal

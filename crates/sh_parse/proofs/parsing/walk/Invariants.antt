@@ -1,8 +1,8 @@
 -- The parts that were passed over are left out.
 use Rattle.std.proofs.Common.{◌≡◌, vec_len}
-use Rattle.sh_parse.specs.Building.{walked}
-use Rattle.sh_parse.specs.Built.{state_of}
-use Rattle.sh_parse.specs.Moves.{stacked}
+use Rattle.sh_parse.specs.Inner.Building.{walked}
+use Rattle.sh_parse.specs.Inner.Built.{state_of}
+use Rattle.sh_parse.specs.Inner.Moves.{stacked}
 use Rattle.sh_parse.proofs.parsing.walk.Given as goal
 
 abbrev pub invariant-loop-part : goal.invariant-loop-part

@@ -1,5 +1,5 @@
 use Rattle.std.proofs.Common.{◌∙◌, [], ◌∷◌, sym, ap}
-use Rattle.sh_parse.specs.Owed.{move, pipes, joins, separator, followed, stuck, skip}
+use Rattle.sh_parse.specs.Inner.Owed.{move, pipes, joins, separator, followed, stuck, skip}
 use Rattle.sh_parse.proofs.Movings.{next_command_rest, next_pipeline_rest, again_rest, body_rest}
 use Rattle.sh_parse.proofs.parts.move_at.Goals as goal
 

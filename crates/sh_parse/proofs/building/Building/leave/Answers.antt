@@ -1,5 +1,5 @@
 use Rattle.std.proofs.Common.{◌∙◌, ◌∷◌, ap, sym}
-use Rattle.sh_parse.specs.Built.{level_of, levels_of}
+use Rattle.sh_parse.specs.Inner.Built.{level_of, levels_of}
 use Rattle.sh_parse.proofs.Arounds.{levels_last}
 use Rattle.sh_parse.proofs.building.Building.leave.Goals as goal
 

@@ -1,5 +1,5 @@
 use Rattle.std.proofs.Common.{rules}
-use Rattle.sh_parse.specs.Trees.{and_or_tree}
+use Rattle.sh_tree.specs.Views.{and_or_tree}
 use Rattle.sh_parse.proofs.Lists.{items_pushed}
 use Rattle.sh_parse.proofs.levels.Listing.end_and_or.Goals as goal
 

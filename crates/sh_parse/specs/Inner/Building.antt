@@ -9,10 +9,11 @@ use Rattle.sh_tree.specs.declared.commands.How.{How}
 use Rattle.sh_tree.specs.declared.commands.How.TheVariants as how
 use Rattle.sh_tree.specs.declared.commands.Join.{Join}
 use Rattle.sh_tree.specs.declared.commands.Join.TheVariants as join
-use Rattle.sh_parse.specs.Pieces.{WordViews, sub_count, subs_then, no_piece, tail_of, words_of, default_number}
+use Rattle.sh_tree.specs.Numbering.{sub_count}
+use Rattle.sh_parse.specs.Pieces.{WordViews, subs_then, no_piece, tail_of, words_of, default_number}
 use Rattle.sh_parse.specs.Places.{used}
 use Rattle.sh_parse.specs.Grammar.{script_of}
-use Rattle.sh_parse.specs.Owed.{Part, Move, push, opens, skip, stuck, move, pieces, operator, target, pipes, joins, a_pipeline, a_command, next_command, next_pipeline, again, body, loop_name}
+use Rattle.sh_parse.specs.Inner.Owed.{Part, Move, push, opens, skip, stuck, move, pieces, operator, target, pipes, joins, a_pipeline, a_command, next_command, next_pipeline, again, body, loop_name}
 use Rattle.sh_parse.specs.declared.items.Item.{Item}
 use Rattle.sh_parse.specs.declared.items.Item.TheVariants as token
 use Rattle.sh_parse.specs.declared.items.Span.{Span}

@@ -2,13 +2,12 @@
 use Rattle.std.specs.Prelude.{List, [], ◌∷◌, ◌++◌, map}
 use Rattle.std.specs.declared.option.Option.{Option}
 use Rattle.std.specs.Option.{option_map}
-use Rattle.sh_tree.specs.Trees.{ListTree, no_item, PipelineTree, SubTrees, no_sub, SimpleTree, simple_command}
-use Rattle.sh_tree.specs.Views.{word_tree, redir_tree, items_onto, subs_onto, list_tree, in_of}
+use Rattle.sh_tree.specs.Trees.{ListTree, PipelineTree, SubTrees, SimpleTree, simple_command}
+use Rattle.sh_tree.specs.Views.{word_tree, redir_tree, list_tree, in_of, command_tree, pipeline_tree, words_tree, items_tree, subs_tree}
 use Rattle.sh_tree.specs.declared.commands.Join.{Join}
 use Rattle.sh_tree.specs.declared.commands.List as declared_list
 use Rattle.sh_tree.specs.declared.commands.Pipeline.{Pipeline}
-use Rattle.sh_parse.specs.Trees.{command_tree, and_or_tree, pipeline_tree, words_tree}
-use Rattle.sh_parse.specs.Building as b
+use Rattle.sh_parse.specs.Inner.Building as b
 use Rattle.sh_parse.specs.declared.levels.Construct.{Construct}
 use Rattle.sh_parse.specs.declared.levels.Construct.TheVariants as open_one
 use Rattle.sh_parse.specs.declared.levels.Chain.{Chain}
@@ -45,14 +44,14 @@ chain_of chain = option_map chain_parts chain
 
 abbrev pub listing_of : Listing → b.Listing
 listing_of list =
-    b.listing (items_onto (map and_or_tree list.items.items) no_item) (chain_of list.chain) list.sign list.negated
+    b.listing (items_tree list.items.items) (chain_of list.chain) list.sign list.negated
     (map command_tree list.stages.items)
 
 abbrev pub made_of : Option (Construct × declared_list.List) → Option (b.Construct × ListTree)
 made_of made = option_map (λ pair. (construct_of pair.0, list_tree pair.1)) made
 
 abbrev pub subs_of : Making → SubTrees
-subs_of command = subs_onto (map list_tree command.subs.items) no_sub
+subs_of command = subs_tree command.subs.items
 
 abbrev pub pieces_of : Making → SimpleTree
 pieces_of command =

@@ -6,7 +6,7 @@ use Rattle.std.specs.declared.option.Option.TheVariants.{None, Some}
 use Rattle.sh_parse.specs.Pieces.{WordViews}
 use Rattle.sh_parse.specs.Places.{begins_piece}
 use Rattle.sh_parse.specs.Grammar.{is_sub_open}
-use Rattle.sh_parse.specs.Owed.{Part, Move, push, opens, skip, stuck, move, Next, goes, deeper, fails, step}
+use Rattle.sh_parse.specs.Inner.Owed.{Part, Move, push, opens, skip, stuck, move, Next, goes, deeper, fails, step}
 use Rattle.sh_parse.specs.Stops.{offset_of}
 use Rattle.sh_parse.specs.Misuses.{goes_on_command, mixes}
 use Rattle.sh_parse.specs.declared.items.Item.{Item}

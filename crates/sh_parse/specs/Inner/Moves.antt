@@ -1,6 +1,6 @@
 -- What the code's moves are.
 use Rattle.std.specs.Prelude.{◌≡◌, ℕ, ◌+◌, length, List, [], ◌∷◌, ◌++◌}
-use Rattle.sh_parse.specs.Owed.{Part, Move, push, opens, skip, stuck, Verdict, verdict, bad, deep}
+use Rattle.sh_parse.specs.Inner.Owed.{Part, Move, push, opens, skip, stuck, Verdict, verdict, bad, deep}
 use Rattle.sh_parse.specs.declared.items.Item.{Item}
 use Rattle.sh_parse.specs.declared.items.TheConstants.{MAX_LEVELS}
 use Rattle.sh_parse.specs.declared.checking.Stop.{Stop}

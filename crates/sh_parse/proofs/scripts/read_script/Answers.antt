@@ -1,9 +1,9 @@
 use Rattle.std.proofs.Common.{subst, IfOk}
 use Rattle.sh_tree.specs.Views.{script_tree}
 use Rattle.sh_parse.specs.Outcomes.{IsSound}
-use Rattle.sh_parse.specs.WordsOf.{words_of}
+use Rattle.sh_parse.specs.Inner.WordsOf.{words_of}
 use Rattle.sh_parse.proofs.Parsings.{script_of_text}
-use Rattle.sh_parse.proofs.scripts.parse.Goals as goal
+use Rattle.sh_parse.proofs.scripts.read_script.Goals as goal
 
 pub returns-in-Ok-clause-script : goal.returns-in-Ok-clause-script
 returns-in-Ok-clause-script c =

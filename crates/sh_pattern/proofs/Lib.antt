@@ -1,4 +1,6 @@
 pub mod FitLemmas
+pub mod TrimLemmas
+pub mod StandingLemmas
 pub mod ExpansionLemmas
 pub mod ReadingLemmas
 pub mod ClosingLemmas

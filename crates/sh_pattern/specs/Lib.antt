@@ -4,6 +4,8 @@ pub mod Brackets
 pub mod Closings
 pub mod Reading
 pub mod Fits
+pub mod Trims
 pub mod Walks
+pub mod Standing
 pub mod PathExpansion
 pub mod Finding

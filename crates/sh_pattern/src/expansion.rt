@@ -42,7 +42,8 @@ pub fn expand_paths<T: Tree>(
 ) -> Result<Vec<Vec<u8>>, WorldErr>
     ensures names { IfOk result (λ names. IfSome (T.state tree.old).held (λ files.
         Expands files (T.state tree.old).home text.now (texts_of_lem names.items))) }
-    ensures plain { has_special_lem text.now ≡ false → T.faults tree.new ≡ T.faults tree.old }
+    ensures plain { has_special_lem text.now ≡ false → IfOk result (λ names. texts_of_lem names.items ≡ bytes_of_lem text.now ∷ []) }
+    ensures unasked { has_special_lem text.now ≡ false → tree.new ≡ tree.old }
     ensures state { T.state tree.new ≡ T.state tree.old }
     ensures cause { Counts (T.faults tree.old) (T.faults tree.new) result }
 {

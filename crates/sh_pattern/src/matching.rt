@@ -93,7 +93,7 @@ fn is_star(element: &Element) -> bool
 }
 
 /// Whether the element fits this byte alone.
-fn takes(element: &Element, byte: u8) -> bool
+pub(crate) fn takes(element: &Element, byte: u8) -> bool
     ensures { result ≡ takes element.now byte }
 {
     match element {

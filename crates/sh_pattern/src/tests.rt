@@ -2,6 +2,7 @@
 //! answers where the rule isn't our own.
 
 mod paths;
+mod trims;
 
 use crate::{Mark, matches, read_pattern};
 use std::alloc::{AllocError, Global};

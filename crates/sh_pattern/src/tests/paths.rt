@@ -469,7 +469,16 @@ fn every_component_has_to_be_there(rt: HostRuntime) -> Result<(), Fail> {
     expands(
         &rt,
         &[(b"/w/a", Some(b"")), (b"/dev/x", Some(b""))],
-        &[(b"/dev/*", b"uuuuuu", b"/dev/x")],
+        &[
+            (b"/dev/*", b"uuuuuu", b"/dev/x"),
+            (b"/*/null", b"uuuuuuu", b"/*/null"),
+            (b"/dev/n*", b"uuuuuuu", b"/dev/n*"),
+        ],
+    )?;
+    expands(
+        &rt,
+        &[(b"/w/a", Some(b"")), (b"/dev/null", Some(b""))],
+        &[(b"/*/null", b"uuuuuuu", b"/dev/null")],
     )
 }
 

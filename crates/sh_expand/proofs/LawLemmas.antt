@@ -17,7 +17,8 @@ use Rattle.sh_expand.specs.declared.splitting.Before.TheVariants as before
 use Rattle.sh_expand.specs.declared.parameters.Setting.TheVariants as setting
 use Rattle.sh_expand.specs.Given.{Given}
 use Rattle.sh_expand.specs.Marks.{bare, byte_of, before as byte_before, marked, value, begins_pattern, has_pattern, pattern_of}
-use Rattle.sh_expand.specs.Parameters.{as_fields, behind_fields, ifs_of}
+use Rattle.sh_expand.specs.Parameters.{as_fields, behind_fields}
+use Rattle.sh_expand.specs.Separators.{ifs_of}
 use Rattle.sh_expand.specs.Splitting.{split, split_behind, onto, at_mark, act_at, after, class_of, spliced}
 use Rattle.sh_expand.specs.Values.{WordGives, no_more, one_more, told_at_once}
 use Rattle.sh_expand.specs.Fields.{AreFields, no_word, next_word, AreNames, no_field, next_field}

@@ -1,9 +1,10 @@
 pub mod SplitLemmas
 pub mod ParameterLemmas
-pub mod TrimLemmas
 pub mod ValueLemmas
 pub mod WordLemmas
 pub mod FieldLemmas
 pub mod LawLemmas
 pub mod UniqueLemmas
 pub mod SomeLemmas
+pub mod CutLemmas
+pub mod OutcomeLemmas

@@ -21,15 +21,16 @@ use Rattle.sh_expand.specs.declared.faults.ValueFault.TheVariants as value_fault
 use Rattle.sh_expand.specs.declared.marks.Marked.{Marked}
 use Rattle.sh_expand.specs.declared.parameters.Setting.{Setting}
 use Rattle.sh_expand.specs.declared.parameters.Setting.TheVariants as setting
-use Rattle.sh_expand.specs.declared.trims.Side.{Side}
-use Rattle.sh_expand.specs.declared.trims.Side.TheVariants as side
+use Rattle.sh_pattern.specs.declared.trims.Side.{Side}
+use Rattle.sh_pattern.specs.declared.trims.Side.TheVariants as side
 use Rattle.sh_expand.specs.Faults.{told, arith_fault}
 use Rattle.sh_expand.specs.Fields.{AreFields, no_word, next_word, AreNames, no_field, next_field, IsMeant, Pass, all_passed, passes, Stop, stops_here, stops_later, word_stops, TextGives, has_text, TextStops, text_stops}
 use Rattle.sh_expand.specs.Given.{Given}
 use Rattle.sh_expand.specs.Marks.{bare, pattern_of, value}
-use Rattle.sh_expand.specs.Parameters.{ifs_of, is_usable, or_nothing, parameter_text}
+use Rattle.sh_expand.specs.Parameters.{is_usable, or_nothing, parameter_text}
+use Rattle.sh_expand.specs.Separators.{ifs_of}
 use Rattle.sh_expand.specs.Splitting.{split}
-use Rattle.sh_expand.specs.Trims.{FitsAt, IsNowhere, IsFirst, IsLast, IsBest, left_of, Cuts, cut, whole}
+use Rattle.sh_pattern.specs.Trims.{FitsAt, IsNowhere, IsFirst, IsLast, IsBest, left_of, Cuts, cut, whole}
 use Rattle.sh_expand.specs.Values.{Outcome, Begun, at_once, needs, begun, form_begun, Trims, trims, Computes, computes, fails, FormEnds, left_by, Ends, word_in, word_in_form, text_in, WordGives, no_more, one_more, first_stops, later_stops, PartGives, told_at_once, by_its_word, its_word_stops}
 
 -- Cuts
@@ -312,7 +313,7 @@ module _ (given : Given) where
 -- Fields
 
 module _ (files : Files) (home : Components) where
-  some_names : (fields : List (List Marked)) → (names : List (List ℕ)) × AreNames files home fields names
+  pub some_names : (fields : List (List Marked)) → (names : List (List ℕ)) × AreNames files home fields names
   some_names [] = ([], no_field)
   some_names (field ∷ fields) =
       let (names, expands) = some_expansion files home (pattern_of field) in
@@ -320,7 +321,7 @@ module _ (files : Files) (home : Components) where
       (names ++ others, next_field expands are)
 
   -- words that have marks have fields
-  passed_fields : {given : Given} {before after : Variables} {words : List WordTree} → Pass given before words after → (fields : List (List ℕ)) × AreFields files home given before words fields after
+  pub passed_fields : {given : Given} {before after : Variables} {words : List WordTree} → Pass given before words after → (fields : List (List ℕ)) × AreFields files home given before words fields after
   passed_fields all_passed = ([], no_word)
   passed_fields (passes {between = between} {marks = marks} has passed) =
       let (names, are) = some_names (split (ifs_of between) marks) in

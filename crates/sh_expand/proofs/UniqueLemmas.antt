@@ -19,23 +19,24 @@ use Rattle.sh_pattern.specs.PathExpansion.{IsAmong, AreNamed, Expands, unlooked,
 use Rattle.sh_pattern.proofs.ReadingLemmas.{one_reading}
 use Rattle.sh_tree.specs.Trees.{WordTree, PartTree, plain, quoted, parameter, substitution, arithmetic, FormTree, bare as bare_form, length_of, default, assign, check_omitted, check, alternate, cut_suffix, cut_prefix}
 use Rattle.sh_tree.specs.declared.words.Param.{Param}
-use Rattle.sh_expand.proofs.FieldLemmas.{neither, or_nothing_more}
+use Rattle.sh_expand.proofs.FieldLemmas.{neither, alone}
 use Rattle.sh_expand.specs.declared.faults.ExpandFault.{ExpandFault}
 use Rattle.sh_expand.specs.declared.faults.ExpandFault.TheVariants as fault
 use Rattle.sh_expand.specs.declared.faults.ValueFault.{ValueFault}
 use Rattle.sh_expand.specs.declared.faults.ValueFault.TheVariants as value_fault
 use Rattle.sh_expand.specs.declared.marks.Marked.{Marked}
 use Rattle.sh_expand.specs.declared.parameters.Setting.{Setting}
-use Rattle.sh_expand.specs.declared.trims.Side.{Side}
-use Rattle.sh_expand.specs.declared.trims.Side.TheVariants as side
+use Rattle.sh_pattern.specs.declared.trims.Side.{Side}
+use Rattle.sh_pattern.specs.declared.trims.Side.TheVariants as side
 use Rattle.sh_expand.specs.Faults.{told, arith_fault}
 use Rattle.sh_expand.specs.Given.{Given}
 use Rattle.sh_expand.specs.Marks.{bare, value, has_pattern}
-use Rattle.sh_expand.specs.Parameters.{ifs_of, or_nothing}
+use Rattle.sh_expand.specs.Parameters.{or_nothing}
+use Rattle.sh_expand.specs.Separators.{ifs_of}
 use Rattle.sh_expand.specs.Splitting.{split}
-use Rattle.sh_expand.specs.Trims.{FitsAt, IsBest, left_of, Cuts, cut, whole}
+use Rattle.sh_pattern.specs.Trims.{FitsAt, IsBest, left_of, Cuts, cut, whole}
 use Rattle.sh_expand.specs.Values.{Outcome, at_once, needs, Trims, trims, Computes, computes, fails, short, short_at_last, FormEnds, left_by, Ends, text_in, WordGives, no_more, one_more, first_stops, later_stops, PartGives, told_at_once, by_its_word, its_word_stops, no_memory, none_after_its_word}
-use Rattle.sh_expand.specs.Fields.{HasMarks, AreNames, no_field, next_field, AreFields, no_word, next_word, Pass, all_passed, passes, PatternIn, in_none, in_words, WordStops, word_stops, fails_behind, Stop, stops_here, stops_later, fails_here, too_many, HasSomeMarks, IsOutside, IsMeant, TextGives, has_text, TextStops, text_stops, text_short}
+use Rattle.sh_expand.specs.Fields.{HasMarks, AreNames, no_field, next_field, AreFields, no_word, next_word, Pass, all_passed, passes, PatternIn, in_none, in_words, WordStops, word_stops, fails_behind, Stop, stops_here, stops_later, fails_here, too_many, HasSomeMarks, IsPlain, IsOutside, IsMeant, TextGives, has_text, TextStops, text_stops, text_short}
 
 -- Cuts
 
@@ -296,34 +297,30 @@ first_plain {given} {after = after} x (in_words {between = beyond} {words = word
     let behind = subst (λ (b : Bool). PatternIn given beyond words b after) each.1 rest in
     (here ∙ each.0, subst (λ (v : Variables). PatternIn given v words false after) (sym same.left) behind)
 
--- the first word alone has none
-alone : {given : Given} {before after : Variables} {word : WordTree} {words : List WordTree} {found : Bool} → PatternIn given before (word ∷ words) found after → found ≡ false → (between : Variables) × PatternIn given before (word ∷ []) false between
-alone {given} {before} {word = word} (in_words {between = between} {marks = marks} {found = found} x rest) none =
-    let here = list_any has_pattern (split (ifs_of between) marks) in
-    let each = neither here found none in
-    (between, subst (λ (b : Bool). PatternIn given before (word ∷ []) b between) (or_nothing_more here ∙ each.0) (in_words x in_none))
+-- nor has the first word alone
+pub marks_plain : {given : Given} {before after : Variables} {word : WordTree} {marks : List Marked} → HasMarks given before word marks after → IsPlain given before (word ∷ []) → list_any has_pattern (split (ifs_of after) marks) ≡ false
+marks_plain has none = (first_plain has none.1 refl).0
 
 -- so a call that leaves a tree as it was at such a word does so behind others that did
 pub untouched_here : {Tree : Type 0} (was here now : Tree) (given : Given) (begin before : Variables) (all left words : List WordTree) (word : WordTree) → left ≡ word ∷ words
-    → ((after : Variables) → PatternIn given before (word ∷ []) false after → now ≡ here)
-    → ((after : Variables) → PatternIn given begin all false after → (here ≡ was) × PatternIn given before left false after)
-    → (after : Variables) → PatternIn given begin all false after → now ≡ was
-untouched_here was here now given begin before all left words word front stays go after none =
-    let so = go after none in
-    let one = alone (subst (λ (these : List WordTree). PatternIn given before these false after) front so.1) refl in
-    stays one.0 one.1 ∙ so.0
+    → (IsPlain given before (word ∷ []) → now ≡ here) → (IsPlain given begin all → (here ≡ was) × IsPlain given before left) → IsPlain given begin all → now ≡ was
+untouched_here was here now given begin before all left words word front stays go none =
+    let so = go none in
+    stays (alone (subst (λ (these : List WordTree). IsPlain given before these) front so.1)) ∙ so.0
 
 pub untouched_step : {Tree : Type 0} (was here now : Tree) (given : Given) (begin before between : Variables) (all left words : List WordTree) (word : WordTree) → left ≡ word ∷ words → HasSomeMarks given before word between
-    → ((after : Variables) → PatternIn given before (word ∷ []) false after → now ≡ here)
-    → ((after : Variables) → PatternIn given begin all false after → (here ≡ was) × PatternIn given before left false after)
-    → (after : Variables) → PatternIn given begin all false after → (now ≡ was) × PatternIn given between words false after
-untouched_step was here now given begin before between all left words word front has stays go after none =
-    let these = subst (λ (these : List WordTree). PatternIn given before these false after) front (go after none).1 in
-    (untouched_here was here now given begin before all left words word front stays go after none, (first_plain has.1 these refl).1)
+    → (IsPlain given before (word ∷ []) → now ≡ here) → (IsPlain given begin all → (here ≡ was) × IsPlain given before left) → IsPlain given begin all → (now ≡ was) × IsPlain given between words
+untouched_step was here now given begin before between all left words word front has stays go none =
+    let these = subst (λ (these : List WordTree). IsPlain given before these) front (go none).1 in
+    (untouched_here was here now given begin before all left words word front stays go none, (these.0, (first_plain has.1 these.1 refl).1))
 
 pub fields_pass : {files : Files} {home : Components} {given : Given} {before after : Variables} {words : List WordTree} {fields : List (List ℕ)} → AreFields files home given before words fields after → Pass given before words after
 fields_pass no_word = all_passed
 fields_pass (next_word x named more) = passes x (fields_pass more)
+
+pub pattern_passes : {given : Given} {before after : Variables} {words : List WordTree} {found : Bool} → PatternIn given before words found after → Pass given before words after
+pattern_passes in_none = all_passed
+pattern_passes (in_words x more) = passes x (pattern_passes more)
 
 -- Faults
 

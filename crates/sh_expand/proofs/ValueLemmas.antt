@@ -8,9 +8,9 @@ use Rattle.sh_arith.specs.Arithmetic.{HasOutcome}
 use Rattle.sh_tree.specs.Trees.{FormTree}
 use Rattle.sh_tree.specs.declared.words.Param.{Param}
 use Rattle.sh_expand.specs.declared.marks.Marked.{Marked}
-use Rattle.sh_expand.specs.declared.trims.Side.{Side}
+use Rattle.sh_pattern.specs.declared.trims.Side.{Side}
 use Rattle.sh_expand.specs.Marks.{value, pattern_of}
-use Rattle.sh_expand.specs.Trims.{Cuts}
+use Rattle.sh_pattern.specs.Trims.{Cuts}
 use Rattle.sh_expand.specs.Values.{Begun, at_once, Adds, Computes, computes, fails, short, short_at_last, Trims, trims, FormEnds}
 
 -- the marks were had at once

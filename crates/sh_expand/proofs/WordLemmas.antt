@@ -11,7 +11,7 @@ use Rattle.sh_expand.specs.declared.marks.Marked.{Marked}
 use Rattle.sh_expand.specs.declared.parameters.Setting.{Setting}
 use Rattle.sh_expand.specs.Given.{Given}
 use Rattle.sh_expand.specs.Values.{at_once, needs, begun, Adds, Ends, word_in, text_in, WordGives, PartGives, told_at_once, by_its_word, no_memory, none_after_its_word}
-use Rattle.sh_expand.specs.Views.{part_tree, parts_tree}
+use Rattle.sh_tree.specs.Views.{part_tree, parts_tree}
 
 -- a part that is done
 pub done : (given : Given) (used : Setting) (before : Variables) (it : PartTree) (old new : List Marked) → Adds (λ (marks : List Marked). begun given used before it ≡ at_once (Ok marks)) old new

@@ -1,12 +1,13 @@
 -- Fields (XCU 2.6): word by word from the left, the marks of a word's parts are cut into fields, a field with a pattern gives the names
 -- that fit it, and the marks are removed. Each word sees the variables that the words before it left.
-use Rattle.std.specs.Prelude.{◌≡◌, ◌⊎◌, ◌||◌, ℕ, ◌<◌, ◌≤◌, length, Bool, false, List, [], ◌∷◌, ◌++◌, Result, Ok, Err, IfErr, IsErrOf, OnOk}
+use Rattle.std.specs.Prelude.{◌≡◌, ◌⊎◌, ◌||◌, ℕ, ◌<◌, ◌≤◌, length, Bool, false, List, [], ◌∷◌, ◌++◌, Some, Result, Ok, Err, IfErr, IsErrOf, OnOk}
 use Rattle.ps_world.specs.Counts.{Rose}
 use Rattle.std.specs.List.{list_any}
 use Rattle.ps_world.specs.declared.error.WorldErr.{WorldErr}
 use Rattle.ps_world.specs.declared.error.WorldErr.TheVariants as world
 use Rattle.ps_world.specs.Files.{Files}
 use Rattle.ps_world.specs.Paths.{Components}
+use Rattle.ps_world.specs.TreeState.{TreeState}
 use Rattle.sh_tree.specs.Trees.{WordTree}
 use Rattle.sh_pattern.specs.PathExpansion.{Expands}
 use Rattle.sh_arith.specs.Variables.{Variables}
@@ -19,7 +20,7 @@ use Rattle.sh_expand.specs.Faults.{told}
 use Rattle.sh_expand.specs.Marks.{bare, pattern_of, has_pattern}
 use Rattle.sh_expand.specs.Splitting.{split}
 use Rattle.sh_expand.specs.Given.{Given}
-use Rattle.sh_expand.specs.Parameters.{ifs_of}
+use Rattle.sh_expand.specs.Separators.{ifs_of}
 use Rattle.sh_expand.specs.Values.{WordGives}
 
 -- the word has these marks, and leaves these variables
@@ -49,6 +50,14 @@ pub data Pass (given : Given) : Variables → List WordTree → Variables → Ty
 pub data PatternIn (given : Given) : Variables → List WordTree → Bool → Variables → Type 0 where
   in_none : {variables : Variables} → PatternIn given variables [] false variables
   in_words : {before between after : Variables} {word : WordTree} {words : List WordTree} {marks : List Marked} {found : Bool} → HasMarks given before word marks between → PatternIn given between words found after → PatternIn given before (word ∷ words) (list_any has_pattern (split (ifs_of between) marks) || found) after
+
+-- no unquoted pattern byte is left in a field of the words
+abbrev pub IsPlain : Given → Variables → List WordTree → Type 0
+IsPlain given before words = (after : Variables) × PatternIn given before words false after
+
+-- in these files, and from this working directory, names are looked up: those that the tree tells, or any, where none is looked up
+abbrev pub Sees : TreeState → Type 0 → Files → Components → Type 0
+Sees state Plain files home = Plain ⊎ ((state.held ≡ Some files) × (state.home ≡ home))
 
 -- the fault is want of memory, or of the tree
 abbrev pub IsOutside : ExpandFault → Type 0
@@ -125,4 +134,12 @@ pub record Asks {T : Type 0} (before now : ℕ) (result : Result T ExpandFault) 
 pub record Appends (Are : List (List ℕ) → Type 0) (old new : List (List ℕ)) : Type 0 where
   pub names : List (List ℕ)
   pub grew : new ≡ old ++ names
+  pub are : Are names
+
+-- names were appended, which are such, or the first of them, where there are more than this many then
+pub record AppendsUpTo (most : ℕ) (Are : List (List ℕ) → Type 0) (old new : List (List ℕ)) : Type 0 where
+  pub names : List (List ℕ)
+  pub left_out : List (List ℕ)
+  pub grew : new ++ left_out ≡ old ++ names
+  pub all : length new ≤ most → left_out ≡ []
   pub are : Are names

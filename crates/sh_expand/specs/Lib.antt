@@ -2,11 +2,11 @@ pub mod Faults
 pub mod Marks
 pub mod Splitting
 pub mod Given
+pub mod Separators
 pub mod Parameters
-pub mod Trims
 pub mod Values
-pub mod Views
 pub mod Frames
 pub mod Fields
+pub mod Outcomes
 pub mod MarkedTexts
 pub mod Laws

@@ -11,14 +11,11 @@ use Rattle.sh_expand.specs.declared.parameters.Setting.{Setting}
 use Rattle.sh_expand.specs.declared.parameters.Setting.TheVariants as setting
 use Rattle.sh_expand.specs.Given.{Given, argument}
 use Rattle.sh_expand.specs.Marks.{value}
+use Rattle.sh_expand.specs.Separators.{ifs_of}
 
 -- a parameter that is unset is empty
 abbrev pub or_nothing : Option (List ℕ) → List ℕ
 or_nothing text = unwrap_or text []
-
--- the bytes that separate fields: IFS, or where it is unset space, tab and newline
-abbrev pub ifs_of : Variables → List ℕ
-ifs_of variables = unwrap_or (map.get variables (73 ∷ 70 ∷ 83 ∷ [])) (32 ∷ 9 ∷ 10 ∷ [])
 
 -- the byte that joins `$*`: the first of IFS, a space where it is unset, and none where it is empty
 abbrev pub separator_of : Variables → List ℕ

@@ -1,12 +1,13 @@
 -- Field splitting (XCU 2.6.5). Bytes that an expansion outside quotes gave separate fields where they are in IFS. White space of IFS
 -- separates fields, and is dropped at the ends; each other byte of IFS ends a field, with the white space beside it. So does the end
 -- of an argument of `$@` or `$*`, but for the field that would be empty.
-use Rattle.std.specs.Prelude.{ℕ, ◌==◌, ◌||◌, Bool, List, [], ◌∷◌, ◌≡◌, ◌++◌, map, if◌then◌else◌}
+use Rattle.std.specs.Prelude.{ℕ, ◌≤◌, length, ◌==◌, Bool, false, List, [], ◌∷◌, ◌≡◌, ◌++◌, map, if◌then◌else◌}
 use Rattle.std.specs.List.{list_any}
 use Rattle.std.specs.Global.{Vec}
 use Rattle.ps_lines.specs.Bytes.{is_white_space}
 use Rattle.sh_expand.specs.declared.marks.Marked.{Marked}
 use Rattle.sh_expand.specs.declared.marks.Marked.TheVariants.{Written, Quoted, Loose, EmptyPart, FieldEnd}
+use Rattle.sh_expand.specs.Marks.{is_pattern}
 use Rattle.sh_expand.specs.declared.splitting.Class.{Class}
 use Rattle.sh_expand.specs.declared.splitting.Class.TheVariants as class
 use Rattle.sh_expand.specs.declared.splitting.Before.{Before}
@@ -80,10 +81,22 @@ split ifs marks = split_behind ifs before.Start marks
 abbrev pub fields_of : List (Vec Marked) → List (List Marked)
 fields_of = map (λ field. field.items)
 
+-- these are the fields, or the first of them, where there are more than this many
+pub record AreUpTo (most : ℕ) (all fields : List (List Marked)) : Type 0 where
+  pub left_out : List (List Marked)
+  pub cut : fields ++ left_out ≡ all
+  pub whole : length fields ≤ most → left_out ≡ []
+
 -- between the parts of the code: marks in front of the first field
 abbrev pub spliced : List Marked → List (List Marked) → List (List Marked)
 spliced [] fields = fields
 spliced (mark ∷ marks) fields = onto mark (spliced marks fields)
+
+-- the mark stays in its field, and is an unquoted pattern byte
+abbrev pub keeps_pattern : Act → Marked → Bool
+keeps_pattern act.Keep mark = is_pattern mark
+keeps_pattern act.Skip mark = false
+keeps_pattern act.End mark = false
 
 -- the field that has begun, after a mark
 abbrev pub held : Act → Marked → List Marked → List Marked

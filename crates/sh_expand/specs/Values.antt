@@ -19,13 +19,13 @@ use Rattle.sh_expand.specs.declared.marks.Manner.{Manner}
 use Rattle.sh_expand.specs.declared.marks.Manner.TheVariants as manner
 use Rattle.sh_expand.specs.declared.parameters.Setting.{Setting}
 use Rattle.sh_expand.specs.declared.parameters.Setting.TheVariants as setting
-use Rattle.sh_expand.specs.declared.trims.Side.{Side}
-use Rattle.sh_expand.specs.declared.trims.Side.TheVariants as side
+use Rattle.sh_pattern.specs.declared.trims.Side.{Side}
+use Rattle.sh_pattern.specs.declared.trims.Side.TheVariants as side
 use Rattle.sh_expand.specs.Faults.{arith_fault}
 use Rattle.sh_expand.specs.Marks.{marked, value, or_empty, bare, pattern_of}
 use Rattle.sh_expand.specs.Given.{Given, substituted}
 use Rattle.sh_expand.specs.Parameters.{parameter_text, is_usable, or_nothing, name_of, plain_value, assigned}
-use Rattle.sh_expand.specs.Trims.{Cuts}
+use Rattle.sh_pattern.specs.Trims.{Cuts}
 
 -- marks or a fault, and the variables then
 abbrev pub Outcome : Type 0

@@ -5,7 +5,7 @@ ghost use Rattle.sh_tree.specs.Trees.{WordTree};
 ghost use Rattle.sh_expand.specs.Given.{given_of};
 ghost use Rattle.sh_expand.specs.Parameters.{name_of as name_of_lem};
 ghost use Rattle.sh_expand.specs.Values.{BeginsAs, begun, form_begun, word_in, word_in_form, text_in, unless_set as unless_set_lem, where_set as where_set_lem, needs, at_once, inside as inside_lem, plain_manner as plain_manner_lem, not_set as not_set_lem};
-ghost use Rattle.sh_expand.specs.Views.{part_tree, form_tree};
+ghost use Rattle.sh_tree.specs.Views.{part_tree, form_tree};
 
 use crate::faults::ValueFault;
 use crate::known::{Known, substituted};

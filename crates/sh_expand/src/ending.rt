@@ -4,16 +4,15 @@ ghost use Rattle.std.specs.Prelude.{◌≡◌, ◌⊎◌, ◌++◌, Ok, Err, IfE
 ghost use Rattle.sh_expand.specs.Marks.{bare as bare_lem, or_empty, value};
 ghost use Rattle.sh_expand.specs.Parameters.{name_of as name_of_lem};
 ghost use Rattle.sh_expand.specs.Values.{Adds, Computes, Trims, Ends, FormEnds, form_assigns};
-ghost use Rattle.sh_expand.specs.Views.{part_tree, form_tree};
+ghost use Rattle.sh_tree.specs.Views.{part_tree, form_tree};
 
 use crate::beginning::unset;
 use crate::faults::{ValueFault, arith_fault};
 use crate::marks::{Marked, add_value, bare, pattern_of};
 use crate::parameters::{or_nothing, set, signed_text};
-use crate::trims::{Side, trimmed};
 use ps_lines::{Memory, Text};
 use sh_arith::{Env, arith};
-use sh_pattern::read_pattern;
+use sh_pattern::{Side, read_pattern, trimmed};
 use sh_tree::{Form, Param, Part};
 use std::alloc::Global;
 
@@ -141,7 +140,10 @@ fn add_trimmed(
     let Ok(pattern) = read_pattern(alloc, marks.as_slice()) else {
         return Err(ValueFault::Memory);
     };
-    let Ok(()) = add_value(out, quoted, trimmed(&pattern, text, side, longest)) else {
+    let Ok(rest) = trimmed(alloc, &pattern, text, side, longest) else {
+        return Err(ValueFault::Memory);
+    };
+    let Ok(()) = add_value(out, quoted, rest) else {
         return Err(ValueFault::Memory);
     };
     Ok(())

@@ -9,17 +9,20 @@ ghost use Rattle.sh_pattern.specs.PathExpansion.{Expands};
 ghost use Rattle.sh_tree.specs.Views.{word_tree};
 ghost use Rattle.sh_expand.specs.Marks.{bare as bare_lem, has_pattern as has_pattern_lem, pattern_of as pattern_of_lem};
 ghost use Rattle.sh_expand.specs.Splitting.{split as split_lem, fields_of};
-ghost use Rattle.sh_expand.specs.Parameters.{ifs_of as ifs_of_lem};
 ghost use Rattle.sh_expand.specs.Given.{given_of};
-ghost use Rattle.sh_expand.specs.Fields.{HasMarks, HasSomeMarks, AreNames, AreFields, WordFields, Pass, PatternIn, WordStops, Stop, IsOfWords, IsOfWordsOrTree, TooMany, Asks, Appends, outside as outside_lem};
+ghost use Rattle.sh_expand.specs.Fields.{HasMarks, HasSomeMarks, AreNames, AreFields, WordFields, Pass, PatternIn, WordStops, Stop, IsOfWords, IsOfWordsOrTree, IsPlain, Sees, TooMany, Asks, Appends, AppendsUpTo, outside as outside_lem};
+ghost use Rattle.ps_world.specs.Files.{Files};
+ghost use Rattle.ps_world.specs.Paths.{Components};
 ghost use Rattle.sh_expand.specs.Frames.{frame_given};
+ghost use Rattle.sh_expand.specs.Outcomes.{Expansions, AreExpansions, Tells, told_of, told_fields};
 
 use crate::faults::{ExpandFault, told};
 use crate::frames::{Frame, known_of};
 use crate::known::Known;
 use crate::marks::{Marked, bare, has_pattern as is_pattern_among, pattern_of};
-use crate::parameters::{Setting, ifs_of};
-use crate::splitting::split;
+use crate::parameters::Setting;
+use crate::separators::ifs_of;
+use crate::splitting::{is_pattern_left, split};
 use crate::values::add_word;
 use ps_lines::Memory;
 use ps_world::{Tree, WorldErr};
@@ -33,7 +36,9 @@ pub const MAX_FIELDS: usize = 65_536;
 
 /// Whether an unquoted `*`, `?` or `[`, written or from an expansion, is left in some word before path expansion.
 ///
-/// The variables are left as `expand` leaves them, and the faults are those that it tells of the words.
+/// The variables are left as `expand` leaves them, and the faults are those that it tells of the words. So but for want of memory it
+/// tells the one outcome of this question.
+#[tactic(auto, using(crate::proofs::OutcomeLemmas::pattern_tells))]
 pub fn has_pattern(
     alloc: Global,
     words: &[Word],
@@ -42,6 +47,7 @@ pub fn has_pattern(
     ensures found { IfOk result (λ found. PatternIn (frame_given frame.old) frame.old.env.now (map word_tree words.now) found frame.new.env.now) }
     ensures fault { IfErr result (λ fault. Stop (frame_given frame.old) frame.old.env.now (map word_tree words.now) fault frame.new.env.now) }
     ensures of_words { IfErr result IsOfWords }
+    ensures told { (expansions : Expansions) → AreExpansions expansions → Tells (λ found. found) (told_of (expansions.pattern (frame_given frame.old) frame.old.env.now (map word_tree words.now))) result frame.new.env.now }
     ensures same { frame_given frame.new ≡ frame_given frame.old }
     ensures same_reference { frame.new.env.ghost_name ≡ frame.old.env.ghost_name }
 {
@@ -63,12 +69,7 @@ fn pattern_in_words(
     let mut found = false;
     for word in words {
         match marks_of_word(alloc, word, known, env) {
-            Ok(marks) => {
-                let Ok(here) = is_pattern_left(alloc, marks.as_slice(), env) else {
-                    return Err(ExpandFault::Memory);
-                };
-                found |= here;
-            }
+            Ok(marks) => found |= is_pattern_left(marks.as_slice(), ifs_of(env)),
             Err(fault) => return Err(fault),
         }
     }
@@ -94,91 +95,41 @@ fn marks_of_word(
     }
 }
 
-/// Whether an unquoted pattern byte is left in the fields of the marks.
-fn is_pattern_left(alloc: Global, marks: &[Marked], env: &Env) -> Result<bool, Memory>
-    ensures { IfOk result (λ found. found ≡ list_any has_pattern_lem (split_lem (ifs_of_lem env.now) marks.now)) }
-{
-    let fields = split(alloc, marks, ifs_of(env))?;
-    Ok(is_pattern_in(fields.as_slice()))
-}
-
-/// Whether an unquoted pattern byte is in one of the fields.
-fn is_pattern_in(fields: &[Vec<Marked>]) -> bool
-    ensures { result ≡ list_any has_pattern_lem (fields_of fields.now) }
-{
-    let mut left = fields;
-    while let [field, rest @ ..] = left {
-        if is_pattern_among(field.as_slice()) {
-            return true;
-        }
-        left = rest;
-    }
-    false
-}
-
 /// Expands words to fields (XCU 2.6): parameters, command substitutions and arithmetic, then field splitting, path expansion and quote
 /// removal, word by word from the left.
 ///
 /// Unset and Arith are told for the first part that has such a fault. ArgsTooMany is told where there are more than MAX_FIELDS fields,
-/// and neither of these faults. Failed is told where the tree failed, and nothing else is told there. After a fault the variables have
-/// what was assigned before it.
+/// and neither of these faults; fields above that number are neither made nor kept. Failed is told where the tree failed, and nothing
+/// else is told there. After a fault the variables have what was assigned before it.
 ///
-/// Where `has_pattern` is false of the words, the tree stays as it was.
+/// Names are those in the files that the tree tells. Where `has_pattern` is false of the words they are the same in all files, whatever
+/// the tree tells, and it stays as it was.
 pub fn expand<T: Tree>(
     alloc: Global,
     words: &[Word],
     frame: &mut Frame<'_>,
     tree: &mut T,
 ) -> Result<Vec<Vec<u8>>, ExpandFault>
-    ensures fields { IfOk result (λ fields. IfSome (T.state tree.old).held (λ files.
-        AreFields files (T.state tree.old).home (frame_given frame.old) frame.old.env.now (map word_tree words.now) (texts_of fields.items) frame.new.env.now)) }
+    ensures fields { (files : Files) (home : Components) → Sees (T.state tree.old) (IsPlain (frame_given frame.old) frame.old.env.now (map word_tree words.now)) files home
+        → IfOk result (λ fields. AreFields files home (frame_given frame.old) frame.old.env.now (map word_tree words.now) (texts_of fields.items) frame.new.env.now) }
     ensures passed { OnOk result (Pass (frame_given frame.old) frame.old.env.now (map word_tree words.now) frame.new.env.now) }
     ensures few { IfOk result (λ fields. length fields.items ≤ MAX_FIELDS) }
-    ensures many { IsErrOf result ExpandFault.ArgsTooMany → IfSome (T.state tree.old).held (λ files.
-        TooMany MAX_FIELDS (λ fields. AreFields files (T.state tree.old).home (frame_given frame.old) frame.old.env.now (map word_tree words.now) fields frame.new.env.now)) }
+    ensures many { (files : Files) (home : Components) → Sees (T.state tree.old) (IsPlain (frame_given frame.old) frame.old.env.now (map word_tree words.now)) files home
+        → IsErrOf result ExpandFault.ArgsTooMany → TooMany MAX_FIELDS (λ fields. AreFields files home (frame_given frame.old) frame.old.env.now (map word_tree words.now) fields frame.new.env.now) }
     ensures fault { IfErr result (λ fault. Stop (frame_given frame.old) frame.old.env.now (map word_tree words.now) fault frame.new.env.now) }
-    ensures unasked { (after : Variables) → PatternIn (frame_given frame.old) frame.old.env.now (map word_tree words.now) false after → tree.new ≡ tree.old }
+    ensures told { (expansions : Expansions) → AreExpansions expansions → (files : Files) (home : Components) → Sees (T.state tree.old) (IsPlain (frame_given frame.old) frame.old.env.now (map word_tree words.now)) files home
+        → Tells (λ fields. texts_of fields.items) (told_fields (expansions.fields files home (frame_given frame.old) frame.old.env.now (map word_tree words.now))) result frame.new.env.now }
+    ensures unasked { IsPlain (frame_given frame.old) frame.old.env.now (map word_tree words.now) → tree.new ≡ tree.old }
     ensures state { T.state tree.new ≡ T.state tree.old }
     ensures cause { Asks (T.faults tree.old) (T.faults tree.new) result }
     ensures same { frame_given frame.new ≡ frame_given frame.old }
     ensures same_reference { frame.new.env.ghost_name ≡ frame.old.env.ghost_name }
 {
     let known = known_of(frame);
-    few_fields(alloc, words, &known, frame.env, tree)
+    fields_of_words(alloc, words, &known, frame.env, tree)
 }
 
 /// The same, over what is known and the variables.
-#[tactic(auto, using(crate::proofs::FieldLemmas::ends))]
-fn few_fields<T: Tree>(
-    alloc: Global,
-    words: &[Word],
-    known: &Known<'_>,
-    env: &mut Env,
-    tree: &mut T,
-) -> Result<Vec<Vec<u8>>, ExpandFault>
-    ensures fields { IfOk result (λ fields. IfSome (T.state tree.old).held (λ files.
-        AreFields files (T.state tree.old).home (given_of known.now) env.old (map word_tree words.now) (texts_of fields.items) env.new)) }
-    ensures passed { OnOk result (Pass (given_of known.now) env.old (map word_tree words.now) env.new) }
-    ensures few { IfOk result (λ fields. length fields.items ≤ MAX_FIELDS) }
-    ensures many { IsErrOf result ExpandFault.ArgsTooMany → IfSome (T.state tree.old).held (λ files.
-        TooMany MAX_FIELDS (λ fields. AreFields files (T.state tree.old).home (given_of known.now) env.old (map word_tree words.now) fields env.new)) }
-    ensures fault { IfErr result (λ fault. Stop (given_of known.now) env.old (map word_tree words.now) fault env.new) }
-    ensures unasked { (after : Variables) → PatternIn (given_of known.now) env.old (map word_tree words.now) false after → tree.new ≡ tree.old }
-    ensures state { T.state tree.new ≡ T.state tree.old }
-    ensures cause { Asks (T.faults tree.old) (T.faults tree.new) result }
-{
-    match fields_of_words(alloc, words, known, env, tree) {
-        Ok(fields) => {
-            if fields.len() > MAX_FIELDS {
-                return Err(ExpandFault::ArgsTooMany);
-            }
-            Ok(fields)
-        }
-        Err(fault) => Err(fault),
-    }
-}
-
-/// All fields of the words.
 fn fields_of_words<T: Tree>(
     alloc: Global,
     words: &[Word],
@@ -186,26 +137,47 @@ fn fields_of_words<T: Tree>(
     env: &mut Env,
     tree: &mut T,
 ) -> Result<Vec<Vec<u8>>, ExpandFault>
-    ensures fields { IfOk result (λ fields. IfSome (T.state tree.old).held (λ files.
-        AreFields files (T.state tree.old).home (given_of known.now) env.old (map word_tree words.now) (texts_of fields.items) env.new)) }
+    ensures fields { (files : Files) (home : Components) → Sees (T.state tree.old) (IsPlain (given_of known.now) env.old (map word_tree words.now)) files home
+        → IfOk result (λ fields. AreFields files home (given_of known.now) env.old (map word_tree words.now) (texts_of fields.items) env.new) }
     ensures passed { OnOk result (Pass (given_of known.now) env.old (map word_tree words.now) env.new) }
+    ensures few { IfOk result (λ fields. length fields.items ≤ MAX_FIELDS) }
+    ensures many { (files : Files) (home : Components) → Sees (T.state tree.old) (IsPlain (given_of known.now) env.old (map word_tree words.now)) files home
+        → IsErrOf result ExpandFault.ArgsTooMany → TooMany MAX_FIELDS (λ fields. AreFields files home (given_of known.now) env.old (map word_tree words.now) fields env.new) }
     ensures fault { IfErr result (λ fault. Stop (given_of known.now) env.old (map word_tree words.now) fault env.new) }
-    ensures not_many { IfErr result IsOfWordsOrTree }
-    ensures unasked { (after : Variables) → PatternIn (given_of known.now) env.old (map word_tree words.now) false after → tree.new ≡ tree.old }
+    ensures unasked { IsPlain (given_of known.now) env.old (map word_tree words.now) → tree.new ≡ tree.old }
     ensures state { T.state tree.new ≡ T.state tree.old }
     ensures cause { Asks (T.faults tree.old) (T.faults tree.new) result }
 {
     let mut fields = Vec::new(alloc);
-    for word in words {
+    let mut left = words;
+    while let Some((word, rest)) = left.split_first() {
         match add_word_fields(alloc, word, known, env, tree, &mut fields) {
             Ok(()) => {}
             Err(fault) => return Err(fault),
         }
+        if fields.len() > MAX_FIELDS {
+            return Err(fault_behind(alloc, rest, known, env));
+        }
+        left = rest;
     }
     Ok(fields)
 }
 
-/// Appends the fields of a word.
+/// What is told where the words before these have too many fields: the first fault of these, else that.
+fn fault_behind(alloc: Global, words: &[Word], known: &Known<'_>, env: &mut Env) -> ExpandFault
+    ensures fault { Stop (given_of known.now) env.old (map word_tree words.now) result env.new }
+    ensures not_failed { result ≡ ExpandFault.Failed → ⊥ }
+{
+    for word in words {
+        match marks_of_word(alloc, word, known, env) {
+            Ok(_) => {}
+            Err(fault) => return fault,
+        }
+    }
+    ExpandFault::ArgsTooMany
+}
+
+/// Appends the fields of a word, or the first of them, where these are too many.
 #[tactic(auto, using(crate::proofs::FieldLemmas::names))]
 fn add_word_fields<T: Tree>(
     alloc: Global,
@@ -215,17 +187,17 @@ fn add_word_fields<T: Tree>(
     tree: &mut T,
     out: &mut Vec<Vec<u8>>,
 ) -> Result<(), ExpandFault>
-    ensures fields { OnOk result (IfSome (T.state tree.old).held (λ files.
-        Appends (λ names. WordFields files (T.state tree.old).home (given_of known.now) env.old (word_tree word.now) names env.new) (texts_of out.old.items) (texts_of out.new.items))) }
+    ensures fields { (files : Files) (home : Components) → Sees (T.state tree.old) (IsPlain (given_of known.now) env.old (word_tree word.now ∷ [])) files home
+        → OnOk result (AppendsUpTo MAX_FIELDS (λ names. WordFields files home (given_of known.now) env.old (word_tree word.now) names env.new) (texts_of out.old.items) (texts_of out.new.items)) }
     ensures passed { OnOk result (HasSomeMarks (given_of known.now) env.old (word_tree word.now) env.new) }
     ensures fault { IfErr result (λ fault. WordStops (given_of known.now) env.old (word_tree word.now) fault env.new) }
     ensures not_many { IfErr result IsOfWordsOrTree }
-    ensures unasked { (after : Variables) → PatternIn (given_of known.now) env.old (word_tree word.now ∷ []) false after → tree.new ≡ tree.old }
+    ensures unasked { IsPlain (given_of known.now) env.old (word_tree word.now ∷ []) → tree.new ≡ tree.old }
     ensures state { T.state tree.new ≡ T.state tree.old }
     ensures cause { Asks (T.faults tree.old) (T.faults tree.new) result }
 {
     match marks_of_word(alloc, word, known, env) {
-        Ok(marks) => match add_fields(alloc, marks.as_slice(), env, tree, out) {
+        Ok(marks) => match add_fields(alloc, marks.as_slice(), ifs_of(env), tree, out) {
             Ok(()) => Ok(()),
             Err(fault) => Err(outside(fault)),
         },
@@ -243,34 +215,33 @@ fn outside(fault: WorldErr) -> ExpandFault
     }
 }
 
-/// Appends the fields that these marks are cut into, each with its names.
-#[tactic(auto, using(crate::proofs::FieldLemmas::names))]
+/// Appends the fields that these marks are cut into, each with its names, or the first of them, where these are too many.
 fn add_fields<T: Tree>(
     alloc: Global,
     marks: &[Marked],
-    env: &Env,
+    ifs: &[u8],
     tree: &mut T,
     out: &mut Vec<Vec<u8>>,
 ) -> Result<(), WorldErr>
-    ensures names { OnOk result (IfSome (T.state tree.old).held (λ files.
-        Appends (λ names. AreNames files (T.state tree.old).home (split_lem (ifs_of_lem env.now) marks.now) names) (texts_of out.old.items) (texts_of out.new.items))) }
-    ensures unasked { list_any has_pattern_lem (split_lem (ifs_of_lem env.now) marks.now) ≡ false → tree.new ≡ tree.old }
+    ensures names { (files : Files) (home : Components) → Sees (T.state tree.old) (list_any has_pattern_lem (split_lem ifs.now marks.now) ≡ false) files home
+        → OnOk result (AppendsUpTo MAX_FIELDS (AreNames files home (split_lem ifs.now marks.now)) (texts_of out.old.items) (texts_of out.new.items)) }
+    ensures unasked { list_any has_pattern_lem (split_lem ifs.now marks.now) ≡ false → tree.new ≡ tree.old }
     ensures state { T.state tree.new ≡ T.state tree.old }
     ensures cause { Counts (T.faults tree.old) (T.faults tree.new) result }
 {
-    let fields = split(alloc, marks, ifs_of(env))?;
+    let fields = split(alloc, marks, ifs, MAX_FIELDS)?;
     add_all_names(alloc, fields.as_slice(), tree, out)
 }
 
-/// Appends the names of the fields.
+/// Appends the names of the fields, or the first of them, where these are too many.
 fn add_all_names<T: Tree>(
     alloc: Global,
     fields: &[Vec<Marked>],
     tree: &mut T,
     out: &mut Vec<Vec<u8>>,
 ) -> Result<(), WorldErr>
-    ensures names { OnOk result (IfSome (T.state tree.old).held (λ files.
-        Appends (λ names. AreNames files (T.state tree.old).home (fields_of fields.now) names) (texts_of out.old.items) (texts_of out.new.items))) }
+    ensures names { (files : Files) (home : Components) → Sees (T.state tree.old) (list_any has_pattern_lem (fields_of fields.now) ≡ false) files home
+        → OnOk result (AppendsUpTo MAX_FIELDS (AreNames files home (fields_of fields.now)) (texts_of out.old.items) (texts_of out.new.items)) }
     ensures unasked { list_any has_pattern_lem (fields_of fields.now) ≡ false → tree.new ≡ tree.old }
     ensures state { T.state tree.new ≡ T.state tree.old }
     ensures cause { Counts (T.faults tree.old) (T.faults tree.new) result }
@@ -278,6 +249,9 @@ fn add_all_names<T: Tree>(
     let mut left = fields;
     while let Some((field, rest)) = front(left) {
         add_names(alloc, field, tree, out)?;
+        if out.len() > MAX_FIELDS {
+            return Ok(());
+        }
         left = rest;
     }
     Ok(())
@@ -302,8 +276,8 @@ fn add_names<T: Tree>(
     tree: &mut T,
     out: &mut Vec<Vec<u8>>,
 ) -> Result<(), WorldErr>
-    ensures names { OnOk result (IfSome (T.state tree.old).held (λ files.
-        Appends (λ names. Expands files (T.state tree.old).home (pattern_of_lem field.now) names) (texts_of out.old.items) (texts_of out.new.items))) }
+    ensures names { (files : Files) (home : Components) → Sees (T.state tree.old) (has_pattern_lem field.now ≡ false) files home
+        → OnOk result (Appends (Expands files home (pattern_of_lem field.now)) (texts_of out.old.items) (texts_of out.new.items)) }
     ensures unasked { has_pattern_lem field.now ≡ false → tree.new ≡ tree.old }
     ensures state { T.state tree.new ≡ T.state tree.old }
     ensures cause { Counts (T.faults tree.old) (T.faults tree.new) result }

@@ -11,6 +11,7 @@ ghost use Rattle.sh_expand.specs.MarkedTexts.{MarkedText};
 ghost use Rattle.sh_expand.specs.Parameters.{as_fields};
 ghost use Rattle.sh_expand.specs.Splitting.{split};
 ghost use Rattle.sh_expand.specs.Fields.{AreFields, Pass, PatternIn, Stop, TextGives, TextStops, IsMeant};
+ghost use Rattle.sh_expand.specs.Outcomes.{WordsAreExpanded};
 ghost use Rattle.sh_expand.specs.Laws.{bytes_of_fields, IsPartOf};
 
 use crate::faults::ExpandFault;
@@ -57,6 +58,12 @@ pub fn words_have_an_outcome()
     ensures text { (given : Given) (before : Variables) (word : WordTree)
         → ((text : List ℕ) × (after : Variables) × TextGives given before word text after)
         ⊎ ((fault : ExpandFault) × (after : Variables) × TextStops given before word fault after × IsMeant fault) }
+{}
+
+/// What words mean is a function of what is given, of the variables, and of the files and the working directory where names are looked
+/// up: meanings that take it as given are told of something.
+pub fn words_are_expanded()
+    ensures { WordsAreExpanded }
 {}
 
 /// `"$@"` gives exactly the arguments, each a field of its own, whatever is in them and in IFS.

@@ -128,7 +128,7 @@ pub(crate) fn has_pattern(marks: &[Marked]) -> bool
 }
 
 /// Whether the mark is an unquoted `*`, `?` or `[`.
-fn is_pattern(mark: Marked) -> bool
+pub(crate) fn is_pattern(mark: Marked) -> bool
     ensures { result ≡ is_pattern mark }
 {
     match mark {

@@ -6,10 +6,11 @@ ghost use Rattle.std.specs.Option.{option_copied};
 ghost use Rattle.ps_lines.specs.Texts.{texts_of};
 ghost use Rattle.sh_arith.specs.Values.{assigned_text};
 ghost use Rattle.sh_expand.specs.Given.{given_of};
-ghost use Rattle.sh_expand.specs.Parameters.{ifs_of as ifs_of_lem, separator_of as separator_of_lem, joined as joined_lem, joined_behind, parameter_text, is_usable as is_usable_lem, or_nothing as or_nothing_lem, assigned, name_of as name_of_lem, as_fields, behind_fields, plain_value, makes_fields};
+ghost use Rattle.sh_expand.specs.Parameters.{separator_of as separator_of_lem, joined as joined_lem, joined_behind, parameter_text, is_usable as is_usable_lem, or_nothing as or_nothing_lem, assigned, name_of as name_of_lem, as_fields, behind_fields, plain_value, makes_fields};
 
 use crate::known::{Known, argument};
 use crate::marks::{Marked, add_value};
+use crate::separators::ifs_of;
 use ps_lines::{Memory, Text, decimal};
 use sh_arith::Env;
 use sh_tree::Param;
@@ -24,16 +25,6 @@ pub(crate) enum Setting {
     Inner,
     /// Nothing is split: `$@` and `$*` are joined.
     Joined,
-}
-
-/// The bytes of IFS: space, tab and newline where it is unset.
-pub(crate) fn ifs_of(env: &Env) -> &[u8]
-    ensures { result.now ≡ ifs_of_lem env.now }
-{
-    match env.get(b"IFS") {
-        Some(text) => text,
-        None => b" \t\n",
-    }
 }
 
 /// The byte that joins `$*`, the first of IFS; none where IFS is empty.

@@ -2,10 +2,11 @@
 
 ghost use Rattle.std.specs.Prelude.{◌≡◌, ◌<◌, ◌++◌, ◌∷◌, [], List, IfOk, IfSome, OnOk, MatchOption, length, ◌==◌};
 ghost use Rattle.std.specs.List.{list_any};
-ghost use Rattle.sh_expand.specs.Splitting.{class_of, class_of_byte, act_at as act_lem, after as after_lem, split as split_lem, fields_of, spliced, at_mark, at_end, held, IsHeld};
+ghost use Rattle.sh_expand.specs.Marks.{has_pattern};
+ghost use Rattle.sh_expand.specs.Splitting.{AreUpTo, keeps_pattern, class_of, class_of_byte, act_at as act_lem, after as after_lem, split as split_lem, fields_of, spliced, at_mark, at_end, held, IsHeld};
 ghost use Rattle.sh_expand.specs.declared.marks.Marked.{Marked};
 
-use crate::marks::Marked;
+use crate::marks::{Marked, is_pattern};
 use ps_lines::{Memory, is_white_space};
 use std::alloc::Global;
 use std::mem;
@@ -45,9 +46,41 @@ pub(crate) enum Act {
     End,
 }
 
-/// Cuts marked bytes into fields, by the bytes of IFS.
-pub(crate) fn split(alloc: Global, marks: &[Marked], ifs: &[u8]) -> Result<Vec<Vec<Marked>>, Memory>
-    ensures { IfOk result (λ fields. fields_of fields.items ≡ split_lem ifs.now marks.now) }
+/// Whether an unquoted pattern byte is left in a field of the marks.
+pub(crate) fn is_pattern_left(marks: &[Marked], ifs: &[u8]) -> bool
+    ensures { result ≡ list_any has_pattern (split_lem ifs.now marks.now) }
+{
+    let mut before = Before::Start;
+    let mut left = marks;
+    while let Some((mark, rest)) = front(left) {
+        let class = class_of(mark, ifs);
+        if keeps_pattern(act_at(class, before), mark) {
+            return true;
+        }
+        before = after(class, before);
+        left = rest;
+    }
+    false
+}
+
+/// Whether the mark stays in its field, and is an unquoted pattern byte.
+fn keeps_pattern(act: Act, mark: Marked) -> bool
+    ensures { result ≡ keeps_pattern act mark }
+{
+    match act {
+        Act::Keep => is_pattern(mark),
+        Act::Skip | Act::End => false,
+    }
+}
+
+/// Cuts marked bytes into fields, by the bytes of IFS. Where there are more than `most`, it makes only the first of them.
+pub(crate) fn split(
+    alloc: Global,
+    marks: &[Marked],
+    ifs: &[u8],
+    most: usize,
+) -> Result<Vec<Vec<Marked>>, Memory>
+    ensures { IfOk result (λ fields. AreUpTo most (split_lem ifs.now marks.now) (fields_of fields.items)) }
 {
     let mut fields = Vec::new(alloc);
     let mut field = Vec::new(alloc);
@@ -56,6 +89,9 @@ pub(crate) fn split(alloc: Global, marks: &[Marked], ifs: &[u8]) -> Result<Vec<V
     while let Some((mark, rest)) = front(left) {
         let class = class_of(mark, ifs);
         put_mark(alloc, act_at(class, before), mark, &mut fields, &mut field)?;
+        if fields.len() > most {
+            return Ok(fields);
+        }
         before = after(class, before);
         left = rest;
     }

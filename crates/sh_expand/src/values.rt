@@ -4,7 +4,7 @@ ghost use Rattle.std.specs.Prelude.{◌≡◌, Ok, Err, IfErr, IfOk, OnOk};
 ghost use Rattle.sh_tree.specs.Views.{word_tree};
 ghost use Rattle.sh_expand.specs.Given.{given_of};
 ghost use Rattle.sh_expand.specs.Values.{WordGives, PartGives, Adds, begun, needs, word_in, word_in_form, text_in};
-ghost use Rattle.sh_expand.specs.Views.{part_tree, form_tree, parts_tree};
+ghost use Rattle.sh_tree.specs.Views.{part_tree, form_tree, parts_tree};
 
 use crate::beginning::{Begin, begin_part};
 use crate::ending::end_part;

@@ -7,10 +7,9 @@ use sh_tree::{Form, Param, Part, Word};
 use std::alloc::Global;
 use std::test::Fail;
 
-/// The word `$x`.
-fn word(alloc: Global) -> Result<Word, Memory> {
-    let what = Param::Name(Text::copy_of(alloc, b"x")?);
-    let form = Form::Plain;
+/// The word `$x`, or `${u?}`.
+fn word(alloc: Global, name: &[u8], form: Form) -> Result<Word, Memory> {
+    let what = Param::Name(Text::copy_of(alloc, name)?);
     let part = Part::Param {
         what,
         form,
@@ -21,8 +20,23 @@ fn word(alloc: Global) -> Result<Word, Memory> {
     })
 }
 
-/// The number of fields of `$x` where it is a byte and a space so many times, or none where these are too many.
-fn count_of(alloc: Global, tree: &mut MemTree, times: usize) -> Result<Option<usize>, Fail> {
+/// What comes of words.
+#[derive(Clone, Copy, Debug, PartialEq, Eq)]
+enum Came {
+    /// So many fields.
+    Fields(usize),
+    TooMany,
+    Unset,
+}
+
+/// What comes of so many words `$x` where x is a byte and a space so many times, and of `${u?}` behind them.
+fn came_of(
+    alloc: Global,
+    tree: &mut MemTree,
+    words: usize,
+    times: usize,
+    unset: bool,
+) -> Result<Came, Fail> {
     let mut text = Vec::new(alloc);
     for _ in 0..times {
         text.push(b'a')?;
@@ -37,11 +51,25 @@ fn count_of(alloc: Global, tree: &mut MemTree, times: usize) -> Result<Option<us
         status: 0,
         subs: &[],
     };
-    let words = Vec::from_array(alloc, [word(alloc)?])?;
-    match expand(alloc, words.as_slice(), &mut frame, tree) {
-        Ok(fields) => Ok(Some(fields.len())),
-        Err(ExpandFault::ArgsTooMany) => Ok(None),
-        Err(_) => Ok(Some(0)),
+    let mut all = Vec::new(alloc);
+    for _ in 0..words {
+        all.push(word(alloc, b"x", Form::Plain)?)?;
+    }
+    if unset {
+        let check = Form::Check {
+            colon: false,
+            word: None,
+        };
+        all.push(word(alloc, b"u", check)?)?;
+    }
+    match expand(alloc, all.as_slice(), &mut frame, tree) {
+        Ok(fields) => Ok(Came::Fields(fields.len())),
+        Err(ExpandFault::ArgsTooMany) => Ok(Came::TooMany),
+        Err(ExpandFault::Unset(_, _)) => Ok(Came::Unset),
+        Err(ExpandFault::Arith(_) | ExpandFault::Failed | ExpandFault::Memory) => {
+            let came: Option<Came> = None;
+            Ok(came.ok_or("the words have no other fault")?)
+        }
     }
 }
 
@@ -50,14 +78,18 @@ fn fields_are_counted_to_their_limit(rt: HostRuntime) -> Result<(), Fail> {
     let alloc = rt.alloc();
     let tree = MemTree::of_table(alloc, b"/w", &[], Vec::new(alloc))?;
     let mut tree = tree.ok_or("no files make a tree")?;
-    for (times, wanted) in [
-        (0, Some(0)),
-        (1, Some(1)),
-        (65_536, Some(65_536)),
-        (65_537, None),
+    for (words, times, unset, wanted) in [
+        (1, 0, false, Came::Fields(0)),
+        (1, 1, false, Came::Fields(1)),
+        (1, 65_536, false, Came::Fields(65_536)),
+        (1, 65_537, false, Came::TooMany),
+        (2, 32_768, false, Came::Fields(65_536)),
+        (3, 32_768, false, Came::TooMany),
+        (70, 1_000, false, Came::TooMany),
+        (70, 1_000, true, Came::Unset),
     ] {
-        let count = count_of(alloc, &mut tree, times)?;
-        assert_eq!(rt; count, wanted, "{times} fields");
+        let came = came_of(alloc, &mut tree, words, times, unset)?;
+        assert_eq!(rt; came, wanted, "{words} words of {times} fields");
     }
     Ok(())
 }

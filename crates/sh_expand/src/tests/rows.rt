@@ -11,12 +11,15 @@
 //!
 //! Items of a column have spaces between them. In an item `\n`, `\t`, `\\` and `\xNN` are bytes, and `\e` is nothing, so that an item
 //! may be empty.
+//!
+//! A row that isn't written so fails its test.
 use crate::{ExpandFault, Frame, expand, expand_one, has_pattern};
 use ps_fakes::{MemTree, is_tree};
-use ps_lines::{Memory, Text};
+use ps_lines::Text;
 use sh_arith::{ArithFault, Env};
 use sh_tree::{Form, Param, Part, Word};
 use std::alloc::Global;
+use std::test::Fail;
 
 /// A row that was read.
 #[derive(Drop)]
@@ -58,16 +61,14 @@ struct Open {
 }
 
 /// Whether `expand` answers what the row wants.
-pub(super) fn has_fields(alloc: Global, row: &str) -> Result<bool, Memory> {
+pub(super) fn has_fields(alloc: Global, row: &str) -> Result<bool, Fail> {
     let Row {
         words,
         mut given,
         wanted,
         left,
     } = row_of(alloc, row)?;
-    let Some(mut tree) = tree_of(alloc, given.files)? else {
-        return Ok(false);
-    };
+    let mut tree = tree_of(alloc, given.files)?;
     let mut frame = Frame {
         env: &mut given.env,
         zero: b"s",
@@ -83,7 +84,7 @@ pub(super) fn has_fields(alloc: Global, row: &str) -> Result<bool, Memory> {
 }
 
 /// Whether `expand_one` answers what the row wants.
-pub(super) fn has_text(alloc: Global, row: &str) -> Result<bool, Memory> {
+pub(super) fn has_text(alloc: Global, row: &str) -> Result<bool, Fail> {
     let Row {
         words,
         mut given,
@@ -108,7 +109,7 @@ pub(super) fn has_text(alloc: Global, row: &str) -> Result<bool, Memory> {
 }
 
 /// Whether `has_pattern` answers what the row wants.
-pub(super) fn leaves_pattern(alloc: Global, row: &str) -> Result<bool, Memory> {
+pub(super) fn leaves_pattern(alloc: Global, row: &str) -> Result<bool, Fail> {
     let Row {
         words,
         mut given,
@@ -139,7 +140,7 @@ fn is_only(text: &[u8], items: &[Vec<u8>]) -> bool {
 }
 
 /// Reads a row.
-fn row_of(alloc: Global, row: &str) -> Result<Row, Memory> {
+fn row_of(alloc: Global, row: &str) -> Result<Row, Fail> {
     let mut columns = row.as_bytes().split(|byte| *byte == b'|').skip(1);
     let words = words_of(alloc, columns.next().unwrap_or(&[]))?;
     let before = columns.next().unwrap_or(&[]);
@@ -200,15 +201,18 @@ fn cause_of(fault: &ArithFault) -> &'static [u8] {
     }
 }
 
-/// The files below `/w`, or none where they make no tree.
-fn tree_of(
-    alloc: Global,
-    files: Vec<(Vec<u8>, Option<Vec<u8>>)>,
-) -> Result<Option<MemTree>, Memory> {
-    if !is_tree(alloc, b"/w", files.as_slice())? {
-        return Ok(None);
+/// The files below `/w`.
+fn tree_of(alloc: Global, files: Vec<(Vec<u8>, Option<Vec<u8>>)>) -> Result<MemTree, Fail> {
+    if is_tree(alloc, b"/w", files.as_slice())? {
+        return Ok(MemTree::new(alloc, b"/w", files, Vec::new(alloc))?);
     }
-    Ok(Some(MemTree::new(alloc, b"/w", files, Vec::new(alloc))?))
+    malformed("these files make no tree")
+}
+
+/// A row is written otherwise than the head of this file says.
+fn malformed<T>(why: &'static str) -> Result<T, Fail> {
+    let row: Option<T> = None;
+    Ok(row.ok_or(why)?)
 }
 
 fn nothing(alloc: Global) -> Setting {
@@ -222,7 +226,7 @@ fn nothing(alloc: Global) -> Setting {
 }
 
 /// The same with the items of a column; of two texts of a variable the last counts.
-fn with_items(alloc: Global, given: Setting, column: &[u8]) -> Result<Setting, Memory> {
+fn with_items(alloc: Global, given: Setting, column: &[u8]) -> Result<Setting, Fail> {
     let mut given = given;
     for item in column.split(|byte| *byte == b' ') {
         given = with_item(alloc, given, item)?;
@@ -231,13 +235,16 @@ fn with_items(alloc: Global, given: Setting, column: &[u8]) -> Result<Setting, M
 }
 
 /// The same with one item more.
-fn with_item(alloc: Global, given: Setting, item: &[u8]) -> Result<Setting, Memory> {
+fn with_item(alloc: Global, given: Setting, item: &[u8]) -> Result<Setting, Fail> {
     let mut given = given;
     match item {
         [] => {}
         [b'@', text @ ..] => given.args.push(unescaped(alloc, text)?)?,
         [b'$', text @ ..] => given.subs.push(unescaped(alloc, text)?)?,
-        [b'?', digits @ ..] => given.status = u8::try_from(number_of(digits)).unwrap_or(0),
+        [b'?', digits @ ..] => match u8::try_from(number_of(digits)?) {
+            Ok(status) => given.status = status,
+            Err(_) => return malformed("a status is below 256"),
+        },
         [b'/', file @ ..] => {
             let (path, content) = parted(file);
             let mut whole = Vec::from_slice(alloc, b"/w/")?;
@@ -263,7 +270,7 @@ fn parted(item: &[u8]) -> (&[u8], &[u8]) {
 }
 
 /// The items of a column.
-fn items_of(alloc: Global, column: &[u8]) -> Result<Vec<Vec<u8>>, Memory> {
+fn items_of(alloc: Global, column: &[u8]) -> Result<Vec<Vec<u8>>, Fail> {
     let mut items = Vec::new(alloc);
     for item in column.split(|byte| *byte == b' ') {
         if !item.is_empty() {
@@ -274,60 +281,69 @@ fn items_of(alloc: Global, column: &[u8]) -> Result<Vec<Vec<u8>>, Memory> {
 }
 
 /// The bytes of an item.
-fn unescaped(alloc: Global, item: &[u8]) -> Result<Vec<u8>, Memory> {
+fn unescaped(alloc: Global, item: &[u8]) -> Result<Vec<u8>, Fail> {
     let mut bytes = Vec::new(alloc);
     let mut at = At::Byte;
     for &byte in item {
-        let (next, done) = after(at, byte);
+        let (next, done) = after(at, byte)?;
         at = next;
         if let Some(byte) = done {
             bytes.push(byte)?;
         }
     }
-    Ok(bytes)
+    match at {
+        At::Byte => Ok(bytes),
+        At::Backslash | At::FirstDigit | At::SecondDigit(_) => malformed("an escape has no end"),
+    }
 }
 
 /// Where a byte leads to, and the byte that it ends.
-fn after(at: At, byte: u8) -> (At, Option<u8>) {
+fn after(at: At, byte: u8) -> Result<(At, Option<u8>), Fail> {
     match (at, byte) {
-        (At::Byte, b'\\') => (At::Backslash, None),
-        (At::Byte, byte) => (At::Byte, Some(byte)),
-        (At::Backslash, b'n') => (At::Byte, Some(b'\n')),
-        (At::Backslash, b't') => (At::Byte, Some(b'\t')),
-        (At::Backslash, b'x') => (At::FirstDigit, None),
-        (At::Backslash, b'e') => (At::Byte, None),
-        (At::Backslash, byte) => (At::Byte, Some(byte)),
-        (At::FirstDigit, digit) => (At::SecondDigit(digit_of(digit)), None),
-        (At::SecondDigit(first), digit) => (At::Byte, Some((first << 4) | digit_of(digit))),
+        (At::Byte, b'\\') => Ok((At::Backslash, None)),
+        (At::Byte, byte) => Ok((At::Byte, Some(byte))),
+        (At::Backslash, b'n') => Ok((At::Byte, Some(b'\n'))),
+        (At::Backslash, b't') => Ok((At::Byte, Some(b'\t'))),
+        (At::Backslash, b'x') => Ok((At::FirstDigit, None)),
+        (At::Backslash, b'e') => Ok((At::Byte, None)),
+        (At::Backslash, b'\\') => Ok((At::Byte, Some(b'\\'))),
+        (At::Backslash, _) => malformed("no such escape"),
+        (At::FirstDigit, digit) => Ok((At::SecondDigit(digit_of(digit)?), None)),
+        (At::SecondDigit(first), digit) => Ok((At::Byte, Some((first << 4) | digit_of(digit)?))),
     }
 }
 
-fn digit_of(byte: u8) -> u8 {
+fn digit_of(byte: u8) -> Result<u8, Fail> {
     match byte {
-        b'0'..=b'9' => byte - b'0',
-        b'a'..=b'f' => byte - b'a' + 10,
-        _ => 0,
+        b'0'..=b'9' => Ok(byte - b'0'),
+        b'a'..=b'f' => Ok(byte - b'a' + 10),
+        _ => malformed("no digit"),
     }
 }
 
-fn number_of(digits: &[u8]) -> u32 {
+fn number_of(digits: &[u8]) -> Result<u32, Fail> {
     let mut number: u32 = 0;
     for &digit in digits {
         number = number
             .wrapping_mul(10)
-            .wrapping_add(u32::from(digit_of(digit)));
+            .wrapping_add(u32::from(digit_of(digit)?));
     }
-    number
+    Ok(number)
 }
 
 /// The words of their trees.
-fn words_of(alloc: Global, trees: &[u8]) -> Result<Vec<Word>, Memory> {
+fn words_of(alloc: Global, trees: &[u8]) -> Result<Vec<Word>, Fail> {
     let mut words = Vec::new(alloc);
     let mut opened = Vec::new(alloc);
     for piece in trees.split(|byte| *byte == b' ') {
-        read_piece(alloc, piece, &mut opened, &mut words)?;
+        if !piece.is_empty() {
+            read_piece(alloc, piece, &mut opened, &mut words)?;
+        }
     }
-    Ok(words)
+    if opened.is_empty() {
+        return Ok(words);
+    }
+    malformed("a word isn't closed")
 }
 
 /// Reads a `(` with its kind, or an atom, and the `)` behind it.
@@ -336,13 +352,13 @@ fn read_piece(
     piece: &[u8],
     opened: &mut Vec<Open>,
     words: &mut Vec<Word>,
-) -> Result<(), Memory> {
+) -> Result<(), Fail> {
     let end = piece
         .iter()
         .position(|byte| *byte == b')')
         .unwrap_or(piece.len());
     match &piece[..end] {
-        [b'(', kind, ..] => opened.push(Open {
+        [b'(', kind] => opened.push(Open {
             kind: *kind,
             atoms: Vec::new(alloc),
             parts: Vec::new(alloc),
@@ -357,9 +373,9 @@ fn read_piece(
 }
 
 /// Adds bytes, or an atom, to what is open.
-fn add_atom(alloc: Global, atom: &[u8], opened: &mut Vec<Open>) -> Result<(), Memory> {
+fn add_atom(alloc: Global, atom: &[u8], opened: &mut Vec<Open>) -> Result<(), Fail> {
     let Some(mut open) = opened.pop() else {
-        return Ok(());
+        return malformed("bytes stand outside of a word");
     };
     match atom {
         [b'p', b':', text @ ..] => {
@@ -378,9 +394,9 @@ fn add_atom(alloc: Global, atom: &[u8], opened: &mut Vec<Open>) -> Result<(), Me
 }
 
 /// Closes what was opened last.
-fn close(alloc: Global, opened: &mut Vec<Open>, words: &mut Vec<Word>) -> Result<(), Memory> {
+fn close(alloc: Global, opened: &mut Vec<Open>, words: &mut Vec<Word>) -> Result<(), Fail> {
     let Some(open) = opened.pop() else {
-        return Ok(());
+        return malformed("a `)` closes nothing");
     };
     if open.kind == b'w' {
         let word = Word { parts: open.parts };
@@ -394,15 +410,15 @@ fn close(alloc: Global, opened: &mut Vec<Open>, words: &mut Vec<Word>) -> Result
         return Ok(());
     }
     let part = part_of(alloc, open)?;
-    if let Some(mut outer) = opened.pop() {
-        outer.parts.push(part)?;
-        opened.push(outer)?;
-    }
-    Ok(())
+    let Some(mut outer) = opened.pop() else {
+        return malformed("a part stands outside of a word");
+    };
+    outer.parts.push(part)?;
+    Ok(opened.push(outer)?)
 }
 
 /// The part that is closed.
-fn part_of(alloc: Global, open: Open) -> Result<Part, Memory> {
+fn part_of(alloc: Global, open: Open) -> Result<Part, Fail> {
     let Open {
         kind,
         atoms,
@@ -413,14 +429,15 @@ fn part_of(alloc: Global, open: Open) -> Result<Part, Memory> {
     match kind.to_ascii_lowercase() {
         b'a' => Ok(Part::Arith { parts, quoted }),
         b's' => {
-            let number = number_of(atom_at(atoms.as_slice(), 0));
+            let number = number_of(atom_at(atoms.as_slice(), 0))?;
             Ok(Part::Sub { number, quoted })
         }
-        _ => {
+        b'v' => {
             let what = param_of(alloc, atom_at(atoms.as_slice(), 0))?;
-            let form = form_of(atom_at(atoms.as_slice(), 1), word);
+            let form = form_of(atom_at(atoms.as_slice(), 1), word)?;
             Ok(Part::Param { what, form, quoted })
         }
+        _ => malformed("no such part"),
     }
 }
 
@@ -432,29 +449,31 @@ fn atom_at(atoms: &[Vec<u8>], place: usize) -> &[u8] {
     }
 }
 
-fn param_of(alloc: Global, atom: &[u8]) -> Result<Param, Memory> {
+fn param_of(alloc: Global, atom: &[u8]) -> Result<Param, Fail> {
     match atom {
+        [] => malformed("a parameter has no name"),
         [b'@'] => Ok(Param::At),
         [b'*'] => Ok(Param::Star),
         [b'#'] => Ok(Param::Count),
         [b'?'] => Ok(Param::Status),
-        [b'0'..=b'9', ..] => Ok(Param::Place(number_of(atom))),
+        [b'0'..=b'9', ..] => Ok(Param::Place(number_of(atom)?)),
         name => Ok(Param::Name(Text::copy_of(alloc, name)?)),
     }
 }
 
 /// The form that is written so, with its word.
-fn form_of(sign: &[u8], word: Option<Word>) -> Form {
+fn form_of(sign: &[u8], word: Option<Word>) -> Result<Form, Fail> {
     let colon = sign.first() == Some(&b':');
     let longest = sign.len() == 2;
     match (sign.last(), word) {
-        (Some(b'n'), _) => Form::Length,
-        (Some(b'?'), word) => Form::Check { colon, word },
-        (Some(b'-'), Some(word)) => Form::Default { colon, word },
-        (Some(b'='), Some(word)) => Form::Assign { colon, word },
-        (Some(b'+'), Some(word)) => Form::Alternate { colon, word },
-        (Some(b'%'), Some(word)) => Form::CutSuffix { longest, word },
-        (Some(b'#'), Some(word)) => Form::CutPrefix { longest, word },
-        _ => Form::Plain,
+        (None, None) => Ok(Form::Plain),
+        (Some(b'n'), None) => Ok(Form::Length),
+        (Some(b'?'), word) => Ok(Form::Check { colon, word }),
+        (Some(b'-'), Some(word)) => Ok(Form::Default { colon, word }),
+        (Some(b'='), Some(word)) => Ok(Form::Assign { colon, word }),
+        (Some(b'+'), Some(word)) => Ok(Form::Alternate { colon, word }),
+        (Some(b'%'), Some(word)) => Ok(Form::CutSuffix { longest, word }),
+        (Some(b'#'), Some(word)) => Ok(Form::CutPrefix { longest, word }),
+        _ => malformed("no such form"),
     }
 }

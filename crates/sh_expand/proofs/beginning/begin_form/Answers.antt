@@ -2,7 +2,7 @@ use Rattle.std.proofs.Common.{rules, ◌≡◌}
 use Rattle.sh_tree.specs.declared.words.Form.{the_lemmas}
 use Rattle.sh_tree.specs.Trees.{default, assign, check, check_omitted, alternate, no_part}
 use Rattle.sh_tree.specs.Views.{word_tree}
-use Rattle.sh_expand.specs.Views.{form_tree}
+use Rattle.sh_tree.specs.Views.{form_tree}
 use Rattle.sh_expand.proofs.beginning.begin_form.Goals as goal
 
 pub returns-in-Default : goal.returns-in-Default

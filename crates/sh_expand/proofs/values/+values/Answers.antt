@@ -3,7 +3,7 @@ use Rattle.std.proofs.lemmas.List.{append-nil}
 use Rattle.std.proofs.Math.ListN.{drop_of_length-le}
 use Rattle.sh_expand.specs.Given.{given_of}
 use Rattle.sh_expand.specs.Values.{WordGives, no_more, one_more, first_stops, later_stops, its_word_stops, word_in}
-use Rattle.sh_expand.specs.Views.{part_tree}
+use Rattle.sh_tree.specs.Views.{part_tree}
 use Rattle.sh_expand.proofs.WordLemmas.{done, stopped, ended_marks, ended_fault, parts_step, behind}
 use Rattle.sh_expand.proofs.values.+values.Goals as goal
 

@@ -4,7 +4,7 @@ use Rattle.sh_expand.specs.declared.faults.ValueFault.{ValueFault}
 use Rattle.sh_expand.specs.declared.marks.Marked.{Marked}
 use Rattle.sh_expand.specs.Given.{given_of}
 use Rattle.sh_expand.specs.Values.{WordGives, Adds}
-use Rattle.sh_expand.specs.Views.{parts_tree}
+use Rattle.sh_tree.specs.Views.{parts_tree}
 use Rattle.sh_expand.proofs.values.+values.Given as goal
 
 -- what the parts that are left give, behind the marks so far, is what all give

@@ -1,7 +1,0 @@
-use Rattle.std.proofs.Common.{ℕ, ◌<◌}
-use Rattle.sh_expand.specs.Trims.{FitsAt}
-use Rattle.sh_expand.proofs.trims.first_place.Given as goal
-
--- no place so far fits
-abbrev pub invariant-loop-place : goal.invariant-loop-place
-invariant-loop-place l = (other : ℕ) → other < l.place → FitsAt l.side l.pattern l.text other → ⊥

@@ -1,0 +1,4 @@
+pub mod Marked
+pub mod Items
+pub mod Sides
+pub mod Strings

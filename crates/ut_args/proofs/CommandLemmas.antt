@@ -1,70 +1,129 @@
 -- An invocation is determined by its words.
-use Rattle.std.proofs.Common.{nat_eq, ◌≡◌, ℕ, Bool, true, false, List, [], ◌∷◌, refl, ap, sym, ◌∙◌, codes}
-use Rattle.std.specs.Str.{bytes_eq}
+use Rattle.std.proofs.Common.{nat_eq, ◌≡◌, ℕ, Bool, true, false, List, [], ◌∷◌, refl, ap, sym, ◌∙◌, Result, Ok, Err, ◌<◌, length, arith}
+use Rattle.std.proofs.Props.{props}
 use mathlib.Core.HLevel.{is_prop→PathP}
-use mathlib.Core.Bool.{Bool-set}
 use Rattle.std.specs.Bool.{Decides}
 use Rattle.std.specs.Cmp.Lexicographic.{pointwise}
 use Rattle.std.proofs.lemmas.Bool.Decides.{Decides-eqb}
-use Rattle.std.proofs.lemmas.Slice.Eq.{bytes_eq-Decides, slice_eq-Decides}
-use Rattle.std.proofs.lemmas.Bool.{and_parts, true≢false}
-use Rattle.ut_args.specs.Commands.{is_cat, is_grep, is_wc}
-use Rattle.ut_args.specs.Invocations.{words_of}
-use Rattle.ut_args.specs.declared.invocations.CatInv.{CatInv}
-use Rattle.ut_args.specs.declared.invocations.GrepInv.{GrepInv}
-use Rattle.ut_args.specs.declared.invocations.WcInv.{WcInv}
+use Rattle.std.proofs.lemmas.Slice.Eq.{slice_eq-Decides}
+use Rattle.ut_args.specs.Invocations.{command_of, words_of}
+use Rattle.ut_args.specs.Reading.{invocation}
 use Rattle.ut_args.specs.declared.invocations.Inv.{Inv}
 use Rattle.ut_args.specs.declared.invocations.Inv.TheVariants as inv
+use Rattle.ut_args.specs.declared.commands.Command.{Command}
+use Rattle.ut_args.specs.declared.commands.Command.TheVariants as command
+use Rattle.ut_args.specs.declared.faults.ArgFault.{ArgFault}
 
--- a word that is one name is no other
-two_names : (name one other : List ℕ) → bytes_eq one other ≡ false → bytes_eq name one ≡ true → bytes_eq name other ≡ true → ⊥
-two_names name one other differ first second =
-    let is_one = (bytes_eq-Decides name one).0 first in
-    true≢false (sym second ∙ ap (λ word. bytes_eq word other) is_one ∙ differ)
+-- what the words of an invocation ask for is what it asks for
+abbrev pub reads : (inv : Inv) → invocation (words_of inv) ≡ Ok (command_of inv)
+reads (inv.Cat one) = one.read
+reads (inv.Grep one) = one.read
+reads (inv.Tr one) = one.read
+reads (inv.Cut one) = one.read
+reads (inv.Head one) = one.read
+reads (inv.Tail one) = one.read
+reads (inv.Wc one) = one.read
+reads (inv.Uniq one) = one.read
+reads (inv.Sort one) = one.read
+reads (inv.Paste one) = one.read
+reads (inv.Tee one) = one.read
+reads (inv.True one) = one.read
+reads (inv.False one) = one.read
+reads (inv.Colon one) = one.read
+reads (inv.Break one) = one.read
+reads (inv.Continue one) = one.read
+reads (inv.Exit one) = one.read
+reads (inv.Set one) = one.read
+reads (inv.Shift one) = one.read
+reads (inv.Unset one) = one.read
+reads (inv.Read one) = one.read
+reads (inv.Test one) = one.read
+reads (inv.Bracket one) = one.read
+reads (inv.Echo one) = one.read
 
--- no words are invocations of two commands
-cat_or_grep : (words : List (List ℕ)) → is_cat words ≡ true → is_grep words ≡ true → ⊥
-cat_or_grep [] cat grep = true≢false (sym cat)
-cat_or_grep (name ∷ []) cat grep = true≢false (sym grep)
-cat_or_grep (name ∷ option ∷ []) cat grep = true≢false (sym grep)
-cat_or_grep (name ∷ option ∷ word ∷ []) cat grep =
-    two_names name (codes "cat") (codes "grep") refl (and_parts (bytes_eq name (codes "cat")) _ cat).0 (and_parts (bytes_eq name (codes "grep")) _ grep).0
-cat_or_grep (name ∷ option ∷ word ∷ another ∷ others) cat grep = true≢false (sym grep)
+-- the invocation of words, and of what they ask for
+abbrev rebuilt : (words : List (List ℕ)) (asked : Command) → invocation words ≡ Ok asked → Inv
+rebuilt words (command.Cat args) read = inv.Cat (record { words = words; args = args; read = read })
+rebuilt words (command.Grep args) read = inv.Grep (record { words = words; args = args; read = read })
+rebuilt words (command.Tr args) read = inv.Tr (record { words = words; args = args; read = read })
+rebuilt words (command.Cut args) read = inv.Cut (record { words = words; args = args; read = read })
+rebuilt words (command.Head args) read = inv.Head (record { words = words; args = args; read = read })
+rebuilt words (command.Tail args) read = inv.Tail (record { words = words; args = args; read = read })
+rebuilt words (command.Wc args) read = inv.Wc (record { words = words; args = args; read = read })
+rebuilt words (command.Uniq args) read = inv.Uniq (record { words = words; args = args; read = read })
+rebuilt words (command.Sort args) read = inv.Sort (record { words = words; args = args; read = read })
+rebuilt words (command.Paste args) read = inv.Paste (record { words = words; args = args; read = read })
+rebuilt words (command.Tee args) read = inv.Tee (record { words = words; args = args; read = read })
+rebuilt words command.True read = inv.True (record { words = words; read = read })
+rebuilt words command.False read = inv.False (record { words = words; read = read })
+rebuilt words command.Colon read = inv.Colon (record { words = words; read = read })
+rebuilt words (command.Break args) read = inv.Break (record { words = words; args = args; read = read })
+rebuilt words (command.Continue args) read = inv.Continue (record { words = words; args = args; read = read })
+rebuilt words (command.Exit args) read = inv.Exit (record { words = words; args = args; read = read })
+rebuilt words (command.Set args) read = inv.Set (record { words = words; args = args; read = read })
+rebuilt words (command.Shift args) read = inv.Shift (record { words = words; args = args; read = read })
+rebuilt words (command.Unset args) read = inv.Unset (record { words = words; args = args; read = read })
+rebuilt words (command.Read args) read = inv.Read (record { words = words; args = args; read = read })
+rebuilt words (command.Test args) read = inv.Test (record { words = words; args = args; read = read })
+rebuilt words (command.Bracket args) read = inv.Bracket (record { words = words; args = args; read = read })
+rebuilt words (command.Echo args) read = inv.Echo (record { words = words; args = args; read = read })
 
-cat_or_wc : (words : List (List ℕ)) → is_cat words ≡ true → is_wc words ≡ true → ⊥
-cat_or_wc [] cat wc = true≢false (sym cat)
-cat_or_wc (name ∷ []) cat wc = true≢false (sym wc)
-cat_or_wc (name ∷ option ∷ []) cat wc =
-    two_names name (codes "cat") (codes "wc") refl (and_parts (bytes_eq name (codes "cat")) _ cat).0 (and_parts (bytes_eq name (codes "wc")) _ wc).0
-cat_or_wc (name ∷ option ∷ another ∷ others) cat wc = true≢false (sym wc)
+rebuilt_is : (inv : Inv) → rebuilt (words_of inv) (command_of inv) (reads inv) ≡ inv
+rebuilt_is (inv.Cat one) = refl
+rebuilt_is (inv.Grep one) = refl
+rebuilt_is (inv.Tr one) = refl
+rebuilt_is (inv.Cut one) = refl
+rebuilt_is (inv.Head one) = refl
+rebuilt_is (inv.Tail one) = refl
+rebuilt_is (inv.Wc one) = refl
+rebuilt_is (inv.Uniq one) = refl
+rebuilt_is (inv.Sort one) = refl
+rebuilt_is (inv.Paste one) = refl
+rebuilt_is (inv.Tee one) = refl
+rebuilt_is (inv.True one) = refl
+rebuilt_is (inv.False one) = refl
+rebuilt_is (inv.Colon one) = refl
+rebuilt_is (inv.Break one) = refl
+rebuilt_is (inv.Continue one) = refl
+rebuilt_is (inv.Exit one) = refl
+rebuilt_is (inv.Set one) = refl
+rebuilt_is (inv.Shift one) = refl
+rebuilt_is (inv.Unset one) = refl
+rebuilt_is (inv.Read one) = refl
+rebuilt_is (inv.Test one) = refl
+rebuilt_is (inv.Bracket one) = refl
+rebuilt_is (inv.Echo one) = refl
 
-grep_or_wc : (words : List (List ℕ)) → is_grep words ≡ true → is_wc words ≡ true → ⊥
-grep_or_wc [] grep wc = true≢false (sym grep)
-grep_or_wc (name ∷ []) grep wc = true≢false (sym wc)
-grep_or_wc (name ∷ option ∷ []) grep wc = true≢false (sym grep)
-grep_or_wc (name ∷ option ∷ word ∷ others) grep wc = true≢false (sym wc)
+-- two of the same words and the same command are one
+rebuilt_same : (words others : List (List ℕ)) (asked other : Command) (read : invocation words ≡ Ok asked) (read' : invocation others ≡ Ok other)
+    → words ≡ others → asked ≡ other → rebuilt words asked read ≡ rebuilt others other read'
+rebuilt_same words others asked other read read' same_words same_asked =
+    λ i. rebuilt (same_words i) (same_asked i)
+    (is_prop→PathP (λ j. invocation (same_words j) ≡ Ok (same_asked j)) (λ j. is_set _ _) read read' i)
+  where
+    is_set : (x y : Result Command ArgFault) (p q : x ≡ y) → p ≡ q
+    is_set = hlevel props
 
--- those of one command are the same where their words are
-same_cat : (one other : CatInv) → one.words ≡ other.words → one ≡ other
-same_cat one other same = λ i. record { words = same i; read = is_prop→PathP (λ j. is_cat (same j) ≡ true) (λ j. Bool-set _ _) one.read other.read i }
-
-same_grep : (one other : GrepInv) → one.words ≡ other.words → one ≡ other
-same_grep one other same = λ i. record { words = same i; read = is_prop→PathP (λ j. is_grep (same j) ≡ true) (λ j. Bool-set _ _) one.read other.read i }
-
-same_wc : (one other : WcInv) → one.words ≡ other.words → one ≡ other
-same_wc one other same = λ i. record { words = same i; read = is_prop→PathP (λ j. is_wc (same j) ≡ true) (λ j. Bool-set _ _) one.read other.read i }
+-- the command of an outcome, where it is one
+abbrev command_or : Command → Result Command ArgFault → Command
+command_or fallback (Ok asked) = asked
+command_or fallback (Err fault) = fallback
 
 -- an invocation is determined by its words
 pub determined : (one other : Inv) → words_of one ≡ words_of other → one ≡ other
-determined (inv.Cat one) (inv.Cat other) same = ap inv.Cat (same_cat one other same)
-determined (inv.Cat one) (inv.Grep other) same = absurd (cat_or_grep one.words one.read (rw same other.read))
-determined (inv.Cat one) (inv.Wc other) same = absurd (cat_or_wc one.words one.read (rw same other.read))
-determined (inv.Grep one) (inv.Cat other) same = absurd (cat_or_grep other.words other.read (rw (← same) one.read))
-determined (inv.Grep one) (inv.Grep other) same = ap inv.Grep (same_grep one other same)
-determined (inv.Grep one) (inv.Wc other) same = absurd (grep_or_wc one.words one.read (rw same other.read))
-determined (inv.Wc one) (inv.Cat other) same = absurd (cat_or_wc other.words other.read (rw (← same) one.read))
-determined (inv.Wc one) (inv.Grep other) same = absurd (grep_or_wc other.words other.read (rw (← same) one.read))
-determined (inv.Wc one) (inv.Wc other) same = ap inv.Wc (same_wc one other same)
+determined one other same =
+    let asked : command_of one ≡ command_of other = ap (command_or (command_of one)) (sym (reads one) ∙ (ap invocation same ∙ reads other)) in
+    sym (rebuilt_is one) ∙ (rebuilt_same _ _ _ _ (reads one) (reads other) same asked ∙ rebuilt_is other)
+
+-- an invocation has words
+pub has_words : (inv : Inv) → 0 < length (words_of inv)
+has_words one = some (words_of one) (reads one)
+  where
+    some : (words : List (List ℕ)) → invocation words ≡ Ok (command_of one) → 0 < length words
+    some [] read = cc
+    some (word ∷ others) read = omega arith
+
+pub ruleset copy_steps = (determined, has_words)
 
 -- which equality of their words decides
 pub decided : (one other : Inv) (equal : Bool) → equal ≡ pointwise (pointwise nat_eq) (words_of one) (words_of other) → Decides equal (one ≡ other)

@@ -1,1 +1,4 @@
 pub mod CommandLemmas
+pub mod PieceLemmas
+pub mod ListLemmas
+pub mod WordLemmas

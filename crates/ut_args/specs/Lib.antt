@@ -1,3 +1,14 @@
-pub mod Commands
+pub mod Names
+pub mod Table
+pub mod Pieces
+pub mod Utilities
+pub mod Lists
+pub mod Keys
+pub mod Strings
+pub mod Operators
+pub mod Shell
+pub mod Reading
 pub mod Invocations
+pub mod Inputs
 pub mod Classes
+pub mod Built

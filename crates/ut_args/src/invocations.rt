@@ -1,168 +1,273 @@
 //! What an invocation is.
-ghost use Rattle.std.specs.Prelude.{◌≡◌, true, IfOk};
-ghost use Rattle.std.specs.List.{list_all};
-ghost use Rattle.ps_lines.specs.Lines.{is_empty};
-ghost use Rattle.ps_lines.specs.Texts.{texts_of};
-ghost use Rattle.ut_args.specs.Commands.{is_cat, is_grep, is_wc, operands_of, pattern_of};
+ghost use Rattle.std.specs.Prelude.{◌≡◌, Ok};
+ghost use Rattle.ut_args.specs.Reading.{invocation};
+ghost use Rattle.ut_args.specs.declared.commands.Command.TheVariants as command;
 
-use crate::words::Words;
-use ps_lines::Memory;
+use crate::commands::{
+    CatArgs, CutArgs, EchoArgs, ExitArgs, GrepArgs, HeadArgs, LoopArgs, NamesArgs, PasteArgs,
+    SetArgs, ShiftArgs, SortArgs, TailArgs, TeeArgs, TestArgs, TrArgs, UniqArgs, WcArgs,
+};
+use ut_options::Texts;
 
-/// What one command asks a utility to do.
+/// What one command asks for: a command of the table, with the words that it was read from.
 #[derive(Debug, Drop)]
 pub enum Inv {
     Cat(CatInv),
     Grep(GrepInv),
+    Tr(TrInv),
+    Cut(CutInv),
+    Head(HeadInv),
+    Tail(TailInv),
     Wc(WcInv),
+    Uniq(UniqInv),
+    Sort(SortInv),
+    Paste(PasteInv),
+    Tee(TeeInv),
+    True(TrueInv),
+    False(FalseInv),
+    Colon(ColonInv),
+    Break(BreakInv),
+    Continue(ContinueInv),
+    Exit(ExitInv),
+    Set(SetInv),
+    Shift(ShiftInv),
+    Unset(UnsetInv),
+    Read(ReadInv),
+    Test(TestInv),
+    Bracket(BracketInv),
+    Echo(EchoInv),
 }
 
 /// `cat` (XCU cat): its operands joined, or standard input.
 #[derive(Debug, Drop)]
 pub struct CatInv {
     /// The words that it was read from.
-    pub words: Words,
-    ghost read: { is_cat words ≡ true },
+    pub words: Texts,
+    /// What they ask for.
+    pub args: CatArgs,
+    ghost read: { invocation words ≡ Ok (command.Cat args) },
 }
 
-/// `grep -F PATTERN` (XCU grep): the lines that have the pattern's bytes in a row.
+/// `grep` (XCU grep): the lines of its operands in which a pattern is found.
 #[derive(Debug, Drop)]
 pub struct GrepInv {
     /// The words that it was read from.
-    pub words: Words,
-    ghost read: { is_grep words ≡ true },
+    pub words: Texts,
+    /// What they ask for.
+    pub args: GrepArgs,
+    ghost read: { invocation words ≡ Ok (command.Grep args) },
 }
 
-/// `wc -l` (XCU wc): how many newlines there are.
+/// `tr` (XCU tr): its input with bytes replaced, deleted or squeezed.
+#[derive(Debug, Drop)]
+pub struct TrInv {
+    /// The words that it was read from.
+    pub words: Texts,
+    /// What they ask for.
+    pub args: TrArgs,
+    ghost read: { invocation words ≡ Ok (command.Tr args) },
+}
+
+/// `cut` (XCU cut): some bytes or fields of each line.
+#[derive(Debug, Drop)]
+pub struct CutInv {
+    /// The words that it was read from.
+    pub words: Texts,
+    /// What they ask for.
+    pub args: CutArgs,
+    ghost read: { invocation words ≡ Ok (command.Cut args) },
+}
+
+/// `head` (XCU head): the first lines of each operand.
+#[derive(Debug, Drop)]
+pub struct HeadInv {
+    /// The words that it was read from.
+    pub words: Texts,
+    /// What they ask for.
+    pub args: HeadArgs,
+    ghost read: { invocation words ≡ Ok (command.Head args) },
+}
+
+/// `tail` (XCU tail): the last lines or bytes of its input.
+#[derive(Debug, Drop)]
+pub struct TailInv {
+    /// The words that it was read from.
+    pub words: Texts,
+    /// What they ask for.
+    pub args: TailArgs,
+    ghost read: { invocation words ≡ Ok (command.Tail args) },
+}
+
+/// `wc` (XCU wc): how many newlines, words and bytes there are.
 #[derive(Debug, Drop)]
 pub struct WcInv {
     /// The words that it was read from.
-    pub words: Words,
-    ghost read: { is_wc words ≡ true },
+    pub words: Texts,
+    /// What they ask for.
+    pub args: WcArgs,
+    ghost read: { invocation words ≡ Ok (command.Wc args) },
 }
 
-impl Inv {
-    ghost use Rattle.ut_args.specs.Invocations.{inputs_of, words_of};
-
+/// `uniq` (XCU uniq): the first line of each group of equal lines.
+#[derive(Debug, Drop)]
+pub struct UniqInv {
     /// The words that it was read from.
-    pub fn words(&self) -> &[Vec<u8>]
-        ensures { texts_of result.now ≡ words_of self.now }
-    {
-        self.all_words().as_slice()
-    }
-
-    /// The words that it was read from, as one value.
-    fn all_words(&self) -> &Words
-        ensures { result.now ≡ words_of self.now }
-    {
-        match self {
-            Inv::Cat(cat) => &cat.words,
-            Inv::Grep(grep) => &grep.words,
-            Inv::Wc(wc) => &wc.words,
-        }
-    }
-
-    /// How many inputs it reads. An operand that is the empty text stands for none, and the operands of `cat` are joined before.
-    pub fn inputs(&self) -> u32
-        ensures { result ≡ inputs_of self.now }
-    {
-        match self {
-            Inv::Cat(cat) => cat.inputs(),
-            Inv::Grep(_) | Inv::Wc(_) => 1,
-        }
-    }
-
-    /// Whether both were read from the same words, which makes them the same.
-    #[tactic(auto, using(crate::proofs::CommandLemmas::determined))]
-    pub fn is(&self, other: &Inv) -> bool
-        ensures yes { result ≡ true → self.now ≡ other.now }
-        ensures no { self.now ≡ other.now → result ≡ true }
-    {
-        self.all_words() == other.all_words()
-    }
-
-    /// A copy of this invocation.
-    pub fn copy(&self) -> Result<Inv, Memory>
-        ensures { IfOk result (λ copy. copy ≡ self.now) }
-    {
-        match self {
-            Inv::Cat(cat) => Ok(Inv::Cat(cat.copy()?)),
-            Inv::Grep(grep) => Ok(Inv::Grep(grep.copy()?)),
-            Inv::Wc(wc) => Ok(Inv::Wc(wc.copy()?)),
-        }
-    }
+    pub words: Texts,
+    /// What they ask for.
+    pub args: UniqArgs,
+    ghost read: { invocation words ≡ Ok (command.Uniq args) },
 }
 
-impl CatInv {
-    ghost use Rattle.ut_args.specs.Invocations.{joined_inputs};
-
-    /// The operands, in order.
-    pub fn operands(&self) -> &[Vec<u8>]
-        ensures { texts_of result.now ≡ operands_of self.now.words }
-    {
-        match self.words.as_slice() {
-            [] => &[],
-            [_, operands @ ..] => operands,
-        }
-    }
-
-    /// How many inputs it reads, after its operands are joined.
-    fn inputs(&self) -> u32
-        ensures { result ≡ joined_inputs (operands_of self.now.words) }
-    {
-        let operands = self.operands();
-        if !operands.is_empty() && are_empty(operands) {
-            0
-        } else {
-            1
-        }
-    }
-
-    fn copy(&self) -> Result<CatInv, Memory>
-        ensures { IfOk result (λ copy. copy ≡ self.now) }
-    {
-        let words = self.words.copy()?;
-        Ok(CatInv { words })
-    }
+/// `sort` (XCU sort): the lines of its operands in order.
+#[derive(Debug, Drop)]
+pub struct SortInv {
+    /// The words that it was read from.
+    pub words: Texts,
+    /// What they ask for.
+    pub args: SortArgs,
+    ghost read: { invocation words ≡ Ok (command.Sort args) },
 }
 
-impl GrepInv {
-    /// The bytes that are looked for: not empty, and no newline among them.
-    pub fn pattern(&self) -> &[u8]
-        ensures { result.now ≡ pattern_of self.now.words }
-    {
-        match self.words.as_slice() {
-            [_, _, pattern, ..] => pattern.as_slice(),
-            _ => &[],
-        }
-    }
-
-    fn copy(&self) -> Result<GrepInv, Memory>
-        ensures { IfOk result (λ copy. copy ≡ self.now) }
-    {
-        let words = self.words.copy()?;
-        Ok(GrepInv { words })
-    }
+/// `paste` (XCU paste): the lines of its operands side by side.
+#[derive(Debug, Drop)]
+pub struct PasteInv {
+    /// The words that it was read from.
+    pub words: Texts,
+    /// What they ask for.
+    pub args: PasteArgs,
+    ghost read: { invocation words ≡ Ok (command.Paste args) },
 }
 
-impl WcInv {
-    fn copy(&self) -> Result<WcInv, Memory>
-        ensures { IfOk result (λ copy. copy ≡ self.now) }
-    {
-        let words = self.words.copy()?;
-        Ok(WcInv { words })
-    }
+/// `tee` (XCU tee): its input, which it writes to files too.
+#[derive(Debug, Drop)]
+pub struct TeeInv {
+    /// The words that it was read from.
+    pub words: Texts,
+    /// What they ask for.
+    pub args: TeeArgs,
+    ghost read: { invocation words ≡ Ok (command.Tee args) },
 }
 
-/// Whether each of the words is empty.
-fn are_empty(words: &[Vec<u8>]) -> bool
-    ensures { result ≡ list_all is_empty (texts_of words.now) }
-{
-    let mut left = words;
-    while let [word, rest @ ..] = left {
-        if !word.is_empty() {
-            return false;
-        }
-        left = rest;
-    }
-    true
+/// `true` (XCU true): success.
+#[derive(Debug, Drop)]
+pub struct TrueInv {
+    /// The words that it was read from.
+    pub words: Texts,
+    ghost read: { invocation words ≡ Ok command.True },
+}
+
+/// `false` (XCU false): failure.
+#[derive(Debug, Drop)]
+pub struct FalseInv {
+    /// The words that it was read from.
+    pub words: Texts,
+    ghost read: { invocation words ≡ Ok command.False },
+}
+
+/// `:` (XCU 2.14): success.
+#[derive(Debug, Drop)]
+pub struct ColonInv {
+    /// The words that it was read from.
+    pub words: Texts,
+    ghost read: { invocation words ≡ Ok command.Colon },
+}
+
+/// `break` (XCU 2.14): the end of a loop.
+#[derive(Debug, Drop)]
+pub struct BreakInv {
+    /// The words that it was read from.
+    pub words: Texts,
+    /// What they ask for.
+    pub args: LoopArgs,
+    ghost read: { invocation words ≡ Ok (command.Break args) },
+}
+
+/// `continue` (XCU 2.14): the next round of a loop.
+#[derive(Debug, Drop)]
+pub struct ContinueInv {
+    /// The words that it was read from.
+    pub words: Texts,
+    /// What they ask for.
+    pub args: LoopArgs,
+    ghost read: { invocation words ≡ Ok (command.Continue args) },
+}
+
+/// `exit` (XCU 2.14): the end of the shell.
+#[derive(Debug, Drop)]
+pub struct ExitInv {
+    /// The words that it was read from.
+    pub words: Texts,
+    /// What they ask for.
+    pub args: ExitArgs,
+    ghost read: { invocation words ≡ Ok (command.Exit args) },
+}
+
+/// `set` (XCU 2.14): the positional parameters.
+#[derive(Debug, Drop)]
+pub struct SetInv {
+    /// The words that it was read from.
+    pub words: Texts,
+    /// What they ask for.
+    pub args: SetArgs,
+    ghost read: { invocation words ≡ Ok (command.Set args) },
+}
+
+/// `shift` (XCU 2.14): the positional parameters without the first.
+#[derive(Debug, Drop)]
+pub struct ShiftInv {
+    /// The words that it was read from.
+    pub words: Texts,
+    /// What they ask for.
+    pub args: ShiftArgs,
+    ghost read: { invocation words ≡ Ok (command.Shift args) },
+}
+
+/// `unset` (XCU 2.14): variables that go.
+#[derive(Debug, Drop)]
+pub struct UnsetInv {
+    /// The words that it was read from.
+    pub words: Texts,
+    /// What they ask for.
+    pub args: NamesArgs,
+    ghost read: { invocation words ≡ Ok (command.Unset args) },
+}
+
+/// `read` (XCU read): a line, split into variables.
+#[derive(Debug, Drop)]
+pub struct ReadInv {
+    /// The words that it was read from.
+    pub words: Texts,
+    /// What they ask for.
+    pub args: NamesArgs,
+    ghost read: { invocation words ≡ Ok (command.Read args) },
+}
+
+/// `test` (XCU test): whether a condition holds.
+#[derive(Debug, Drop)]
+pub struct TestInv {
+    /// The words that it was read from.
+    pub words: Texts,
+    /// What they ask for.
+    pub args: TestArgs,
+    ghost read: { invocation words ≡ Ok (command.Test args) },
+}
+
+/// `[` (XCU test): whether a condition holds.
+#[derive(Debug, Drop)]
+pub struct BracketInv {
+    /// The words that it was read from.
+    pub words: Texts,
+    /// What they ask for.
+    pub args: TestArgs,
+    ghost read: { invocation words ≡ Ok (command.Bracket args) },
+}
+
+/// `echo` (XCU echo): its operands, written.
+#[derive(Debug, Drop)]
+pub struct EchoInv {
+    /// The words that it was read from.
+    pub words: Texts,
+    /// What they ask for.
+    pub args: EchoArgs,
+    ghost read: { invocation words ≡ Ok (command.Echo args) },
 }

@@ -1,119 +1,130 @@
 //! Invocations read from words.
-ghost use Rattle.std.specs.Prelude.{◌≡◌, true, IfOk};
-ghost use Rattle.std.specs.List.{list_all};
+ghost use Rattle.std.specs.Prelude.{◌≡◌, ◌<◌, length, [], Ok, Err, IfOk, IfErr};
 ghost use Rattle.ps_lines.specs.Texts.{texts_of};
-ghost use Rattle.ut_args.specs.Commands.{begins_with_hyphen as begins_with_hyphen_lem, is_cat as is_cat_lem, is_grep as is_grep_lem, is_known as is_known_lem, is_operand as is_operand_lem, is_pattern as is_pattern_lem, is_wc as is_wc_lem};
-ghost use Rattle.ut_args.specs.Invocations.{words_of};
+ghost use Rattle.ut_options.specs.Scanning.{scanned};
+ghost use Rattle.ut_args.specs.Table.{row};
+ghost use Rattle.ut_args.specs.Invocations.{command_of, words_of};
+ghost use Rattle.ut_args.specs.Reading.{asked as asked_lem, asked_behind, asked_by as asked_by_lem, if_some as if_some_lem, invocation};
 
-use crate::invocations::{CatInv, GrepInv, Inv, WcInv};
-use crate::words::Words;
-use ps_lines::{Memory, NEWLINE};
+use crate::commands::Command;
+use crate::faults::ArgFault;
+use crate::invocations::Inv;
+use crate::names::Name;
+use crate::rows::letters_of;
+use crate::values::with_words;
+use crate::{columns, keys, shell, strings, utilities};
+use ps_lines::{Memory, Text};
 use std::alloc::Global;
+use ut_options::{Options, Scanned, Texts, Usage, scan};
 
-/// Why words give no invocation.
-#[derive(Clone, Copy, Debug, PartialEq, Eq)]
-pub enum ArgFault {
-    /// Memory was wanted and refused.
-    Memory,
-}
-
-impl From<Memory> for ArgFault {
-    fn from(_refused: Memory) -> ArgFault {
-        ArgFault::Memory
-    }
-}
-
-/// Whether the words are an invocation of those that are read so far.
-pub fn is_known(words: &[Vec<u8>]) -> bool
-    ensures { result ≡ is_known_lem (texts_of words.now) }
-{
-    is_cat(words) || is_grep(words) || is_wc(words)
-}
-
-/// The invocation that a command's words are; they determine it.
+/// The invocation that a command's words are, the first of them its name.
+///
+/// A name that isn't in the table comes first of the faults, then the first option letter from the left that the command doesn't have,
+/// then every other fault.
 pub fn read_inv(alloc: Global, words: &[Vec<u8>]) -> Result<Inv, ArgFault>
-    requires { is_known_lem (texts_of words.now) ≡ true }
-    ensures { IfOk result (λ inv. words_of inv ≡ texts_of words.now) }
+    requires named { 0 < length words.now }
+    ensures words { IfOk result (λ inv. words_of inv ≡ texts_of words.now) }
+    ensures command { IfOk result (λ inv. invocation (texts_of words.now) ≡ Ok (command_of inv)) }
+    ensures fault { IfErr result (λ fault. (fault ≡ ArgFault.Memory → ⊥) → invocation (texts_of words.now) ≡ Err fault) }
 {
-    let words_read = Words::copy_of(alloc, words)?;
-    if is_cat(words) {
-        return Ok(Inv::Cat(CatInv { words: words_read }));
-    }
-    if is_grep(words) {
-        return Ok(Inv::Grep(GrepInv { words: words_read }));
-    }
-    Ok(Inv::Wc(WcInv { words: words_read }))
-}
-
-/// `cat` with operands.
-fn is_cat(words: &[Vec<u8>]) -> bool
-    ensures { result ≡ is_cat_lem (texts_of words.now) }
-{
-    match words {
-        [name, operands @ ..] => name.as_slice() == b"cat".as_slice() && are_operands(operands),
-        _ => false,
+    let [name, behind @ ..] = words else {
+        return Err(ArgFault::Memory);
+    };
+    let Some(known) = Name::named(name.as_slice()) else {
+        return Err(ArgFault::UnknownCommand(Text::copy_of(alloc, name.as_slice())?));
+    };
+    match asked(alloc, known, behind)? {
+        Ok(command) => Ok(with_words(Texts::copy_of(alloc, words)?, command)),
+        Err(Usage::UnsupportedFlag(letter)) => Err(ArgFault::UnsupportedFlag(
+            Text::copy_of(alloc, name.as_slice())?,
+            letter,
+        )),
+        Err(Usage::BadUsage) => Err(ArgFault::BadUsage(Text::copy_of(alloc, name.as_slice())?)),
     }
 }
 
-/// `grep -F PATTERN`.
-fn is_grep(words: &[Vec<u8>]) -> bool
-    ensures { result ≡ is_grep_lem (texts_of words.now) }
+/// What the words behind a command's name ask for. Those of four commands are all operands.
+fn asked(alloc: Global, name: Name, words: &[Vec<u8>]) -> Result<Result<Command, Usage>, Memory>
+    ensures { IfOk result (λ read. read ≡ asked_lem name (texts_of words.now)) }
 {
-    match words {
-        [name, option, word] => {
-            name.as_slice() == b"grep".as_slice()
-                && option.as_slice() == b"-F".as_slice()
-                && is_pattern(word.as_slice())
+    match name {
+        Name::Set | Name::Test | Name::Bracket | Name::Echo => {
+            asked_by_operands(alloc, name, words)
         }
-        _ => false,
+        _ => asked_by_options(alloc, name, words),
     }
 }
 
-/// `wc -l`.
-fn is_wc(words: &[Vec<u8>]) -> bool
-    ensures { result ≡ is_wc_lem (texts_of words.now) }
+/// What words ask for that are all operands.
+fn asked_by_operands(
+    alloc: Global,
+    name: Name,
+    words: &[Vec<u8>],
+) -> Result<Result<Command, Usage>, Memory>
+    ensures { IfOk result (λ read. read ≡ asked_by_lem name [] (texts_of words.now)) }
 {
-    match words {
-        [name, option] => name.as_slice() == b"wc".as_slice()
-            && option.as_slice() == b"-l".as_slice(),
-        _ => false,
-    }
+    let options = Options::new(alloc);
+    let operands = Texts::copy_of(alloc, words)?;
+    asked_by(alloc, name, &options, operands)
 }
 
-/// Whether all the words are operands.
-fn are_operands(words: &[Vec<u8>]) -> bool
-    ensures { result ≡ list_all is_operand_lem (texts_of words.now) }
+/// What words ask for that are options and operands.
+fn asked_by_options(
+    alloc: Global,
+    name: Name,
+    words: &[Vec<u8>],
+) -> Result<Result<Command, Usage>, Memory>
+    ensures { IfOk result (λ read. read ≡ asked_behind name (scanned (row name) (texts_of words.now))) }
 {
-    let mut left = words;
-    while let [word, rest @ ..] = left {
-        if !is_operand(word.as_slice()) {
-            return false;
+    match scan(alloc, &letters_of(name), words)? {
+        Ok(scanned) => {
+            let Scanned { options, operands } = scanned;
+            asked_by(alloc, name, &options, operands)
         }
-        left = rest;
+        Err(usage) => Ok(Err(usage)),
     }
-    true
 }
 
-/// Whether the word begins with no hyphen, or is one alone (XBD 12.2, guideline 13).
-fn is_operand(word: &[u8]) -> bool
-    ensures { result ≡ is_operand_lem word.now }
+/// What options and operands of a command ask for.
+fn asked_by(
+    alloc: Global,
+    name: Name,
+    options: &Options,
+    operands: Texts,
+) -> Result<Result<Command, Usage>, Memory>
+    ensures { IfOk result (λ read. read ≡ asked_by_lem name options.now operands) }
 {
-    !begins_with_hyphen(word) || word == b"-".as_slice()
-}
-
-/// Whether the word is one pattern that is no option.
-fn is_pattern(word: &[u8]) -> bool
-    ensures { result ≡ is_pattern_lem word.now }
-{
-    !word.is_empty() && !word.contains(&NEWLINE) && !begins_with_hyphen(word)
-}
-
-/// Whether the word begins with a hyphen.
-fn begins_with_hyphen(word: &[u8]) -> bool
-    ensures { result ≡ begins_with_hyphen_lem word.now }
-{
-    match word {
-        [byte, ..] => *byte == b'-',
-        _ => false,
+    match name {
+        Name::Cat => Ok(Ok(utilities::cat(operands))),
+        Name::Grep => Ok(if_some(utilities::grep(alloc, options, operands)?)),
+        Name::Tr => Ok(if_some(strings::tr(alloc, options, &operands)?)),
+        Name::Cut => Ok(if_some(columns::cut(alloc, options, operands)?)),
+        Name::Head => Ok(if_some(utilities::head(options, operands))),
+        Name::Tail => Ok(if_some(utilities::tail(options, operands))),
+        Name::Wc => Ok(if_some(utilities::wc(options, operands))),
+        Name::Uniq => Ok(if_some(utilities::uniq(options, operands))),
+        Name::Sort => Ok(if_some(keys::sort(alloc, options, operands)?)),
+        Name::Paste => Ok(if_some(columns::paste(alloc, options, operands)?)),
+        Name::Tee => Ok(Ok(utilities::tee(options, operands))),
+        Name::True => Ok(Ok(Command::True)),
+        Name::False => Ok(Ok(Command::False)),
+        Name::Colon => Ok(Ok(Command::Colon)),
+        Name::Break => Ok(if_some(shell::break_loop(&operands))),
+        Name::Continue => Ok(if_some(shell::continue_loop(&operands))),
+        Name::Exit => Ok(if_some(shell::exit(&operands))),
+        Name::Shift => Ok(if_some(shell::shift(&operands))),
+        Name::Unset => Ok(if_some(shell::unset(operands))),
+        Name::Read => Ok(shell::read(options, operands)),
+        Name::Set => shell::set(alloc, operands),
+        Name::Test => Ok(shell::test(operands)),
+        Name::Bracket => shell::bracket(alloc, operands),
+        Name::Echo => Ok(shell::echo(operands)),
     }
+}
+
+/// A command, or bad usage.
+fn if_some(asked: Option<Command>) -> Result<Command, Usage>
+    ensures { result ≡ if_some_lem asked }
+{
+    asked.ok_or(Usage::BadUsage)
 }

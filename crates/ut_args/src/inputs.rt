@@ -1,0 +1,169 @@
+//! The inputs and the files of an invocation.
+ghost use Rattle.std.specs.Prelude.{◌≡◌, ◌≤◌, length};
+ghost use Rattle.std.specs.List.{count_by, list_all, list_any};
+ghost use Rattle.ps_lines.specs.Lines.{is_empty};
+ghost use Rattle.ps_lines.specs.Texts.{texts_of};
+ghost use Rattle.ut_args.specs.Inputs.{counted as counted_lem, files_of, inputs_of, is_file, is_named, is_standard, joined_inputs as joined_inputs_lem, operands_of, separate_inputs as separate_inputs_lem, shared_inputs as shared_inputs_lem};
+
+use crate::invocations::Inv;
+
+impl Inv {
+    /// The operands that name its inputs, in order: files, or `-` for standard input; the empty text names none.
+    pub fn operands(&self) -> &[Vec<u8>]
+        ensures { texts_of result.now ≡ operands_of self.now }
+    {
+        match self {
+            Inv::Cat(cat) => cat.args.operands.as_slice(),
+            Inv::Grep(grep) => grep.args.operands.as_slice(),
+            Inv::Cut(cut) => cut.args.operands.as_slice(),
+            Inv::Head(head) => head.args.operands.as_slice(),
+            Inv::Tail(tail) => tail.args.operands.as_slice(),
+            Inv::Wc(wc) => wc.args.operands.as_slice(),
+            Inv::Uniq(uniq) => uniq.args.operands.as_slice(),
+            Inv::Sort(sort) => sort.args.operands.as_slice(),
+            Inv::Paste(paste) => paste.args.operands.as_slice(),
+            _ => &[],
+        }
+    }
+
+    /// The paths of the files that it writes, in order: those of `tee`.
+    pub fn files_written(&self) -> &[Vec<u8>]
+        ensures { texts_of result.now ≡ files_of self.now }
+    {
+        match self {
+            Inv::Tee(tee) => tee.args.files.as_slice(),
+            _ => &[],
+        }
+    }
+
+    /// How many inputs it reads. An operand that is the empty text stands for none, and the operands of cat, cut and sort are joined
+    /// before.
+    pub fn inputs(&self) -> u32
+        ensures { result ≡ inputs_of self.now }
+    {
+        match self {
+            Inv::Cat(_) | Inv::Cut(_) | Inv::Sort(_) => joined_inputs(self.operands()),
+            Inv::Grep(_) | Inv::Head(_) | Inv::Tail(_) | Inv::Wc(_) | Inv::Uniq(_) =>
+                separate_inputs(self.operands()),
+            Inv::Paste(paste) => {
+                if paste.args.serial {
+                    return separate_inputs(self.operands());
+                }
+                shared_inputs(self.operands())
+            }
+            Inv::Tr(_) | Inv::Tee(_) => 1,
+            _ => 0,
+        }
+    }
+}
+
+/// How many inputs there are where operands are joined before.
+fn joined_inputs(operands: &[Vec<u8>]) -> u32
+    ensures { result ≡ joined_inputs_lem (texts_of operands.now) }
+{
+    match operands {
+        [] => 1,
+        operands => {
+            if are_empty(operands) {
+                return 0;
+            }
+            1
+        }
+    }
+}
+
+/// How many inputs there are where each operand that names one has its own.
+fn separate_inputs(operands: &[Vec<u8>]) -> u32
+    ensures { result ≡ separate_inputs_lem (texts_of operands.now) }
+{
+    match operands {
+        [] => 1,
+        operands => counted(count_named(operands)),
+    }
+}
+
+/// The same, with one input for all operands that are standard input.
+fn shared_inputs(operands: &[Vec<u8>]) -> u32
+    ensures { result ≡ shared_inputs_lem (texts_of operands.now) }
+{
+    match operands {
+        [] => 1,
+        operands => {
+            if has_standard(operands) {
+                return counted(count_files(operands) + 1);
+            }
+            counted(count_files(operands))
+        }
+    }
+}
+
+/// So many, as a number of 32 bits counts.
+fn counted(number: usize) -> u32
+    ensures { result ≡ counted_lem number }
+{
+    const MOST: usize = 4_294_967_295;
+    if number < MOST {
+        number as u32
+    } else {
+        u32::MAX
+    }
+}
+
+/// Whether each of the operands is empty.
+fn are_empty(operands: &[Vec<u8>]) -> bool
+    ensures { result ≡ list_all is_empty (texts_of operands.now) }
+{
+    let mut left = operands;
+    while let [operand, rest @ ..] = left {
+        if !operand.is_empty() {
+            return false;
+        }
+        left = rest;
+    }
+    true
+}
+
+/// How many of the operands name an input.
+fn count_named(operands: &[Vec<u8>]) -> usize
+    ensures count { result ≡ count_by is_named (texts_of operands.now) }
+{
+    let mut count = 0;
+    let mut left = operands;
+    while let [operand, rest @ ..] = left {
+        if !operand.is_empty() {
+            count += 1;
+        }
+        left = rest;
+    }
+    count
+}
+
+/// How many of the operands name a file.
+fn count_files(operands: &[Vec<u8>]) -> usize
+    ensures count { result ≡ count_by is_file (texts_of operands.now) }
+    ensures most { result ≤ length operands.now }
+{
+    let mut count = 0;
+    let mut left = operands;
+    while let [operand, rest @ ..] = left {
+        if !operand.is_empty() && operand.as_slice() != b"-".as_slice() {
+            count += 1;
+        }
+        left = rest;
+    }
+    count
+}
+
+/// Whether one of the operands is standard input.
+fn has_standard(operands: &[Vec<u8>]) -> bool
+    ensures { result ≡ list_any is_standard (texts_of operands.now) }
+{
+    let mut left = operands;
+    while let [operand, rest @ ..] = left {
+        if operand.as_slice() == b"-".as_slice() {
+            return true;
+        }
+        left = rest;
+    }
+    false
+}

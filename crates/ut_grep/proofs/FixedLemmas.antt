@@ -8,12 +8,15 @@ use Rattle.std.proofs.lemmas.List.{take-append-drop, length-take-le}
 use Rattle.memchr.specs.Find.{OccursAt, Nowhere, FindsNeedle}
 use Rattle.memchr.proofs.lemmas.MatchLemmas.{OccursAt-split, OccursAt-from_part}
 use Rattle.ps_lines.specs.Lines.{lines, has_newline, is_closed, CutsLine}
+use Rattle.ps_lines.proofs.ClosedLemmas.{closed-plain}
 use Rattle.ps_lines.proofs.LineLemmas.{lines-append, lines-line}
 use Rattle.ut_streams.specs.Streams.{CutsLastLine, Put, Wrote}
-use Rattle.ut_streams.proofs.StreamLemmas.{closed-plain, closed-rest, Wrote-at, Wrote-broken, Wrote-put, Wrote-trans}
+use Rattle.ut_streams.proofs.StreamLemmas.{closed-rest, Wrote-at, Wrote-broken, Wrote-put, Wrote-trans}
 use Rattle.std.specs.Str.{bytes_eq}
-use Rattle.ut_args.specs.Commands.{begins_with_hyphen, is_grep, is_pattern, pattern_of}
-use Rattle.ut_grep.specs.Fixed.{begins, has_part, selected_of, selects_of, CutsSelected, IsPattern}
+use Rattle.ps_lines.specs.Lines.{is_empty}
+use Rattle.ut_args.specs.declared.commands.GrepArgs.{GrepArgs}
+use Rattle.ut_args.specs.Built.{is_built_grep, is_one_pattern}
+use Rattle.ut_grep.specs.Fixed.{begins, has_part, selected_of, selects_of, pattern_of, CutsSelected, IsPattern}
 
 -- a text begins with the pattern where it is the pattern and something more
 pub begins-front : (pattern rest : List ℕ) → begins pattern (pattern ++ rest) ≡ true
@@ -317,20 +320,17 @@ module _ (pattern text : List ℕ) (is : IsPattern pattern) (none : has_part pat
   selects-uncut selected whole more same =
       ap (λ later. selected || later) (sym (selects-none pattern (lines text) more (without-lines pattern text is.some none))) ∙ same
 
--- the pattern of an invocation
-pattern-word : (word : List ℕ) → is_pattern word ≡ true → IsPattern word
+-- the pattern of an invocation whose stream is built
+pattern-word : (word : List ℕ) → (not (is_empty word) && not (has_newline word)) ≡ true → IsPattern word
 pattern-word [] is = absurd (true≢false (sym is))
-pattern-word (byte ∷ bytes) is =
-    let parts = and_parts (not (has_newline (byte ∷ bytes))) (not (begins_with_hyphen (byte ∷ bytes))) is in
-    record { some = omega arith; plain = not-true (has_newline (byte ∷ bytes)) parts.0 }
+pattern-word (byte ∷ bytes) is = record { some = omega arith; plain = not-true (has_newline (byte ∷ bytes)) is }
 
-pub pattern_read : (words : List (List ℕ)) → is_grep words ≡ true → IsPattern (pattern_of words)
-pattern_read [] is = absurd (true≢false (sym is))
-pattern_read (name ∷ []) is = absurd (true≢false (sym is))
-pattern_read (name ∷ option ∷ []) is = absurd (true≢false (sym is))
-pattern_read (name ∷ option ∷ word ∷ []) is =
-    let options = and_parts (bytes_eq name (codes "grep")) (bytes_eq option (codes "-F") && is_pattern word) is in
-    pattern-word word (and_parts (bytes_eq option (codes "-F")) (is_pattern word) options.1).1
-pattern_read (name ∷ option ∷ word ∷ another ∷ others) is = absurd (true≢false (sym is))
+one_pattern : (patterns : List (List ℕ)) → is_one_pattern patterns ≡ true → IsPattern (pattern_of patterns)
+one_pattern [] is = absurd (true≢false (sym is))
+one_pattern (pattern ∷ []) is = pattern-word pattern is
+one_pattern (pattern ∷ another ∷ others) is = absurd (true≢false (sym is))
+
+pub pattern_read : (args : GrepArgs) → is_built_grep args ≡ true → IsPattern (pattern_of args.patterns)
+pattern_read args is = one_pattern args.patterns (and_parts (is_one_pattern args.patterns) _ is).0
 
 pub ruleset stands = (has-stands, has-where)

@@ -36,6 +36,11 @@ selected_lines pattern text = selected_of pattern (lines text)
 abbrev pub has_selected : List ℕ → List ℕ → Bool
 has_selected pattern text = selects_of pattern (lines text)
 
+-- the pattern of an invocation that has one
+abbrev pub pattern_of : List (List ℕ) → List ℕ
+pattern_of [] = []
+pattern_of (pattern ∷ others) = pattern
+
 -- the text's first line that has the pattern, with its newline, and what stands after it
 pub record CutsSelected (pattern text line rest : List ℕ) : Type 0 where
   pub before : List ℕ

@@ -1,7 +1,7 @@
 //! The stream of an invocation of grep.
-ghost use Rattle.std.specs.Prelude.{◌≡◌, ℕ, List, false, IfOk};
-ghost use Rattle.ut_args.specs.Commands.{pattern_of};
-ghost use Rattle.ut_grep.specs.Fixed.{has_selected, selected_lines};
+ghost use Rattle.std.specs.Prelude.{◌≡◌, ℕ, List, false, true, IfOk};
+ghost use Rattle.ut_args.specs.Built.{is_built_grep};
+ghost use Rattle.ut_grep.specs.Fixed.{has_selected, pattern_of as pattern_of_lem, selected_lines};
 
 use crate::fixed::FixedLines;
 use ps_lines::{Memory, Text};
@@ -21,11 +21,12 @@ impl Grep {
     /// `label` is the operand that the input was named by; it isn't printed before the lines of `-F PATTERN`.
     #[tactic(auto, using(crate::proofs::FixedLemmas::pattern_read))]
     pub fn new(alloc: Global, inv: &GrepInv, _label: &[u8]) -> Result<Grep, Memory>
-        ensures due { IfOk result (λ grep. (text : List ℕ) → ⟦<Grep as Stream>⟧.due grep text ≡ selected_lines (pattern_of inv.now.words) text) }
-        ensures selects { IfOk result (λ grep. (text : List ℕ) → ⟦<Grep as Stream>⟧.selects grep text ≡ has_selected (pattern_of inv.now.words) text) }
+        requires built { is_built_grep inv.now.args ≡ true }
+        ensures due { IfOk result (λ grep. (text : List ℕ) → ⟦<Grep as Stream>⟧.due grep text ≡ selected_lines (pattern_of_lem inv.now.args.patterns) text) }
+        ensures selects { IfOk result (λ grep. (text : List ℕ) → ⟦<Grep as Stream>⟧.selects grep text ≡ has_selected (pattern_of_lem inv.now.args.patterns) text) }
         ensures unspent { IfOk result (λ grep. ⟦<Grep as Stream>⟧.spent grep ≡ false) }
     {
-        let pattern = Text::copy_of(alloc, inv.pattern())?;
+        let pattern = Text::copy_of(alloc, pattern_of(inv))?;
         let fixed = FixedLines {
             pattern,
             selected: false,
@@ -40,6 +41,16 @@ impl Grep {
         ensures { result ≡ ⟦<Grep as Stream>⟧.selected self.now }
     {
         self.lines.has_selected()
+    }
+}
+
+/// The pattern.
+fn pattern_of(inv: &GrepInv) -> &[u8]
+    ensures { result.now ≡ pattern_of_lem inv.now.args.patterns }
+{
+    match inv.args.patterns.as_slice() {
+        [] => &[],
+        [pattern, ..] => pattern.as_slice(),
     }
 }
 

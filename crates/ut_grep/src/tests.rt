@@ -1,18 +1,36 @@
 //! `grep -F` over every cutting of short texts; what is wanted is what GNU grep writes in the C locale.
 
+ghost use Rattle.std.specs.Prelude.{◌≡◌, true, IfOk, IfSome};
+ghost use Rattle.ut_args.specs.Built.{is_built_of};
+
 use crate::Grep;
-use std::alloc::{AllocError, Global};
+use ps_lines::Memory;
+use std::alloc::Global;
 use std::test::Fail;
-use ut_args::{Inv, is_known, read_inv};
+use ut_args::{ArgFault, Inv, is_built, read_inv};
 use ut_streams::{Stream, cut_behind, feed_all};
 
-/// The words `grep -F PATTERN`.
-fn words(alloc: Global, pattern: &[u8]) -> Result<Vec<Vec<u8>>, AllocError> {
+/// The invocation `grep -F PATTERN`, where it is one that is built.
+fn fixed(alloc: Global, pattern: &[u8]) -> Result<Option<Inv>, Memory>
+    ensures { IfOk result (λ read. IfSome read (λ inv. is_built_of inv ≡ true)) }
+{
     let mut words = Vec::new(alloc);
     for word in [b"grep".as_slice(), b"-F".as_slice(), pattern] {
         words.push(Vec::from_slice(alloc, word)?)?;
     }
-    Ok(words)
+    if words.is_empty() {
+        return Ok(None);
+    }
+    match read_inv(alloc, words.as_slice()) {
+        Ok(inv) => {
+            if is_built(&inv) {
+                return Ok(Some(inv));
+            }
+            Ok(None)
+        }
+        Err(ArgFault::Memory) => Err(Memory),
+        Err(_) => Ok(None),
+    }
 }
 
 /// Pattern, text, and what is written.
@@ -32,22 +50,18 @@ static CASES: [(&[u8], &[u8], &[u8]); 9] = [
 fn lines_with_the_pattern_are_written_over_every_cutting(rt: HostRuntime) -> Result<(), Fail> {
     let alloc = rt.alloc();
     for &(pattern, text, wanted) in CASES.iter() {
-        let words = words(alloc, pattern)?;
-        if is_known(words.as_slice()) {
-            let Ok(Inv::Grep(inv)) = read_inv(alloc, words.as_slice()) else {
-                continue;
-            };
-            for cuts in 0..2048 {
-                let mut grep = Grep::new(alloc, &inv, b"")?;
-                let pieces = cut_behind(alloc, text, cuts)?;
-                let mut out = Vec::new(alloc);
-                feed_all(&mut grep, pieces.as_slice(), &mut out)?;
-                assert_eq!(rt; out.as_slice(), wanted, "cut {cuts}");
-                assert_eq!(rt; grep.selected(), !wanted.is_empty());
-                assert!(rt; !grep.is_spent());
-            }
-        } else {
-            assert!(rt; false, "no invocation");
+        let Some(Inv::Grep(inv)) = fixed(alloc, pattern)? else {
+            assert!(rt; false, "no invocation that is built");
+            continue;
+        };
+        for cuts in 0..2048 {
+            let mut grep = Grep::new(alloc, &inv, b"")?;
+            let pieces = cut_behind(alloc, text, cuts)?;
+            let mut out = Vec::new(alloc);
+            feed_all(&mut grep, pieces.as_slice(), &mut out)?;
+            assert_eq!(rt; out.as_slice(), wanted, "cut {cuts}");
+            assert_eq!(rt; grep.selected(), !wanted.is_empty());
+            assert!(rt; !grep.is_spent());
         }
     }
     Ok(())

@@ -1,7 +1,8 @@
 //! The stream of `wc`.
-ghost use Rattle.std.specs.Prelude.{◌≡◌, ◌+◌, ◌++◌, ℕ, List, Ok, false, not, IfOk, OnOk};
+ghost use Rattle.std.specs.Prelude.{◌≡◌, ◌+◌, ◌++◌, ℕ, List, Ok, false, true, not, IfOk, OnOk};
 ghost use Rattle.std.specs.Result.{is_ok};
 ghost use Rattle.ut_streams.specs.Streams.{Wrote};
+ghost use Rattle.ut_args.specs.Built.{is_built_wc};
 ghost use Rattle.ut_groups.specs.Counting.{count_line, line_count, newlines as newlines_lem};
 
 use crate::counting::{add_sat, newlines, put_count};
@@ -20,6 +21,7 @@ pub struct Wc {
 impl Wc {
     /// The stream of one invocation, from the beginning of its input.
     pub fn new(_alloc: Global, _inv: &WcInv) -> Result<Wc, Memory>
+        requires built { is_built_wc _inv.now.args ≡ true }
         ensures due { IfOk result (λ wc. (text : List ℕ) → ⟦<Wc as Stream>⟧.due wc text ≡ line_count text) }
         ensures unspent { IfOk result (λ wc. ⟦<Wc as Stream>⟧.spent wc ≡ false) }
     {

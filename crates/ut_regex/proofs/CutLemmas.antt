@@ -5,6 +5,7 @@ use Rattle.std.proofs.lemmas.Bool.{true≢false, or_parts, or_from, eqb-true}
 use Rattle.std.proofs.lemmas.List.{take-append-drop, take_more, get_or-drop}
 use Rattle.memchr.specs.Find.{IsFirstByte, IsLastByte, is_byte}
 use Rattle.ps_lines.specs.Lines.{has_newline, is_closed, CutsLine}
+use Rattle.ps_lines.proofs.ClosedLemmas.{closed-drop, closed-plain}
 use Rattle.ps_lines.proofs.LineLemmas.{is_closed-push}
 use Rattle.ps_lines.proofs.NewlineLemmas.{has_newline-none}
 use Rattle.ut_regex.specs.Having.{CutsOut}
@@ -44,44 +45,10 @@ drop-seam : (front back : List ℕ) → drop (length front) (front ++ back) ≡ 
 drop-seam [] back = refl
 drop-seam (byte ∷ front) back = drop-seam front back
 
-some≢none : (byte : ℕ) (rest : List ℕ) → byte ∷ rest ≡ [] → ⊥
-some≢none byte rest same = grind arith
-
--- what stands behind a line of a closed text is closed
-pub closed-behind : (front back : List ℕ) → is_closed (front ++ 10 ∷ back) ≡ true → is_closed back ≡ true
-closed-behind [] [] closed = refl
-closed-behind [] (byte ∷ back) closed = closed
-closed-behind (byte ∷ []) back closed = closed-behind [] back closed
-closed-behind (byte ∷ next ∷ front) back closed = closed-behind (next ∷ front) back closed
-
--- a closed text without a newline is empty
-pub closed-plain : (text : List ℕ) → is_closed text ≡ true → has_newline text ≡ false → text ≡ []
-closed-plain [] closed plain = refl
-closed-plain (byte ∷ []) closed plain = absurd (true≢false (sym closed ∙ (or_parts (byte == 10) false plain).0))
-closed-plain (byte ∷ next ∷ rest) closed plain =
-    absurd (some≢none next rest (closed-plain (next ∷ rest) closed (or_parts (byte == 10) (has_newline (next ∷ rest)) plain).1))
-
--- what is left of a closed text is closed
-pub closed-tail : (byte : ℕ) (rest : List ℕ) → is_closed (byte ∷ rest) ≡ true → is_closed rest ≡ true
-closed-tail byte [] closed = refl
-closed-tail byte (next ∷ rest) closed = closed
-
-pub closed-left : (text : List ℕ) (from : ℕ) → is_closed text ≡ true → is_closed (drop from text) ≡ true
-closed-left text zero closed = closed
-closed-left [] (suc from) closed = refl
-closed-left (byte ∷ rest) (suc from) closed = closed-left rest from (closed-tail byte rest closed)
-
--- closed texts one after the other
-pub closed-append : (front back : List ℕ) → is_closed front ≡ true → is_closed back ≡ true → is_closed (front ++ back) ≡ true
-closed-append [] back first second = second
-closed-append (byte ∷ []) [] first second = first
-closed-append (byte ∷ []) (next ∷ back) first second = second
-closed-append (byte ∷ next ∷ front) back first second = closed-append (next ∷ front) back first second
-
 -- where no newline follows a place of a closed text, the place is its end
 pub at-end : (text : List ℕ) (place : ℕ) → place ≤ length text → has_newline (drop place text) ≡ false → is_closed text ≡ true → place ≡ length text
 at-end text place within plain closed =
-    let none : length (drop place text) ≡ 0 = ap length (closed-plain (drop place text) (closed-left text place closed) plain) in
+    let none : length (drop place text) ≡ 0 = ap length (closed-plain (drop place text) (closed-drop text place closed) plain) in
     let size = length-drop place text in
     omega arith
 

@@ -23,7 +23,7 @@ use Rattle.ut_regex.specs.Spans.{fits, Has}
 use Rattle.ut_regex.specs.Tables.{runs, left_at_found, IsForTexts}
 use Rattle.ut_regex.specs.Made.{IsMade}
 use Rattle.ut_regex.specs.Tree.{Tree}
-use Rattle.ut_regex.proofs.CutLemmas.{closed-append, closed-behind, closed-tail}
+use Rattle.ps_lines.proofs.ClosedLemmas.{closed-append, closed-behind, closed-tail}
 use Rattle.ut_regex.proofs.LiteralLemmas.{has_literal, stands_long}
 use Rattle.ut_regex.proofs.RunLemmas.{AreBytes, made_has}
 use Rattle.ut_regex.proofs.TextLemmas.{some-same, some≢none, goes-on, shows}

@@ -6,6 +6,8 @@ use Rattle.std.specs.Result.{is_ok}
 use Rattle.std.proofs.lemmas.Bool.{true≢false, or_parts, eqb-true}
 use Rattle.std.specs.Global.{Vec}
 use Rattle.std.specs.List.{concat}
+use Rattle.ps_lines.proofs.ClosedLemmas.{closed-behind, closed-plain}
+use Rattle.ps_lines.proofs.TextsLemmas.{begins-append, begins-self, begins-whole, begins-more, begins-trans}
 use Rattle.ps_lines.specs.Texts.{texts_of}
 use Rattle.ps_lines.specs.Lines.{lines, has_newline, is_closed, CutsLine}
 use Rattle.ps_lines.proofs.LineLemmas.{lines-append, lines-first, lines-held, lines-plain, is_closed-push}
@@ -13,25 +15,6 @@ use Rattle.ps_lines.proofs.NewlineLemmas.{has_newline-none}
 use Rattle.memchr.specs.Find.{IsLastByte, is_byte}
 use Rattle.ps_lines.specs.Texts.{BeginsWith}
 use Rattle.ut_streams.specs.Streams.{Wrote, Put, CutsLastLine}
-
--- fronts of texts
-pub begins-append : (front rest : List ℕ) → BeginsWith (front ++ rest) front
-begins-append front rest = take-append_seam front rest
-
-pub begins-self : (text : List ℕ) → BeginsWith text text
-begins-self text = ap (λ whole. take (length text) whole) (sym (append-nil text)) ∙ take-append_seam text []
-
-begins-whole : (text front : List ℕ) → BeginsWith text front → text ≡ front ++ drop (length front) text
-begins-whole text front begins = sym (take-append-drop (length front) text) ∙ ap (λ begun. begun ++ drop (length front) text) begins
-
-pub begins-more : (text front more : List ℕ) → BeginsWith text front → BeginsWith (text ++ more) front
-begins-more text front more begins =
-    let whole : text ++ more ≡ front ++ (drop (length front) text ++ more) =
-    ap (λ text. text ++ more) (begins-whole text front begins) ∙ append_assoc front (drop (length front) text) more in
-    rw whole (begins-append front (drop (length front) text ++ more))
-
-pub begins-trans : (text half front : List ℕ) → BeginsWith text half → BeginsWith half front → BeginsWith text front
-begins-trans text half front whole begins = rw (begins-whole text half whole) (begins-more half front (drop (length half) text) begins)
 
 -- a step that wrote what it owed, and another
 module _ {Input : Type 0} where
@@ -150,16 +133,6 @@ Wrote-held due due' held text line rest old new whole plain cut wrote =
 
 pub ruleset each_line = (Wrote-put)
 
--- what stands after a line of a closed text is closed
-closed_after : (line rest : List ℕ) → is_closed (line ++ 10 ∷ rest) ≡ true → is_closed rest ≡ true
-closed_after [] [] closed = refl
-closed_after [] (byte ∷ rest) closed = closed
-closed_after (byte ∷ []) rest closed = closed_after [] rest closed
-closed_after (byte ∷ next ∷ line) rest closed = closed_after (next ∷ line) rest closed
-
-some≢none : (byte : ℕ) (rest : List ℕ) → byte ∷ rest ≡ [] → ⊥
-some≢none byte rest same = grind arith
-
 -- the lines of a text that is cut after its last newline
 pub lines-cut_last : (text closed rest more : List ℕ) → CutsLastLine text closed rest → lines (text ++ more) ≡ lines closed ++ lines (rest ++ more)
 lines-cut_last text closed rest more cut =
@@ -182,13 +155,7 @@ CutsLastLine-some text end found =
 
 -- lines of a closed text were done, and one more is
 pub closed-rest : (text line rest : List ℕ) → CutsLine text line rest → is_closed text ≡ true → is_closed rest ≡ true
-closed-rest text line rest cut closed = closed_after line rest (ap is_closed (sym cut.whole) ∙ closed)
-
-pub closed-plain : (text : List ℕ) → is_closed text ≡ true → has_newline text ≡ false → text ≡ []
-closed-plain [] closed plain = refl
-closed-plain (byte ∷ []) closed plain = absurd (true≢false (sym closed ∙ (or_parts (byte == 10) false plain).0))
-closed-plain (byte ∷ next ∷ rest) closed plain =
-    absurd (some≢none next rest (closed-plain (next ∷ rest) closed (or_parts (byte == 10) (has_newline (next ∷ rest)) plain).1))
+closed-rest text line rest cut closed = closed-behind line rest (ap is_closed (sym cut.whole) ∙ closed)
 
 pub Wrote-next_line : (first due due' : List (List ℕ) → List ℕ) (text line rest old half new : List ℕ) (whole : Bool) → CutsLine text line rest
     → Wrote first (λ more. due (lines text ++ more)) old half true → Wrote (λ more. due (line ∷ more)) due' half new whole

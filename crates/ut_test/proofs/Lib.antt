@@ -1,4 +1,3 @@
-pub mod DigitLemmas
 pub mod EchoLemmas
 pub mod QuestionLemmas
 pub mod FieldLemmas

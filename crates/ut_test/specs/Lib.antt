@@ -1,5 +1,4 @@
 pub mod Echo
-pub mod Numbers
 pub mod Operators
 pub mod Tests
 pub mod Questions

@@ -6,13 +6,14 @@ use Rattle.std.specs.Ordering.{int_cmp}
 use Rattle.ps_world.specs.declared.places.Place.{Place}
 use Rattle.ut_test.specs.declared.outcomes.Tested.{Tested}
 use Rattle.ut_test.specs.declared.outcomes.Tested.TheVariants as tested
-use Rattle.ut_test.specs.declared.operators.Unary.{Unary}
-use Rattle.ut_test.specs.declared.operators.Unary.TheVariants as unary
-use Rattle.ut_test.specs.declared.operators.Relation.{Relation}
-use Rattle.ut_test.specs.declared.operators.Binary.{Binary}
-use Rattle.ut_test.specs.declared.operators.Binary.TheVariants as binary
-use Rattle.ut_test.specs.Numbers.{number_of}
-use Rattle.ut_test.specs.Operators.{binary_of, holds, is_not, stands, unary_of}
+use Rattle.ut_args.specs.declared.operators.Unary.{Unary}
+use Rattle.ut_args.specs.declared.operators.Unary.TheVariants as unary
+use Rattle.ut_args.specs.declared.operators.Relation.{Relation}
+use Rattle.ut_args.specs.declared.operators.Binary.{Binary}
+use Rattle.ut_args.specs.declared.operators.Binary.TheVariants as binary
+use Rattle.ut_options.specs.Numbers.{number_of}
+use Rattle.ut_args.specs.Operators.{binary_of, is_not, unary_of}
+use Rattle.ut_test.specs.Operators.{holds, stands}
 
 abbrev pub answer : Bool → Tested
 answer true = tested.Yes

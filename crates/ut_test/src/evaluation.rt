@@ -23,7 +23,7 @@ pub fn test<T: Tree>(alloc: Global, args: &[Vec<u8>], tree: &mut T) -> Result<Te
     ensures plain { asks_a_file (texts_of args.now) ≡ false → IfOk result (λ tested.
         (places : List ℕ → Place) → tested ≡ tested_by places (texts_of args.now)) }
     ensures told { asks_a_file (texts_of args.now) ≡ false → IsOk result }
-    ensures unasked { asks_a_file (texts_of args.now) ≡ false → T.faults tree.new ≡ T.faults tree.old }
+    ensures unasked { asks_a_file (texts_of args.now) ≡ false → tree.new ≡ tree.old }
     ensures state { T.state tree.new ≡ T.state tree.old }
     ensures cause { Counts (T.faults tree.old) (T.faults tree.new) result }
 {

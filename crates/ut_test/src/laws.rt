@@ -4,8 +4,8 @@ ghost use Rattle.std.specs.Prelude.{◌≡◌, ◌≤◌, ◌<◌, ◌+◌, ◌-
 ghost use Rattle.std.specs.List.{concat, list_any};
 ghost use Rattle.ps_world.specs.declared.places.Place.{Place};
 ghost use Rattle.ut_test.specs.Fields.{fields_read, is_in, is_white, IsTrimmed};
-ghost use Rattle.ut_test.specs.Numbers.{number_of};
-ghost use Rattle.ut_test.specs.Operators.{binary_of};
+ghost use Rattle.ut_options.specs.Numbers.{number_of};
+ghost use Rattle.ut_args.specs.Operators.{binary_of};
 ghost use Rattle.ut_test.specs.Tests.{opposite, tested_by};
 
 /// `!` before arguments gives the opposite of their answer, and leaves bad usage as it is: before none, one and three of them always,

@@ -9,7 +9,6 @@
 mod evaluation;
 mod fields;
 pub mod laws;
-mod numbers;
 mod operators;
 mod outcomes;
 mod questions;

@@ -3,14 +3,15 @@
 ghost use Rattle.std.specs.Prelude.{◌≡◌, ◌&&◌, ℕ, List};
 ghost use Rattle.ps_lines.specs.Texts.{texts_of};
 ghost use Rattle.ps_world.specs.declared.places.Place.{Place};
-ghost use Rattle.ut_test.specs.Operators.{binary_of as binary_of_lem, is_not as is_not_lem, unary_of as unary_of_lem};
+ghost use Rattle.ut_args.specs.Operators.{binary_of as binary_of_lem, is_not as is_not_lem, unary_of as unary_of_lem};
 ghost use Rattle.ut_test.specs.Questions.{answered, hangs};
 ghost use Rattle.ut_test.specs.Tests.{asks_a_file, compared as compared_lem, four_arguments as four_arguments_lem, looks, looks_in_three, negated_by as negated_by_lem, one_argument as one_argument_lem, opposite as opposite_lem, tested_by, three_arguments as three_arguments_lem, two_arguments as two_arguments_lem};
-ghost use Rattle.ut_test.specs.Numbers.{number_of as number_of_lem};
+ghost use Rattle.ut_options.specs.Numbers.{number_of as number_of_lem};
 
-use crate::numbers::number_of;
-use crate::operators::{Asked, Binary, Relation, Unary, binary_of, holds, is_not, unary_of};
+use crate::operators::holds;
 use crate::outcomes::{Tested, answer, opposite};
+use ut_args::{Asked, Binary, Relation, Unary, binary_of, is_not, unary_of};
+use ut_options::number_of;
 
 /// What arguments ask.
 #[derive(Clone, Copy, Debug)]

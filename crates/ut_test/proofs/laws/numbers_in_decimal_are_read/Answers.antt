@@ -1,6 +1,6 @@
 use Rattle.std.proofs.Common.{◌^◌, ◌-◌, ◌∙◌, ap, arith, pos, neg_ℤ}
 use Rattle.std.specs.Option.{option_map}
-use Rattle.ut_test.proofs.DigitLemmas.{digits_up_to-decimal, number_of-decimal}
+use Rattle.ut_options.proofs.DigitLemmas.{digits_up_to-decimal, number_of-decimal}
 use Rattle.ut_test.proofs.laws.numbers_in_decimal_are_read.Goals as goal
 
 pub returns-clause-plain : goal.returns-clause-plain

@@ -1,17 +1,17 @@
 use Rattle.std.proofs.Common.{arith, refl, rules, length-drop}
 use Rattle.std.proofs.lemmas.Bool.{false≢true}
 use Rattle.std.proofs.lemmas.List.{take_rest}
-use Rattle.ut_regex.proofs.CutLemmas.{closed-left}
+use Rattle.ps_lines.proofs.ClosedLemmas.{closed-drop}
 use Rattle.ut_regex.proofs.HavingLemmas.{finds-stays, passed-all, passed-before, walked-all, walked-ends, walked-having, walked-lack, walked-rest}
 use Rattle.ut_regex.proofs.matcher.Matcher.first_having.Goals as goal
 
 pub passed-place-requires : goal.passed-place-requires
-passed-place-requires c = rw take_rest (record { closed = closed-left c.args.text.now c.loop-cut.from c.requires.closed })
+passed-place-requires c = rw take_rest (record { closed = closed-drop c.args.text.now c.loop-cut.from c.requires.closed })
 
 pub returns-in_default-clause-none : goal.returns-in_default-clause-none
 returns-in_default-clause-none c = λ fold whole re finds.
     let l = c.loop-cut in
-    let left = closed-left c.args.text.now l.from c.requires.closed in
+    let left = closed-drop c.args.text.now l.from c.requires.closed in
     let here = rw take_rest at c.passed-place.ensures.passed fold whole re (finds-stays c.args.self.now l.self fold whole re l.invariant.stays finds) in
     walked-all c.args.text.now l.from fold whole re l.invariant.ends (l.invariant.passed fold whole re finds)
     (passed-all fold whole re _ c.passed-place.result here left ((rw take_rest at c.in_default.ensures.none) left))

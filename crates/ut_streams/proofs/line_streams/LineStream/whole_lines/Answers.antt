@@ -1,7 +1,8 @@
 use Rattle.std.proofs.Common.{◌++◌, ◌∙◌, ap, sym, true}
 use Rattle.ps_lines.specs.Lines.{lines}
 use Rattle.ps_lines.proofs.LineLemmas.{lines-first}
-use Rattle.ut_streams.proofs.StreamLemmas.{closed-plain, closed-rest, Wrote-last_line, Wrote-line_stopped, Wrote-next_line}
+use Rattle.ps_lines.proofs.ClosedLemmas.{closed-plain}
+use Rattle.ut_streams.proofs.StreamLemmas.{closed-rest, Wrote-last_line, Wrote-line_stopped, Wrote-next_line}
 use Rattle.ut_streams.proofs.line_streams.LineStream.whole_lines.Goals as goal
 
 pub loop-line-preserved : goal.loop-line-preserved

@@ -7,8 +7,9 @@ use Rattle.ps_world.specs.Places.{is_null_path}
 use Rattle.ut_args.specs.declared.invocations.Inv.{Inv}
 use Rattle.ut_args.specs.Invocations.{words_of}
 use Rattle.ut_args.proofs.CommandLemmas.{decided}
-use Rattle.fl_graph.specs.Net.{Cell, has, count, takes, gives}
-use Rattle.fl_graph.specs.Kinds.{has_its_ports, is_input, is_output, reads_one_input, has_its_class, runs_a_utility}
+use Rattle.fl_graph.specs.Net.{has, count, takes, gives}
+use Rattle.fl_graph.specs.declared.graphs.Cell.{Cell}
+use Rattle.fl_graph.specs.Kinds.{has_its_ports, is_input, is_output, reads_one_input, has_its_class, runs_what_is_built}
 use Rattle.fl_graph.specs.Makers.{same_words}
 use Rattle.fl_graph.specs.Paths.{paths_read, paths_written, is_among, are_distinct, ArePathsApart}
 use Rattle.fl_graph.specs.Valid.{HasEdges, HasOneOfEachEnd, Valid, nodes_named, names_selector}
@@ -89,15 +90,15 @@ module _ (cells : List (Cell NodeKind)) where
   -- what a node asks of itself, condition by condition
   all_alone : list_all fits_alone cells
       ≡ (list_all has_its_ports cells && (list_all (λ (cell : Cell NodeKind). reads_one_input cell.kind) cells
-      && (list_all (λ (cell : Cell NodeKind). has_its_class cell.kind) cells && list_all (λ (cell : Cell NodeKind). runs_a_utility cell.kind) cells)))
+      && (list_all (λ (cell : Cell NodeKind). has_its_class cell.kind) cells && list_all (λ (cell : Cell NodeKind). runs_what_is_built cell.kind) cells)))
   all_alone =
-      let utility = λ (cell : Cell NodeKind). runs_a_utility cell.kind in
+      let built = λ (cell : Cell NodeKind). runs_what_is_built cell.kind in
       let its_class = λ (cell : Cell NodeKind). has_its_class cell.kind in
       let one_input = λ (cell : Cell NodeKind). reads_one_input cell.kind in
-      list_all-both has_its_ports (λ (cell : Cell NodeKind). reads_one_input cell.kind && (has_its_class cell.kind && runs_a_utility cell.kind)) cells
+      list_all-both has_its_ports (λ (cell : Cell NodeKind). reads_one_input cell.kind && (has_its_class cell.kind && runs_what_is_built cell.kind)) cells
       ∙ ap (λ (rest : Bool). list_all has_its_ports cells && rest)
-      (list_all-both one_input (λ (cell : Cell NodeKind). has_its_class cell.kind && runs_a_utility cell.kind) cells
-      ∙ ap (λ (rest : Bool). list_all one_input cells && rest) (list_all-both its_class utility cells))
+      (list_all-both one_input (λ (cell : Cell NodeKind). has_its_class cell.kind && runs_what_is_built cell.kind) cells
+      ∙ ap (λ (rest : Bool). list_all one_input cells && rest) (list_all-both its_class built cells))
 
   ends_if : has_one_of_each_end cells ≡ true → HasOneOfEachEnd cells
   ends_if passes =
@@ -157,17 +158,17 @@ valid_if cells status passes =
     let five = and_parts apart named four.1 in
     let one_input = list_all (λ (cell : Cell NodeKind). reads_one_input cell.kind) cells in
     let its_class = list_all (λ (cell : Cell NodeKind). has_its_class cell.kind) cells in
-    let utility = list_all (λ (cell : Cell NodeKind). runs_a_utility cell.kind) cells in
-    let alone = and_parts (list_all has_its_ports cells) (one_input && (its_class && utility)) (sym (all_alone cells) ∙ two.0) in
-    let rest = and_parts one_input (its_class && utility) alone.1 in
-    let last = and_parts its_class utility rest.1 in
+    let built = list_all (λ (cell : Cell NodeKind). runs_what_is_built cell.kind) cells in
+    let alone = and_parts (list_all has_its_ports cells) (one_input && (its_class && built)) (sym (all_alone cells) ∙ two.0) in
+    let rest = and_parts one_input (its_class && built) alone.1 in
+    let last = and_parts its_class built rest.1 in
     record {
       edges = edges_if cells one.0;
       ports = alone.0;
       ends = ends_if cells four.0;
       inputs = rest.0;
       classes = last.0;
-      utilities = last.1;
+      built = last.1;
       maps = joins_maps-each cells ∙ three.0;
       paths = paths_if cells five.0;
       named = five.1;
@@ -181,9 +182,9 @@ only_if_valid cells status valid =
     let apart = has_paths_apart cells in
     let one_input = list_all (λ (cell : Cell NodeKind). reads_one_input cell.kind) cells in
     let its_class = list_all (λ (cell : Cell NodeKind). has_its_class cell.kind) cells in
-    let utility = list_all (λ (cell : Cell NodeKind). runs_a_utility cell.kind) cells in
-    let alone = all_alone cells ∙ and_from (list_all has_its_ports cells) (one_input && (its_class && utility)) valid.ports
-    (and_from one_input (its_class && utility) valid.inputs (and_from its_class utility valid.classes valid.utilities)) in
+    let built = list_all (λ (cell : Cell NodeKind). runs_what_is_built cell.kind) cells in
+    let alone = all_alone cells ∙ and_from (list_all has_its_ports cells) (one_input && (its_class && built)) valid.ports
+    (and_from one_input (its_class && built) valid.inputs (and_from its_class built valid.classes valid.built)) in
     let joined = sym (joins_maps-each cells) ∙ valid.maps in
     and_from (has_edges cells) (list_all fits_alone cells && (maps && (ends && (apart && named)))) (edges_only_if cells valid.edges)
     (and_from (list_all fits_alone cells) (maps && (ends && (apart && named))) alone

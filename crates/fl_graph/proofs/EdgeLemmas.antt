@@ -3,7 +3,8 @@ use Rattle.std.proofs.Common.{◌≡◌, ℕ, ◌==◌, List, [], ◌∷◌, Boo
 use Rattle.std.specs.List.{list_all}
 use Rattle.std.proofs.lemmas.List.Folds.{list_any-append, list_all-map}
 use Rattle.ut_args.specs.Invocations.{words_of}
-use Rattle.fl_graph.specs.Net.{Cell, has, gives, step, after}
+use Rattle.fl_graph.specs.Net.{has, gives, step, after}
+use Rattle.fl_graph.specs.declared.graphs.Cell.{Cell}
 use Rattle.fl_graph.specs.Makers.{Made, made_by, makes, absent, is_given, is_mapped, tells_order, tells_maps, leads_on, joins_maps, all_hold}
 use Rattle.fl_graph.specs.Checks.{each_after, takes_given, comes_mapped, are_mapped, may_join, joins_its_maps}
 use Rattle.fl_graph.specs.declared.kinds.NodeKind.{NodeKind}

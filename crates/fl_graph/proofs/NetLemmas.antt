@@ -3,7 +3,8 @@ use Rattle.std.proofs.Common.{◌≡◌, ℕ, ◌==◌, List, [], ◌∷◌, ◌
 use Rattle.std.specs.List.{AllZip}
 use Rattle.std.proofs.lemmas.Bool.{or_parts, or_left, or_right}
 use Rattle.std.proofs.lemmas.List.Folds.{list_all-append, list_any-append}
-use Rattle.fl_graph.specs.Net.{Cell, has, takes, gives, store, step, after, run}
+use Rattle.fl_graph.specs.Net.{has, takes, gives, store, step, after, run}
+use Rattle.fl_graph.specs.declared.graphs.Cell.{Cell}
 use Rattle.fl_graph.specs.Makers.{all_hold}
 use Rattle.fl_graph.specs.Checks.{each_after}
 

@@ -3,16 +3,16 @@ use Rattle.std.proofs.Common.{◌≡◌, ℕ, ◌==◌, List, [], ◌∷◌, ◌
 use Rattle.std.proofs.Math.Seq.{take-append_seam}
 use Rattle.std.proofs.lemmas.Bool.{eqb-true, true≢false}
 use mathlib.Core.Path.{fun_ext}
-use Rattle.fl_graph.specs.Machines.{comes_first, comes, DidPut}
+use Rattle.fl_graph.specs.Machines.{State, mark, comes_first, comes, DidPut, WereDue}
 use Rattle.ps_lines.specs.Texts.{BeginsWith}
 use Rattle.fl_graph.specs.Runs.{text_of, is_end, has_end, completed, completion, add, Ran, Selects}
 use Rattle.fl_graph.specs.declared.pieces.Piece.{Piece}
 use Rattle.fl_graph.specs.declared.pieces.Piece.TheVariants as piece
 
--- the text of a piece
+-- the value of a piece
 abbrev text_in : Piece → List ℕ
 text_in (piece.Bytes bytes) = bytes
-text_in piece.Mark = []
+text_in piece.Mark = mark ∷ []
 text_in piece.End = []
 text_in piece.Broken = []
 
@@ -23,7 +23,7 @@ text_of-more [] piece.Mark = refl
 text_of-more [] piece.End = refl
 text_of-more [] piece.Broken = refl
 text_of-more (piece.Bytes bytes ∷ pieces) last = ap (λ (rest : List ℕ). bytes ++ rest) (text_of-more pieces last) ∙ sym (append_assoc bytes (text_of pieces) (text_in last))
-text_of-more (piece.Mark ∷ pieces) last = text_of-more pieces last
+text_of-more (piece.Mark ∷ pieces) last = ap (λ (rest : List ℕ). mark ∷ rest) (text_of-more pieces last)
 text_of-more (piece.End ∷ pieces) last = text_of-more pieces last
 text_of-more (piece.Broken ∷ pieces) last = text_of-more pieces last
 
@@ -64,12 +64,12 @@ text_of-add port last put other = choice (other == port)
 pub Ran-start : (equation : (ℕ → List ℕ) → ℕ → List ℕ) → Ran equation equation (λ _. []) (λ _. []) false
 Ran-start equation = record { front = λ rest port. refl; whole = λ fine rest port. refl; ended = λ port is_ended rest. absurd (true≢false (sym is_ended)) }
 
-module _ (equation due due' : (ℕ → List ℕ) → ℕ → List ℕ) (taken put : ℕ → List Piece) where
+module _ (equation : (ℕ → List ℕ) → ℕ → List ℕ) (was now : State) (taken put : ℕ → List Piece) where
   -- a piece was taken
-  pub Ran-take : (broken broken' : Bool) (port : ℕ) (last : Piece) → Ran equation due taken put broken → (broken' ≡ false → broken ≡ false)
-      → (broken' ≡ false → (texts : ℕ → List ℕ) (other : ℕ) → due' texts other ≡ due (comes port last texts) other)
-      → Ran equation due' (add port last taken) put broken'
-  Ran-take broken broken' port last ran still left = record {
+  pub Ran-take : (port : ℕ) (last : Piece) → Ran equation was.due taken put was.broken → (now.broken ≡ false → was.broken ≡ false)
+      → (now.broken ≡ false → (values : ℕ → List ℕ) (other : ℕ) → now.due values other ≡ was.due (comes port last values) other)
+      → Ran equation now.due (add port last taken) put now.broken
+  Ran-take port last ran still left = record {
     front = λ rest other. subst (λ (texts : ℕ → List ℕ). BeginsWith (equation texts other) (text_of (put other))) (sym (completion-add port last taken rest)) (ran.front (comes port last rest) other);
     whole = λ fine rest other.
         ap (λ (texts : ℕ → List ℕ). equation texts other) (completion-add port last taken rest)
@@ -80,10 +80,10 @@ module _ (equation due due' : (ℕ → List ℕ) → ℕ → List ℕ) (taken pu
   }
 
   -- memory was refused, or a machine is broken for another reason
-  pub Ran-broken : (broken : Bool) → Ran equation due taken put broken → Ran equation due' taken put true
-  Ran-broken broken ran = record { front = ran.front; whole = λ fine. absurd (true≢false fine); ended = ran.ended }
+  pub Ran-broken : Ran equation was.due taken put was.broken → Ran equation now.due taken put true
+  Ran-broken ran = record { front = ran.front; whole = λ fine. absurd (true≢false fine); ended = ran.ended }
 
-  module _ (broken : Bool) (port : ℕ) (ran : Ran equation due taken put broken) (unended : has_end (put port) ≡ false) where
+  module _ (port : ℕ) (ran : Ran equation was.due taken put was.broken) (unended : has_end (put port) ≡ false) where
     -- an end that is there was there before, if this piece is none
     ended_before : (last : Piece) → is_end last ≡ false → (other : ℕ) → has_end (add port last put other) ≡ true → (other == port ≡ false) × (has_end (put other) ≡ true)
     ended_before last none other is_ended = choice (other == port) refl is_ended
@@ -99,55 +99,59 @@ module _ (equation due due' : (ℕ → List ℕ) → ℕ → List ℕ) (taken pu
     text_elsewhere : (last : Piece) (other : ℕ) → (other == port) ≡ false → text_of (add port last put other) ≡ text_of (put other)
     text_elsewhere last other elsewhere = text_of-add port last put other ∙ ap (λ (here : Bool). if here then text_of (put other) ++ text_in last else text_of (put other)) elsewhere
 
-    -- a piece without a text
-    text_same : (last : Piece) → text_in last ≡ [] → (other : ℕ) → text_of (add port last put other) ≡ text_of (put other)
-    text_same last none other = text_of-add port last put other ∙ choice (other == port)
-      where
-        choice : (here : Bool) → (if here then text_of (put other) ++ text_in last else text_of (put other)) ≡ text_of (put other)
-        choice true = ap (λ (text : List ℕ). text_of (put other) ++ text) none ∙ append-nil (text_of (put other))
-        choice false = refl
+    module _ (last : Piece) (fine : was.broken ≡ false) (due : WereDue was.due now.due port (text_in last)) where
+      grown : (rest : ℕ → List ℕ) (other : ℕ) → equation (completion taken rest) other ≡ text_of (add port last put other) ++ now.due rest other
+      grown rest other = ran.whole fine rest other ∙ ap (λ (more : List ℕ). text_of (put other) ++ more) (due rest other) ∙ choice (other == port) ∙ ap (λ (text : List ℕ). text ++ now.due rest other) (sym (text_of-add port last put other))
+        where
+          choice : (here : Bool) → text_of (put other) ++ (if here then text_in last ++ now.due rest other else now.due rest other) ≡ (if here then text_of (put other) ++ text_in last else text_of (put other)) ++ now.due rest other
+          choice true = sym (append_assoc (text_of (put other)) (text_in last) (now.due rest other))
+          choice false = refl
+
+      -- what was due was put, and where an end came nothing is due any more
+      put_due : (is_end last ≡ true → (rest : ℕ → List ℕ) → now.due rest port ≡ []) → Ran equation now.due taken (add port last put) was.broken
+      put_due none = record {
+        front = λ rest other. subst (λ (text : List ℕ). BeginsWith text (text_of (add port last put other))) (sym (grown rest other)) (take-append_seam (text_of (add port last put other)) (now.due rest other));
+        whole = λ fine. grown;
+        ended = λ other is_ended rest. by_piece (is_end last) refl other is_ended rest;
+      }
+        where
+          at_port : is_end last ≡ true → (other : ℕ) (here : Bool) → (other == port) ≡ here → has_end (if here then put other ++ last ∷ [] else put other) ≡ true
+              → (rest : ℕ → List ℕ) → equation (completion taken rest) other ≡ text_of (add port last put other)
+          at_port ends other true same is_ended rest =
+              grown rest other ∙ ap (λ (more : List ℕ). text_of (add port last put other) ++ more) (ap (λ (it : ℕ). now.due rest it) (eqb-true other port same) ∙ none ends rest)
+              ∙ append-nil (text_of (add port last put other))
+          at_port ends other false same is_ended rest = ran.ended other is_ended rest ∙ sym (text_elsewhere last other same)
+
+          by_piece : (ends : Bool) → is_end last ≡ ends → (other : ℕ) → has_end (add port last put other) ≡ true
+              → (rest : ℕ → List ℕ) → equation (completion taken rest) other ≡ text_of (add port last put other)
+          by_piece true is other is_ended rest = at_port is other (other == port) refl is_ended rest
+          by_piece false is other is_ended rest =
+              let before = ended_before last is other is_ended in
+              ran.ended other before.1 rest ∙ sym (text_elsewhere last other before.0)
 
     -- a piece was put
-    pub Ran-put : (last : Piece) → DidPut due due' broken port last → Ran equation due' taken (add port last put) broken
-    Ran-put (piece.Bytes bytes) did = record {
-      front = λ rest other. subst (λ (text : List ℕ). BeginsWith text (text_of (add port last put other))) (sym (grown rest other)) (take-append_seam (text_of (add port last put other)) (due' rest other));
-      whole = λ fine. grown;
-      ended = λ other is_ended rest.
-          let before = ended_before last refl other is_ended in
-          ran.ended other before.1 rest ∙ sym (text_elsewhere last other before.0);
-    }
+    pub Ran-put : (last : Piece) → DidPut was now port last → Ran equation now.due taken (add port last put) was.broken
+    Ran-put (piece.Bytes bytes) did = put_due (piece.Bytes bytes) did.0 did.1 (λ ends. absurd (true≢false (sym ends)))
+    Ran-put piece.Mark did = put_due piece.Mark did.0 did.2 (λ ends. absurd (true≢false (sym ends)))
+    Ran-put piece.End did = put_due piece.End did.0 (λ rest other. did.1.1 rest other ∙ nothing rest other (other == port)) (λ ends rest. sym (did.1.1 rest port) ∙ did.1.0 rest)
       where
-        last : Piece
-        last = piece.Bytes bytes
-
-        grown : (rest : ℕ → List ℕ) (other : ℕ) → equation (completion taken rest) other ≡ text_of (add port last put other) ++ due' rest other
-        grown rest other = ran.whole did.0 rest other ∙ ap (λ (more : List ℕ). text_of (put other) ++ more) (did.1 rest other) ∙ choice (other == port) ∙ ap (λ (text : List ℕ). text ++ due' rest other) (sym (text_of-add port last put other))
-          where
-            choice : (here : Bool) → text_of (put other) ++ (if here then bytes ++ due' rest other else due' rest other) ≡ (if here then text_of (put other) ++ bytes else text_of (put other)) ++ due' rest other
-            choice true = sym (append_assoc (text_of (put other)) bytes (due' rest other))
-            choice false = refl
-    Ran-put piece.Mark did = absurd did
-    Ran-put piece.End did = record {
-      front = λ rest other. subst (λ (text : List ℕ). BeginsWith (equation (completion taken rest) other) text) (sym (text_same piece.End refl other)) (ran.front rest other);
-      whole = λ fine rest other.
-          ran.whole fine rest other ∙ ap (λ (more : List ℕ). text_of (put other) ++ more) (did.2 rest other)
-          ∙ ap (λ (text : List ℕ). text ++ due' rest other) (sym (text_same piece.End refl other));
-      ended = λ other is_ended rest. choice other (other == port) refl is_ended rest ∙ sym (text_same piece.End refl other);
-    }
-      where
-        choice : (other : ℕ) (here : Bool) → (other == port) ≡ here → has_end (if here then put other ++ piece.End ∷ [] else put other) ≡ true
-            → (rest : ℕ → List ℕ) → equation (completion taken rest) other ≡ text_of (put other)
-        choice other true same is_ended rest =
-            let nothing : due rest other ≡ [] = ap (λ (it : ℕ). due rest it) (eqb-true other port same) ∙ did.1 rest in
-            ran.whole did.0 rest other ∙ ap (λ (more : List ℕ). text_of (put other) ++ more) nothing ∙ append-nil (text_of (put other))
-        choice other false same is_ended rest = ran.ended other is_ended rest
+        nothing : (rest : ℕ → List ℕ) (other : ℕ) (here : Bool) → now.due rest other ≡ (if here then [] ++ now.due rest other else now.due rest other)
+        nothing rest other true = refl
+        nothing rest other false = refl
     Ran-put piece.Broken did = record {
-      front = λ rest other. subst (λ (text : List ℕ). BeginsWith (equation (completion taken rest) other) text) (sym (text_same piece.Broken refl other)) (ran.front rest other);
+      front = λ rest other. subst (λ (text : List ℕ). BeginsWith (equation (completion taken rest) other) text) (sym (text_same other)) (ran.front rest other);
       whole = λ fine. absurd (true≢false (sym did ∙ fine));
       ended = λ other is_ended rest.
           let before = ended_before piece.Broken refl other is_ended in
           ran.ended other before.1 rest ∙ sym (text_elsewhere piece.Broken other before.0);
     }
+      where
+        text_same : (other : ℕ) → text_of (add port piece.Broken put other) ≡ text_of (put other)
+        text_same other = text_of-add port piece.Broken put other ∙ choice (other == port)
+          where
+            choice : (here : Bool) → (if here then text_of (put other) ++ [] else text_of (put other)) ≡ text_of (put other)
+            choice true = append-nil (text_of (put other))
+            choice false = refl
 
 -- what will have been selected, behind a piece that was taken
 pub Selects-take : (equation selects selects' : (ℕ → List ℕ) → Bool) (taken : ℕ → List Piece) (broken broken' : Bool) (port : ℕ) (last : Piece)

@@ -3,8 +3,9 @@ use Rattle.std.specs.Prelude.{ℕ, List, [], ◌∷◌, ◌++◌, Bool, true, fa
 use Rattle.std.specs.List.{list_all, list_any, count_by}
 use Rattle.ps_world.specs.Places.{is_null_path}
 use Rattle.ut_args.specs.Invocations.{words_of}
-use Rattle.fl_graph.specs.Net.{Cell, has, count, takes, gives}
-use Rattle.fl_graph.specs.Kinds.{has_its_ports, is_input, is_output, reads_one_input, has_its_class, runs_a_utility}
+use Rattle.fl_graph.specs.Net.{has, count, takes, gives}
+use Rattle.fl_graph.specs.declared.graphs.Cell.{Cell}
+use Rattle.fl_graph.specs.Kinds.{has_its_ports, is_input, is_output, reads_one_input, has_its_class, runs_what_is_built}
 use Rattle.fl_graph.specs.Makers.{made_by, is_mapped}
 use Rattle.fl_graph.specs.Paths.{paths_read, paths_written, is_among, are_distinct}
 use Rattle.fl_graph.specs.Valid.{names_selector, nodes_named}
@@ -59,7 +60,7 @@ joins_its_maps before cell = may_join cell.kind before cell.ins
 
 -- what a node asks of itself alone
 abbrev pub fits_alone : Cell NodeKind → Bool
-fits_alone cell = has_its_ports cell && (reads_one_input cell.kind && (has_its_class cell.kind && runs_a_utility cell.kind))
+fits_alone cell = has_its_ports cell && (reads_one_input cell.kind && (has_its_class cell.kind && runs_what_is_built cell.kind))
 
 -- standard input and output have one node each at most
 abbrev pub has_one_of_each_end : List (Cell NodeKind) → Bool

@@ -1,12 +1,13 @@
 -- What each kind of node asks of its ports and of its invocation (own).
 use Rattle.std.specs.Prelude.{ℕ, Bool, true, false, ◌&&◌, ◌==◌, nat_le, length}
-use Rattle.ut_args.specs.Invocations.{inputs_of}
+use Rattle.ut_args.specs.Built.{is_built_of}
 use Rattle.ut_args.specs.Classes.{class_of}
+use Rattle.ut_args.specs.Inputs.{inputs_of}
 use Rattle.ut_args.specs.declared.invocations.Inv.{Inv}
 use Rattle.ut_args.specs.declared.invocations.Inv.TheVariants as inv
 use Rattle.ut_args.specs.declared.classes.Class.{Class}
 use Rattle.ut_args.specs.declared.classes.Class.TheVariants as class
-use Rattle.fl_graph.specs.Net.{Cell}
+use Rattle.fl_graph.specs.declared.graphs.Cell.{Cell}
 use Rattle.fl_graph.specs.declared.kinds.NodeKind.{NodeKind}
 use Rattle.fl_graph.specs.declared.kinds.NodeKind.TheVariants as kind
 use Rattle.fl_graph.specs.declared.kinds.From.TheVariants as from
@@ -66,22 +67,18 @@ has_its_class (kind.Agg inv) = has_aggregator (class_of inv)
 has_its_class (kind.Finish inv) = has_aggregator (class_of inv)
 has_its_class other = true
 
--- the command is one of the eleven utilities that run in graphs: cat, cut, grep, head, paste, sort, tail, tee, tr, uniq and wc
-abbrev pub is_utility : Inv → Bool
-is_utility (inv.Cat cat) = true
-is_utility (inv.Grep grep) = true
-is_utility (inv.Wc wc) = true
-
--- a whole is of one of the utilities
-abbrev pub runs_a_utility : NodeKind → Bool
-runs_a_utility (kind.Whole inv) = is_utility inv
-runs_a_utility other = true
+-- what runs an invocation runs one that is built
+abbrev pub runs_what_is_built : NodeKind → Bool
+runs_what_is_built (kind.Map inv) = is_built_of inv
+runs_what_is_built (kind.Whole inv) = is_built_of inv
+runs_what_is_built (kind.Agg inv) = is_built_of inv
+runs_what_is_built (kind.Finish inv) = is_built_of inv
+runs_what_is_built other = true
 
 -- the command is grep
 abbrev pub is_grep : Inv → Bool
-is_grep (inv.Cat cat) = false
 is_grep (inv.Grep grep) = true
-is_grep (inv.Wc wc) = false
+is_grep other = false
 
 -- a map or a whole of grep, which tells whether it has selected a line
 abbrev pub selects_lines : NodeKind → Bool

@@ -1,5 +1,4 @@
 pub mod Net
-pub mod Cells
 pub mod Kinds
 pub mod Makers
 pub mod Paths

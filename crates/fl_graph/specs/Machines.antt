@@ -1,9 +1,32 @@
--- What a machine takes and puts (own), and what that leaves due.
-use Rattle.std.specs.Prelude.{◌≡◌, ℕ, List, [], ◌++◌, Bool, true, false, ◌==◌, if◌then◌else◌}
+-- What a machine is to its callers (own), what it takes and puts, and what that leaves due.
+--
+-- The value of an edge is the list of its bytes and marks, in order. Marks stand on edges that carry numbered blocks alone, so the value of
+-- any other edge is its text.
+use Rattle.std.specs.Prelude.{◌≡◌, ℕ, List, [], ◌∷◌, ◌++◌, Bool, true, false, not, ◌&&◌, ◌==◌, if◌then◌else◌}
 use Rattle.fl_graph.specs.declared.pieces.Piece.{Piece}
 use Rattle.fl_graph.specs.declared.pieces.Piece.TheVariants as piece
 use Rattle.fl_graph.specs.declared.pieces.Act.{Act}
 use Rattle.fl_graph.specs.declared.pieces.Act.TheVariants as act
+
+-- a mark in a value: no byte has this number
+abbrev pub mark : ℕ
+mark = 256
+
+pub record State : Type 0 where
+  -- what it does next
+  pub act : Act
+  -- the ins that haven't been taken to their ends, and the outs that haven't been ended
+  pub takes : ℕ → Bool
+  pub puts : ℕ → Bool
+  -- the ins and the outs that carry numbered blocks
+  pub numbered_ins : ℕ → Bool
+  pub numbered_outs : ℕ → Bool
+  -- a Broken was taken, or memory was refused
+  pub broken : Bool
+  -- what it has still to put on each out, if these values and no others come at its ins
+  pub due : (ℕ → List ℕ) → ℕ → List ℕ
+  -- whether it will have selected a line, if these come
+  pub selects : (ℕ → List ℕ) → Bool
 
 -- nothing follows the piece
 abbrev pub closes : Piece → Bool
@@ -24,14 +47,14 @@ is_mark piece.Mark = true
 is_mark piece.End = false
 is_mark piece.Broken = false
 
--- the text of which this piece is the first, if what follows is the rest
+-- the value of which this piece is the first, if what follows is the rest
 abbrev pub comes_first : Piece → List ℕ → List ℕ
 comes_first (piece.Bytes bytes) rest = bytes ++ rest
-comes_first piece.Mark rest = rest
+comes_first piece.Mark rest = mark ∷ rest
 comes_first piece.End rest = []
 comes_first piece.Broken rest = rest
 
--- the texts of all ports, where the piece comes at this one
+-- the values of all ports, where the piece comes at this one
 abbrev pub comes : ℕ → Piece → (ℕ → List ℕ) → ℕ → List ℕ
 comes port piece rest other = if other == port then comes_first piece (rest other) else rest other
 
@@ -61,16 +84,28 @@ abbrev pub shut_by : Bool → ℕ → (ℕ → Bool) → ℕ → Bool
 shut_by closing port opens other = if closing then (if other == port then false else opens other) else opens other
 
 -- an act at a port that is open, or a stop where none is
-abbrev pub MayDo : (ℕ → Bool) → (ℕ → Bool) → Act → Type 0
-MayDo takes puts (act.Take port) = takes port ≡ true
-MayDo takes puts (act.Put port) = puts port ≡ true
-MayDo takes puts act.Stop = ((port : ℕ) → takes port ≡ false) × ((port : ℕ) → puts port ≡ false)
+abbrev pub MayDo : State → Act → Type 0
+MayDo state (act.Take port) = state.takes port ≡ true
+MayDo state (act.Put port) = state.puts port ≡ true
+MayDo state act.Stop = ((port : ℕ) → state.takes port ≡ false) × ((port : ℕ) → state.puts port ≡ false)
 
--- a piece of bytes was the front of what was due there; an end came where nothing was due; a machine that is broken puts its brokenness alone
-abbrev pub DidPut : ((ℕ → List ℕ) → ℕ → List ℕ) → ((ℕ → List ℕ) → ℕ → List ℕ) → Bool → ℕ → Piece → Type 0
-DidPut was now broken port (piece.Bytes bytes) =
-    (broken ≡ false) × ((texts : ℕ → List ℕ) (other : ℕ) → was texts other ≡ (if other == port then bytes ++ now texts other else now texts other))
-DidPut was now broken port piece.Mark = ⊥
-DidPut was now broken port piece.End =
-    (broken ≡ false) × ((texts : ℕ → List ℕ) → was texts port ≡ []) × ((texts : ℕ → List ℕ) (other : ℕ) → was texts other ≡ now texts other)
-DidPut was now broken port piece.Broken = broken ≡ true
+-- a mark comes at an in that carries no blocks
+abbrev pub is_stray : State → Piece → Bool
+is_stray state piece = is_mark piece && not (state.numbered_ins (port_taken state.act))
+
+-- these bytes or this mark were the front of what was due at a port
+abbrev pub WereDue : ((ℕ → List ℕ) → ℕ → List ℕ) → ((ℕ → List ℕ) → ℕ → List ℕ) → ℕ → List ℕ → Type 0
+WereDue was now port front =
+    (values : ℕ → List ℕ) (other : ℕ) → was values other ≡ (if other == port then front ++ now values other else now values other)
+
+-- nothing was due there
+abbrev pub NoneWasDue : ((ℕ → List ℕ) → ℕ → List ℕ) → ((ℕ → List ℕ) → ℕ → List ℕ) → ℕ → Type 0
+NoneWasDue was now port = ((values : ℕ → List ℕ) → was values port ≡ []) × ((values : ℕ → List ℕ) (other : ℕ) → was values other ≡ now values other)
+
+-- a piece of bytes or a mark was the front of what was due there, the mark at an out that carries blocks; an end came where nothing was due;
+-- a machine that is broken puts its brokenness alone
+abbrev pub DidPut : State → State → ℕ → Piece → Type 0
+DidPut was now port (piece.Bytes bytes) = (was.broken ≡ false) × WereDue was.due now.due port bytes
+DidPut was now port piece.Mark = (was.broken ≡ false) × (was.numbered_outs port ≡ true) × WereDue was.due now.due port (mark ∷ [])
+DidPut was now port piece.End = (was.broken ≡ false) × NoneWasDue was.due now.due port
+DidPut was now port piece.Broken = was.broken ≡ true

@@ -2,13 +2,7 @@
 -- value is or what is told: flow, the makers of edges and the order of nodes are instances.
 use Rattle.std.specs.Prelude.{ℕ, ◌+◌, List, [], ◌∷◌, ◌++◌, Bool, ◌==◌, if◌then◌else◌, length, map}
 use Rattle.std.specs.List.{list_any, flat_map}
-
--- a node: what it does, its ins and outs in order, and its stage
-pub record Cell (Kind : Type 0) : Type 0 where
-  pub kind : Kind
-  pub ins : List ℕ
-  pub outs : List ℕ
-  pub stage : ℕ
+use Rattle.fl_graph.specs.declared.graphs.Cell.{Cell}
 
 -- the edge is in the list
 abbrev pub has : ℕ → List ℕ → Bool

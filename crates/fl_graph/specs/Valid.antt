@@ -2,8 +2,9 @@
 use Rattle.std.specs.Prelude.{◌≡◌, ℕ, ◌<◌, ◌≤◌, List, [], Bool, true, false, length, slice_get}
 use Rattle.std.specs.Option.{option_map_or}
 use Rattle.std.specs.List.{list_all, count_by}
-use Rattle.fl_graph.specs.Net.{Cell, has, count, takes, gives}
-use Rattle.fl_graph.specs.Kinds.{has_its_ports, is_input, is_output, reads_one_input, has_its_class, runs_a_utility, selects_lines}
+use Rattle.fl_graph.specs.Net.{has, count, takes, gives}
+use Rattle.fl_graph.specs.declared.graphs.Cell.{Cell}
+use Rattle.fl_graph.specs.Kinds.{has_its_ports, is_input, is_output, reads_one_input, has_its_class, runs_what_is_built, selects_lines}
 use Rattle.fl_graph.specs.Makers.{leads_on, joins_maps}
 use Rattle.fl_graph.specs.Paths.{paths_read, paths_written, ArePathsApart}
 use Rattle.fl_graph.specs.declared.kinds.NodeKind.{NodeKind}
@@ -29,7 +30,7 @@ pub record HasOneOfEachEnd (cells : List (Cell NodeKind)) : Type 0 where
 -- the nodes that a status rule names
 abbrev pub nodes_named : StatusRule → List ℕ
 nodes_named (status.Fixed code) = []
-nodes_named (status.Selected nodes some none) = nodes.items
+nodes_named (status.Selected nodes some none) = nodes
 
 -- the number is that of a node which tells whether it has selected a line
 abbrev pub names_selector : List (Cell NodeKind) → ℕ → Bool
@@ -44,8 +45,8 @@ pub record Valid (cells : List (Cell NodeKind)) (status : StatusRule) : Type 0 w
   pub inputs : list_all (λ cell. reads_one_input cell.kind) cells ≡ true
   -- each map, each aggregate and each finish is of a class that has it
   pub classes : list_all (λ cell. has_its_class cell.kind) cells ≡ true
-  -- each whole is of one of the utilities
-  pub utilities : list_all (λ cell. runs_a_utility cell.kind) cells ≡ true
+  -- each map, whole, aggregate and finish is of an invocation that is built
+  pub built : list_all (λ cell. runs_what_is_built cell.kind) cells ≡ true
   -- aggregates and finishes join maps of their own words
   pub maps : joins_maps cells ≡ true
   pub paths : ArePathsApart (paths_read cells) (paths_written cells)

@@ -1,7 +1,6 @@
 //! Edges: each leads from one node to one later node.
 ghost use Rattle.std.specs.Prelude.{◌≡◌, ◌≤◌, ◌+◌, [], length, min};
 ghost use Rattle.std.specs.List.{list_all};
-ghost use Rattle.fl_graph.specs.Cells.{cell, cells};
 ghost use Rattle.fl_graph.specs.Checks.{each_after, gives_below, has_edges as has_edges_lem, has_single_edges as has_single_edges_lem, is_below as is_below_lem, is_single as is_single_lem, takes_given as takes_given_lem};
 ghost use Rattle.fl_graph.specs.Net.{count, gives, has, takes};
 
@@ -9,14 +8,14 @@ use crate::graphs::Node;
 
 /// Whether each edge leads from one node to one later node, and the edges are numbered from 0.
 pub fn has_edges(nodes: &[Node]) -> bool
-    ensures { result ≡ has_edges_lem (cells nodes.now) }
+    ensures { result ≡ has_edges_lem nodes.now }
 {
     are_all_single(nodes) && are_all_below(nodes) && lead_on(nodes)
 }
 
 /// Whether each edge is given once and taken once.
 fn are_all_single(nodes: &[Node]) -> bool
-    ensures { result ≡ list_all (has_single_edges_lem (cells nodes.now)) (cells nodes.now) }
+    ensures { result ≡ list_all (has_single_edges_lem nodes.now) nodes.now }
 {
     for node in nodes {
         if !has_single_edges(nodes, node) {
@@ -28,14 +27,14 @@ fn are_all_single(nodes: &[Node]) -> bool
 
 /// Whether each edge of a node is given once and taken once.
 fn has_single_edges(nodes: &[Node], node: &Node) -> bool
-    ensures { result ≡ has_single_edges_lem (cells nodes.now) (cell node.now) }
+    ensures { result ≡ has_single_edges_lem nodes.now node.now }
 {
     are_single(nodes, node.ins.as_slice()) && are_single(nodes, node.outs.as_slice())
 }
 
 /// Whether each of these edges is given once and taken once.
 fn are_single(nodes: &[Node], edges: &[u32]) -> bool
-    ensures { result ≡ list_all (is_single_lem (cells nodes.now)) edges.now }
+    ensures { result ≡ list_all (is_single_lem nodes.now) edges.now }
 {
     for edge in edges {
         if !is_single(nodes, *edge) {
@@ -47,14 +46,14 @@ fn are_single(nodes: &[Node], edges: &[u32]) -> bool
 
 /// Whether the edge is given once and taken once.
 fn is_single(nodes: &[Node], edge: u32) -> bool
-    ensures { result ≡ is_single_lem (cells nodes.now) edge }
+    ensures { result ≡ is_single_lem nodes.now edge }
 {
     times_given(nodes, edge) == 1 && times_taken(nodes, edge) == 1
 }
 
 /// How often the edge is given, counted up to two.
 fn times_given(nodes: &[Node], edge: u32) -> u8
-    ensures { result ≡ min 2 (count edge (gives (cells nodes.now))) }
+    ensures { result ≡ min 2 (count edge (gives nodes.now)) }
 {
     let mut times = 0;
     for node in nodes {
@@ -65,7 +64,7 @@ fn times_given(nodes: &[Node], edge: u32) -> u8
 
 /// How often the edge is taken, counted up to two.
 fn times_taken(nodes: &[Node], edge: u32) -> u8
-    ensures { result ≡ min 2 (count edge (takes (cells nodes.now))) }
+    ensures { result ≡ min 2 (count edge (takes nodes.now)) }
 {
     let mut times = 0;
     for node in nodes {
@@ -88,7 +87,7 @@ fn times_in(edges: &[u32], edge: u32, before: u8) -> u8
 
 /// Whether the edges' numbers are below the number of edges.
 fn are_all_below(nodes: &[Node]) -> bool
-    ensures { result ≡ list_all (gives_below (cells nodes.now)) (cells nodes.now) }
+    ensures { result ≡ list_all (gives_below nodes.now) nodes.now }
 {
     for node in nodes {
         if !are_below(nodes, node.outs.as_slice()) {
@@ -100,7 +99,7 @@ fn are_all_below(nodes: &[Node]) -> bool
 
 /// Whether the numbers of these edges are.
 fn are_below(nodes: &[Node], edges: &[u32]) -> bool
-    ensures { result ≡ list_all (is_below_lem (cells nodes.now)) edges.now }
+    ensures { result ≡ list_all (is_below_lem nodes.now) edges.now }
 {
     for edge in edges {
         if !is_below(nodes, *edge) {
@@ -112,7 +111,7 @@ fn are_below(nodes: &[Node], edges: &[u32]) -> bool
 
 /// Whether the edge's number is below the number of outs. No sum of lengths can be too large for this.
 fn is_below(nodes: &[Node], edge: u32) -> bool
-    ensures { result ≡ is_below_lem (cells nodes.now) edge }
+    ensures { result ≡ is_below_lem nodes.now edge }
 {
     let mut left = edge as usize;
     for node in nodes {
@@ -126,7 +125,7 @@ fn is_below(nodes: &[Node], edge: u32) -> bool
 
 /// Whether each edge is taken behind the node that gives it.
 fn lead_on(nodes: &[Node]) -> bool
-    ensures { result ≡ each_after takes_given_lem [] (cells nodes.now) }
+    ensures { result ≡ each_after takes_given_lem [] nodes.now }
 {
     for place in 0..nodes.len() {
         if !takes_given(&nodes[..place], &nodes[place]) {
@@ -138,9 +137,9 @@ fn lead_on(nodes: &[Node]) -> bool
 
 /// Whether the node takes edges alone that earlier ones give.
 fn takes_given(earlier: &[Node], node: &Node) -> bool
-    ensures { result ≡ takes_given_lem (cells earlier.now) (cell node.now) }
+    ensures { result ≡ takes_given_lem earlier.now node.now }
 {
-    for edge in &node.ins {
+    for edge in node.ins.as_slice() {
         if !is_given(earlier, *edge) {
             return false;
         }
@@ -150,10 +149,10 @@ fn takes_given(earlier: &[Node], node: &Node) -> bool
 
 /// Whether one of the nodes gives the edge.
 fn is_given(nodes: &[Node], edge: u32) -> bool
-    ensures { result ≡ has edge (gives (cells nodes.now)) }
+    ensures { result ≡ has edge (gives nodes.now) }
 {
     for node in nodes {
-        if node.outs.contains(&edge) {
+        if node.outs.as_slice().contains(&edge) {
             return true;
         }
     }

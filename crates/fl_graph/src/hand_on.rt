@@ -4,7 +4,7 @@ ghost use Rattle.std.specs.Prelude.{◌≡◌, true, false, is_some};
 use crate::laws::{a_run_begins, a_stop_ends_a_run};
 use crate::machines::Machine;
 use crate::pieces::{Act, Bytes, Piece};
-use crate::runs::{put_piece, take_piece};
+use crate::runs::{break_machine, put_piece, take_piece};
 use ps_lines::Memory;
 use std::alloc::Global;
 use std::test::Fail;
@@ -16,10 +16,6 @@ pub struct HandOn {
     taking: bool,
     putting: bool,
     broken: bool,
-    ghost holds: { broken ≡ true → is_some held ≡ false },
-    ghost ends: { putting ≡ false → is_some held ≡ false },
-    ghost last: { putting ≡ false → taking ≡ false },
-    ghost breaks: { broken ≡ true → taking ≡ false },
 }
 
 impl HandOn {
@@ -27,7 +23,7 @@ impl HandOn {
 
     /// The machine before its first piece.
     pub fn new() -> HandOn
-        ensures { ⟦<HandOn as Machine>⟧.broken result ≡ false }
+        ensures { (⟦<HandOn as Machine>⟧.state result).broken ≡ false }
     {
         HandOn {
             held: None,
@@ -39,26 +35,26 @@ impl HandOn {
 }
 
 impl Machine for HandOn {
-    ghost use Rattle.std.specs.Prelude.{[], ◌++◌, ◌==◌, if◌then◌else◌};
+    ghost use Rattle.std.specs.Prelude.{[], ◌++◌, ◌==◌, ◌&&◌, ◌||◌, if◌then◌else◌};
     ghost use Rattle.std.specs.Option.{option_map_or};
     ghost use Rattle.fl_graph.specs.declared.pieces.Act.TheVariants.{Take, Put, Stop};
 
-    ghost act = { λ machine.
-        if is_some machine.held then Put 0 else if machine.taking then Take 0 else if machine.putting then Put 0 else Stop };
-
-    ghost takes = { λ machine port. if port == 0 then machine.taking else false };
-
-    ghost puts = { λ machine port. if port == 0 then machine.putting else false };
-
-    ghost broken = { λ machine. machine.broken };
-
-    ghost due = { λ machine texts port.
-        if port == 0 then option_map_or (λ bytes. bytes) machine.held [] ++ (if machine.taking then texts port else []) else [] };
-
-    ghost selects = { λ machine texts. false };
+    ghost state = { λ machine. record {
+      act =
+          if machine.putting && (machine.broken || is_some machine.held) then Put 0 else
+          if machine.taking then Take 0 else if machine.putting then Put 0 else Stop;
+      takes = λ port. if port == 0 then machine.taking else false;
+      puts = λ port. if port == 0 then machine.putting else false;
+      numbered_ins = λ port. false;
+      numbered_outs = λ port. false;
+      broken = machine.broken;
+      due = λ values port.
+          if port == 0 then option_map_or (λ bytes. bytes) machine.held [] ++ (if machine.taking then values port else []) else [];
+      selects = λ values. false;
+    } };
 
     fn next(&self) -> Act {
-        if self.held.is_some() {
+        if self.putting && (self.broken || self.held.is_some()) {
             return Act::Put(0);
         }
         if self.taking {
@@ -69,7 +65,11 @@ impl Machine for HandOn {
 
     fn take(&mut self, piece: Piece) -> Result<(), Memory> {
         match piece {
-            Piece::Bytes(bytes) => self.held = Some(bytes),
+            Piece::Bytes(bytes) => {
+                if !self.broken {
+                    self.held = Some(bytes);
+                }
+            }
             Piece::Mark => {}
             Piece::End => self.taking = false,
             Piece::Broken => {
@@ -81,15 +81,19 @@ impl Machine for HandOn {
     }
 
     fn put(&mut self) -> Result<Piece, Memory> {
+        if self.broken {
+            self.putting = false;
+            return Ok(Piece::Broken);
+        }
         if let Some(bytes) = self.held.take() {
             return Ok(Piece::Bytes(bytes));
         }
         self.putting = false;
-        if self.broken {
-            Ok(Piece::Broken)
-        } else {
-            Ok(Piece::End)
-        }
+        Ok(Piece::End)
+    }
+
+    fn break_off(&mut self) {
+        self.broken = true;
     }
 
     fn selected(&self) -> bool {
@@ -134,13 +138,16 @@ fn show(piece: &Piece, text: &mut Vec<u8>) -> Result<(), Memory> {
     Ok(())
 }
 
-/// What a machine puts for these pieces, the last of them first.
-fn put_for(alloc: Global, input: Vec<Piece>) -> Result<Vec<u8>, Memory> {
+/// What a machine puts for these pieces, the last of them first, where it is broken off behind so many acts.
+fn put_for(alloc: Global, input: Vec<Piece>, whole_for: u32) -> Result<Vec<u8>, Memory> {
     let mut machine = HandOn::new();
     a_run_begins(&machine);
     let mut left = input;
     let mut output = Vec::new(alloc);
-    for _ in 0..12 {
+    for acts in 0..12 {
+        if acts == whole_for {
+            break_machine(&mut machine);
+        }
         if !step(&mut machine, &mut left, &mut output)? {
             break;
         }
@@ -164,7 +171,7 @@ fn a_text_is_handed_on_to_its_end(rt: HostRuntime) -> Result<(), Fail> {
         Piece::Bytes(Bytes::new(vec![in alloc; b'a', b'b']?)),
     ]?;
     assert_eq!(rt;
-        put_for(alloc, whole)?.as_slice(),
+        put_for(alloc, whole, 12)?.as_slice(),
         b"abc.#".as_slice(),
         "whole"
     );
@@ -173,15 +180,25 @@ fn a_text_is_handed_on_to_its_end(rt: HostRuntime) -> Result<(), Fail> {
         Piece::Bytes(Bytes::new(vec![in alloc; b'a']?)),
     ]?;
     assert_eq!(rt;
-        put_for(alloc, broken)?.as_slice(),
+        put_for(alloc, broken, 12)?.as_slice(),
         b"a!#".as_slice(),
         "broken"
     );
     let waiting = vec![in alloc; Piece::Bytes(Bytes::new(vec![in alloc; b'a']?))]?;
     assert_eq!(rt;
-        put_for(alloc, waiting)?.as_slice(),
+        put_for(alloc, waiting, 12)?.as_slice(),
         b"a".as_slice(),
         "waiting"
+    );
+    let broken_off = vec![in alloc;
+        Piece::End,
+        Piece::Bytes(Bytes::new(vec![in alloc; b'c']?)),
+        Piece::Bytes(Bytes::new(vec![in alloc; b'a', b'b']?)),
+    ]?;
+    assert_eq!(rt;
+        put_for(alloc, broken_off, 3)?.as_slice(),
+        b"ab!#".as_slice(),
+        "broken off"
     );
     Ok(())
 }

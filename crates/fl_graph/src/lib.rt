@@ -19,14 +19,16 @@ mod paths;
 mod pieces;
 mod ports;
 mod runs;
+mod seqs;
 mod status;
 #[cfg(test)]
 mod tests;
 mod validity;
 
-pub use graphs::{Graph, Node, StatusRule};
+pub use graphs::{Cell, Graph, Node, StatusRule};
 pub use kinds::{From, NodeKind, To};
 pub use machines::Machine;
-pub use pieces::{Act, Bytes, MAX_PIECE, Piece};
-pub use runs::{put_piece, take_piece};
+pub use pieces::{Act, Bytes, MAX_PIECE, Piece, first_piece};
+pub use runs::{break_machine, put_piece, take_piece};
+pub use seqs::Seq;
 pub use validity::validate;

@@ -1,7 +1,6 @@
 //! The maps that aggregates and finishes join.
 ghost use Rattle.std.specs.Prelude.{◌≡◌, ◌≤◌, [], false, if◌then◌else◌, length};
 ghost use Rattle.ut_args.specs.Invocations.{words_of};
-ghost use Rattle.fl_graph.specs.Cells.{cell, cells};
 ghost use Rattle.fl_graph.specs.Checks.{are_mapped as are_mapped_lem, comes_mapped, each_after, joins_its_maps as joins_its_maps_lem};
 ghost use Rattle.fl_graph.specs.Makers.{is_mapped as is_mapped_lem, made_by, same_words};
 ghost use Rattle.fl_graph.specs.Net.{has};
@@ -12,7 +11,7 @@ use ut_args::Inv;
 
 /// Whether the ins of each aggregate and of each finish come from maps or aggregates of the same words.
 pub fn joins_maps(nodes: &[Node]) -> bool
-    ensures { result ≡ each_after joins_its_maps_lem [] (cells nodes.now) }
+    ensures { result ≡ each_after joins_its_maps_lem [] nodes.now }
 {
     for place in 0..nodes.len() {
         if !joins_its_maps(&nodes[..place], &nodes[place]) {
@@ -24,7 +23,7 @@ pub fn joins_maps(nodes: &[Node]) -> bool
 
 /// Whether the node's ins do, if it joins maps.
 fn joins_its_maps(earlier: &[Node], node: &Node) -> bool
-    ensures { result ≡ joins_its_maps_lem (cells earlier.now) (cell node.now) }
+    ensures { result ≡ joins_its_maps_lem earlier.now node.now }
 {
     match &node.kind {
         NodeKind::Agg(inv) | NodeKind::Finish(inv) => are_mapped(earlier, node.ins.as_slice(), inv),
@@ -34,7 +33,7 @@ fn joins_its_maps(earlier: &[Node], node: &Node) -> bool
 
 /// Whether these edges come from maps or aggregates of the invocation.
 fn are_mapped(earlier: &[Node], edges: &[u32], inv: &Inv) -> bool
-    ensures { result ≡ are_mapped_lem (words_of inv.now) (cells earlier.now) edges.now }
+    ensures { result ≡ are_mapped_lem (words_of inv.now) earlier.now edges.now }
 {
     for edge in edges {
         if !is_mapped(earlier, *edge, inv) {
@@ -46,7 +45,7 @@ fn are_mapped(earlier: &[Node], edges: &[u32], inv: &Inv) -> bool
 
 /// Whether the edge comes from a map or an aggregate of the invocation.
 fn is_mapped(earlier: &[Node], edge: u32, inv: &Inv) -> bool
-    ensures { result ≡ comes_mapped (words_of inv.now) edge false (cells earlier.now) }
+    ensures { result ≡ comes_mapped (words_of inv.now) edge false earlier.now }
 {
     let mut mapped = false;
     for node in earlier {
@@ -57,9 +56,9 @@ fn is_mapped(earlier: &[Node], edge: u32, inv: &Inv) -> bool
 
 /// Whether the edge comes from a map or an aggregate of the invocation, where `before` says so of the nodes before this one.
 fn is_mapped_behind(node: &Node, edge: u32, inv: &Inv, before: bool) -> bool
-    ensures { result ≡ (if has edge node.now.outs.items then is_mapped_lem (words_of inv.now) (made_by node.now.kind) else before) }
+    ensures { result ≡ (if has edge node.now.outs then is_mapped_lem (words_of inv.now) (made_by node.now.kind) else before) }
 {
-    if node.outs.contains(&edge) {
+    if node.outs.as_slice().contains(&edge) {
         maps(&node.kind, inv)
     } else {
         before

@@ -3,7 +3,6 @@ ghost use Rattle.std.specs.Prelude.{◌≡◌, not};
 ghost use Rattle.std.specs.List.{list_any};
 ghost use Rattle.std.specs.Option.{option_copied};
 ghost use Rattle.ps_world.specs.Places.{is_null_path};
-ghost use Rattle.fl_graph.specs.Cells.{cells};
 ghost use Rattle.fl_graph.specs.Checks.{has_paths_apart as has_paths_apart_lem};
 ghost use Rattle.fl_graph.specs.Paths.{are_distinct as are_distinct_lem, is_among, path_read as path_read_lem, path_written as path_written_lem, paths_read, paths_written};
 
@@ -13,14 +12,14 @@ use ps_world::Path;
 
 /// Whether no file is both read and written, none is written twice, and none is the null device.
 pub fn has_paths_apart(nodes: &[Node]) -> bool
-    ensures { result ≡ has_paths_apart_lem (cells nodes.now) }
+    ensures { result ≡ has_paths_apart_lem nodes.now }
 {
     !read_null(nodes) && !write_null(nodes) && !write_what_is_read(nodes) && are_distinct(nodes)
 }
 
 /// Whether a node reads the null device as a file.
 fn read_null(nodes: &[Node]) -> bool
-    ensures { result ≡ list_any is_null_path (paths_read (cells nodes.now)) }
+    ensures { result ≡ list_any is_null_path (paths_read nodes.now) }
 {
     for node in nodes {
         if let Some(path) = path_read(&node.kind) {
@@ -34,7 +33,7 @@ fn read_null(nodes: &[Node]) -> bool
 
 /// Whether a node writes the null device as a file.
 fn write_null(nodes: &[Node]) -> bool
-    ensures { result ≡ list_any is_null_path (paths_written (cells nodes.now)) }
+    ensures { result ≡ list_any is_null_path (paths_written nodes.now) }
 {
     for node in nodes {
         if let Some(path) = path_written(&node.kind) {
@@ -48,7 +47,7 @@ fn write_null(nodes: &[Node]) -> bool
 
 /// Whether a file is both read and written.
 fn write_what_is_read(nodes: &[Node]) -> bool
-    ensures { result ≡ list_any (is_among (paths_read (cells nodes.now))) (paths_written (cells nodes.now)) }
+    ensures { result ≡ list_any (is_among (paths_read nodes.now)) (paths_written nodes.now) }
 {
     for node in nodes {
         if let Some(path) = path_written(&node.kind) {
@@ -62,7 +61,7 @@ fn write_what_is_read(nodes: &[Node]) -> bool
 
 /// Whether no file is written twice.
 fn are_distinct(nodes: &[Node]) -> bool
-    ensures { result ≡ are_distinct_lem (paths_written (cells nodes.now)) }
+    ensures { result ≡ are_distinct_lem (paths_written nodes.now) }
 {
     let mut left = nodes;
     while let [node, rest @ ..] = left {
@@ -78,7 +77,7 @@ fn are_distinct(nodes: &[Node]) -> bool
 
 /// Whether one of the nodes reads the file.
 fn is_read(nodes: &[Node], path: &Path) -> bool
-    ensures { result ≡ is_among (paths_read (cells nodes.now)) path.now }
+    ensures { result ≡ is_among (paths_read nodes.now) path.now }
 {
     for node in nodes {
         if let Some(other) = path_read(&node.kind) {
@@ -92,7 +91,7 @@ fn is_read(nodes: &[Node], path: &Path) -> bool
 
 /// Whether one of the nodes writes the file.
 fn is_written(nodes: &[Node], path: &Path) -> bool
-    ensures { result ≡ is_among (paths_written (cells nodes.now)) path.now }
+    ensures { result ≡ is_among (paths_written nodes.now) path.now }
 {
     for node in nodes {
         if let Some(other) = path_written(&node.kind) {

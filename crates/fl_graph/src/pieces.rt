@@ -1,4 +1,9 @@
 //! What comes along an edge.
+ghost use Rattle.std.specs.Prelude.{◌≡◌, ◌<◌, length, min, take, IfOk};
+ghost use Rattle.fl_graph.specs.declared.pieces.TheConstants.{MAX_PIECE};
+
+use ps_lines::Memory;
+use std::alloc::Global;
 use std::marker::Model;
 
 /// The most bytes that a piece has.
@@ -44,12 +49,21 @@ impl Bytes {
     }
 }
 
+/// A piece of the front of these bytes, as long as a piece can be.
+pub fn first_piece(alloc: Global, waiting: &[u8]) -> Result<Bytes, Memory>
+    requires { 0 < length waiting.now }
+    ensures { IfOk result (λ bytes. bytes ≡ take (min (length waiting.now) MAX_PIECE) waiting.now) }
+{
+    let bytes = Vec::from_slice(alloc, &waiting[..waiting.len().min(MAX_PIECE)])?;
+    Ok(Bytes::new(bytes))
+}
+
 /// What is put on an edge at once. A text comes in pieces of bytes, cut anywhere, and is ended by one `End` or `Broken`.
 #[derive(Debug, Drop)]
 pub enum Piece {
     /// Bytes of the text.
     Bytes(Bytes),
-    /// The end of a block. It comes on edges that carry numbered blocks alone, and no node gives such edges yet.
+    /// The end of a block. It comes on edges that carry numbered blocks alone, and no node has such edges yet.
     Mark,
     /// The text is whole. Nothing follows.
     End,

@@ -2,17 +2,16 @@
 ghost use Rattle.std.specs.Prelude.{◌≡◌, ◌+◌, ◌≤◌, length, min};
 ghost use Rattle.std.specs.List.{list_all, count_by};
 ghost use Rattle.ut_args.specs.Classes.{class_of};
-ghost use Rattle.fl_graph.specs.Cells.{cell, cells};
 ghost use Rattle.fl_graph.specs.Checks.{fits_alone as fits_alone_lem, has_one_of_each_end as has_one_of_each_end_lem};
-ghost use Rattle.fl_graph.specs.Kinds.{has_aggregator as has_aggregator_lem, has_its_class as has_its_class_lem, has_its_ports as has_its_ports_lem, has_map as has_map_lem, is_input as is_input_lem, is_output as is_output_lem, is_utility as is_utility_lem, reads_one_input as reads_one_input_lem, runs_a_utility as runs_a_utility_lem};
+ghost use Rattle.fl_graph.specs.Kinds.{has_aggregator as has_aggregator_lem, has_its_class as has_its_class_lem, has_its_ports as has_its_ports_lem, has_map as has_map_lem, is_input as is_input_lem, is_output as is_output_lem, reads_one_input as reads_one_input_lem, runs_what_is_built as runs_what_is_built_lem};
 
 use crate::graphs::Node;
 use crate::kinds::{From, NodeKind, To};
-use ut_args::{Class, Inv, class};
+use ut_args::{Class, class, is_built};
 
-/// Whether each node has the ports, the inputs and the class that its kind asks for.
+/// Whether each node has the ports, the inputs and the class that its kind asks for, and runs what is built.
 pub fn fit_alone(nodes: &[Node]) -> bool
-    ensures { result ≡ list_all fits_alone_lem (cells nodes.now) }
+    ensures { result ≡ list_all fits_alone_lem nodes.now }
 {
     for node in nodes {
         if !fits_alone(node) {
@@ -23,17 +22,17 @@ pub fn fit_alone(nodes: &[Node]) -> bool
 }
 
 fn fits_alone(node: &Node) -> bool
-    ensures { result ≡ fits_alone_lem (cell node.now) }
+    ensures { result ≡ fits_alone_lem node.now }
 {
     has_its_ports(node)
         && reads_one_input(&node.kind)
         && has_its_class(&node.kind)
-        && runs_a_utility(&node.kind)
+        && runs_what_is_built(&node.kind)
 }
 
 /// Whether the node has as many ins and outs as its kind has.
 fn has_its_ports(node: &Node) -> bool
-    ensures { result ≡ has_its_ports_lem (cell node.now) }
+    ensures { result ≡ has_its_ports_lem node.now }
 {
     let (ins, outs) = (node.ins.len(), node.outs.len());
     match &node.kind {
@@ -88,35 +87,27 @@ fn has_aggregator(class: Class) -> bool
     }
 }
 
-/// Whether it is no whole, or one of a utility that runs in graphs.
-fn runs_a_utility(kind: &NodeKind) -> bool
-    ensures { result ≡ runs_a_utility_lem kind.now }
+/// Whether it runs no invocation, or one that is built.
+fn runs_what_is_built(kind: &NodeKind) -> bool
+    ensures { result ≡ runs_what_is_built_lem kind.now }
 {
     match kind {
-        NodeKind::Whole(inv) => is_utility(inv),
+        NodeKind::Map(inv) | NodeKind::Whole(inv) => is_built(inv),
+        NodeKind::Agg(inv) | NodeKind::Finish(inv) => is_built(inv),
         _ => true,
-    }
-}
-
-/// Whether the command is one of the utilities that run in graphs.
-fn is_utility(inv: &Inv) -> bool
-    ensures { result ≡ is_utility_lem inv.now }
-{
-    match inv {
-        Inv::Cat(_) | Inv::Grep(_) | Inv::Wc(_) => true,
     }
 }
 
 /// Whether standard input is read by one node at most, and standard output written by one at most.
 pub fn has_one_of_each_end(nodes: &[Node]) -> bool
-    ensures { result ≡ has_one_of_each_end_lem (cells nodes.now) }
+    ensures { result ≡ has_one_of_each_end_lem nodes.now }
 {
     inputs(nodes) <= 1 && outputs(nodes) <= 1
 }
 
 /// How many nodes read standard input, counted up to two.
 fn inputs(nodes: &[Node]) -> u8
-    ensures { result ≡ min 2 (count_by (λ cell. is_input_lem cell.kind) (cells nodes.now)) }
+    ensures { result ≡ min 2 (count_by (λ cell. is_input_lem cell.kind) nodes.now) }
 {
     let mut inputs = 0;
     for node in nodes {
@@ -127,7 +118,7 @@ fn inputs(nodes: &[Node]) -> u8
 
 /// How many nodes write standard output, counted up to two.
 fn outputs(nodes: &[Node]) -> u8
-    ensures { result ≡ min 2 (count_by (λ cell. is_output_lem cell.kind) (cells nodes.now)) }
+    ensures { result ≡ min 2 (count_by (λ cell. is_output_lem cell.kind) nodes.now) }
 {
     let mut outputs = 0;
     for node in nodes {

@@ -1,7 +1,6 @@
 //! The nodes that a status rule names.
 ghost use Rattle.std.specs.Prelude.{◌≡◌};
 ghost use Rattle.std.specs.List.{list_all};
-ghost use Rattle.fl_graph.specs.Cells.{cells};
 ghost use Rattle.fl_graph.specs.Kinds.{is_grep as is_grep_lem, selects_lines as selects_lines_lem};
 ghost use Rattle.fl_graph.specs.Valid.{names_selector as names_selector_lem, nodes_named};
 
@@ -11,7 +10,7 @@ use ut_args::Inv;
 
 /// Whether the status names maps and wholes of grep alone.
 pub fn names_selectors(nodes: &[Node], status: &StatusRule) -> bool
-    ensures { result ≡ list_all (names_selector_lem (cells nodes.now)) (nodes_named status.now) }
+    ensures { result ≡ list_all (names_selector_lem nodes.now) (nodes_named status.now) }
 {
     match status {
         StatusRule::Fixed(_) => true,
@@ -21,7 +20,7 @@ pub fn names_selectors(nodes: &[Node], status: &StatusRule) -> bool
 
 /// Whether these are the numbers of maps and wholes of grep.
 fn are_selectors(nodes: &[Node], named: &[u32]) -> bool
-    ensures { result ≡ list_all (names_selector_lem (cells nodes.now)) named.now }
+    ensures { result ≡ list_all (names_selector_lem nodes.now) named.now }
 {
     for node in named {
         if !names_selector(nodes, *node) {
@@ -33,7 +32,7 @@ fn are_selectors(nodes: &[Node], named: &[u32]) -> bool
 
 /// Whether this is the number of a map or a whole of grep.
 fn names_selector(nodes: &[Node], node: u32) -> bool
-    ensures { result ≡ names_selector_lem (cells nodes.now) node }
+    ensures { result ≡ names_selector_lem nodes.now node }
 {
     match nodes.get(node as usize) {
         Some(node) => selects_lines(&node.kind),
@@ -55,8 +54,5 @@ fn selects_lines(kind: &NodeKind) -> bool
 fn is_grep(inv: &Inv) -> bool
     ensures { result ≡ is_grep_lem inv.now }
 {
-    match inv {
-        Inv::Grep(_) => true,
-        Inv::Cat(_) | Inv::Wc(_) => false,
-    }
+    matches!(inv, Inv::Grep(_))
 }

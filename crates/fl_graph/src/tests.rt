@@ -3,13 +3,13 @@
 //! A graph is written as its nodes, parted by bars, each as its kind, its ins and its outs; a node's edges are digits, and a hyphen
 //! is none.
 use crate::laws::each_number_is_an_edge;
-use crate::{From, Graph, Node, NodeKind, StatusRule, To, validate};
+use crate::{From, Graph, Node, NodeKind, Seq, StatusRule, To, validate};
 use ps_lines::{Memory, Text};
 use ps_world::{Mode, Path};
 use std::alloc::{AllocError, Global};
 use std::process::Abort;
 use std::test::Fail;
-use ut_args::{ArgFault, Inv, is_known, read_inv};
+use ut_args::{ArgFault, Inv, read_inv};
 
 /// The parts of a text between these bytes.
 fn parts(alloc: Global, text: &[u8], between: u8) -> Result<Vec<Vec<u8>>, AllocError> {
@@ -34,12 +34,13 @@ fn numbers(alloc: Global, text: &[u8]) -> Result<Vec<u32>, AllocError> {
 /// The invocation whose words are parted by commas.
 fn invocation(alloc: Global, text: &[u8]) -> Result<Option<Inv>, Memory> {
     let words = parts(alloc, text, b',')?;
-    if !is_known(words.as_slice()) {
+    if words.is_empty() {
         return Ok(None);
     }
     match read_inv(alloc, words.as_slice()) {
         Ok(inv) => Ok(Some(inv)),
         Err(ArgFault::Memory) => Err(Memory),
+        Err(_) => Ok(None),
     }
 }
 
@@ -128,8 +129,8 @@ fn node(alloc: Global, text: &[u8]) -> Result<Option<Node>, Memory> {
             match kind(alloc, name.as_slice())? {
                 Some(kind) => Ok(Some(Node {
                     kind,
-                    ins,
-                    outs,
+                    ins: Seq::from_vec(ins),
+                    outs: Seq::from_vec(outs),
                     stage: 0,
                 })),
                 None => Ok(None),
@@ -153,12 +154,15 @@ fn graph(alloc: Global, text: &str, names: &str) -> Result<Option<Graph>, Memory
         StatusRule::Fixed(0)
     } else {
         StatusRule::Selected {
-            nodes: named,
+            nodes: Seq::from_vec(named),
             some: 0,
             none: 1,
         }
     };
-    Ok(Some(Graph { nodes, status }))
+    Ok(Some(Graph {
+        nodes: Seq::from_vec(nodes),
+        status,
+    }))
 }
 
 /// Whether each graph of a table, with the nodes that its status names, is valid or not.
@@ -297,6 +301,21 @@ fn invocations_read_one_input_and_have_their_class(rt: HostRuntime) -> Result<()
             "-",
         ),
         ("input - 0|map=cat 0 1|finish=cat 1 2|output 2 -", "-"),
+    ];
+    expect_all(&rt, rt.alloc(), &cases, false)
+}
+
+#[test]
+fn invocations_are_built(rt: HostRuntime) -> Result<(), Fail> {
+    let cases = [
+        ("input - 0|whole=wc,-w 0 1|output 1 -", "-"),
+        ("input - 0|whole=grep,w 0 1|output 1 -", "-"),
+        ("input - 0|map=tail 0 1|output 1 -", "-"),
+        ("text - 0|drain 0 -|whole=echo - 1|output 1 -", "-"),
+        (
+            "input - 0|split 0 12|map=wc,-w 1 3|map=wc,-w 2 4|agg=wc,-w 34 5|output 5 -",
+            "-",
+        ),
     ];
     expect_all(&rt, rt.alloc(), &cases, false)
 }

@@ -1,6 +1,5 @@
 //! Valid graphs.
 ghost use Rattle.std.specs.Prelude.{◌≡◌, true};
-ghost use Rattle.fl_graph.specs.Cells.{cells};
 ghost use Rattle.fl_graph.specs.Checks.{is_valid as is_valid_lem};
 ghost use Rattle.fl_graph.specs.Valid.{Valid};
 
@@ -18,7 +17,7 @@ use crate::status::names_selectors;
 /// - At most one node reads standard input, and at most one writes standard output.
 /// - Maps and aggregates are of invocations that read one input.
 /// - Maps are of a class that has one (S or P), and aggregates and finishes are of class P.
-/// - Wholes are of the utilities that run in graphs.
+/// - Maps, wholes, aggregates and finishes are of invocations that are built.
 /// - The ins of an aggregate and of a finish come from maps or aggregates of the same words.
 /// - No file is both read and written, none is written twice, and none is `/dev/null`.
 /// - The status names maps and wholes of grep.
@@ -26,15 +25,15 @@ use crate::status::names_selectors;
 /// Takes no memory. Its time is at most quadratic in the number of nodes and edges.
 #[tactic(auto, using(crate::proofs::CheckLemmas::valid_if, crate::proofs::CheckLemmas::only_if_valid))]
 pub fn validate(graph: &Graph) -> bool
-    ensures yes { result ≡ true → Valid (cells graph.now.nodes.items) graph.now.status }
-    ensures no { Valid (cells graph.now.nodes.items) graph.now.status → result ≡ true }
+    ensures yes { result ≡ true → Valid graph.now.nodes graph.now.status }
+    ensures no { Valid graph.now.nodes graph.now.status → result ≡ true }
 {
     is_valid(graph.nodes.as_slice(), &graph.status)
 }
 
 /// Whether nodes and a status rule are those of a valid graph.
 fn is_valid(nodes: &[Node], status: &StatusRule) -> bool
-    ensures { result ≡ is_valid_lem (cells nodes.now) status.now }
+    ensures { result ≡ is_valid_lem nodes.now status.now }
 {
     has_edges(nodes)
         && fit_alone(nodes)

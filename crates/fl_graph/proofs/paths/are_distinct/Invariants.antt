@@ -1,10 +1,9 @@
 use Rattle.std.proofs.Common.{◌≡◌, length}
-use Rattle.fl_graph.specs.Cells.{cells}
 use Rattle.fl_graph.specs.Paths.{are_distinct, paths_written}
 use Rattle.fl_graph.proofs.paths.are_distinct.Given as goal
 
 abbrev pub invariant-loop-left : goal.invariant-loop-left
-invariant-loop-left l = are_distinct (paths_written (cells l.left)) ≡ are_distinct (paths_written (cells l.initial.left))
+invariant-loop-left l = are_distinct (paths_written l.left) ≡ are_distinct (paths_written l.initial.left)
 
 abbrev pub decreases-loop-left : goal.decreases-loop-left
 decreases-loop-left l = length l.left

@@ -1,7 +1,6 @@
 use Rattle.std.proofs.Common.{◌≡◌, drop}
-use Rattle.fl_graph.specs.Cells.{cells}
 use Rattle.fl_graph.specs.Paths.{is_among, paths_written}
 use Rattle.fl_graph.proofs.paths.is_written.Given as goal
 
 abbrev pub invariant-loop-node : goal.invariant-loop-node
-invariant-loop-node l = is_among (paths_written (cells (drop l.node-index l.nodes))) l.path ≡ is_among (paths_written (cells l.nodes)) l.path
+invariant-loop-node l = is_among (paths_written (drop l.node-index l.nodes)) l.path ≡ is_among (paths_written l.nodes) l.path

@@ -2,22 +2,24 @@
 use Rattle.std.proofs.Common.{◌≡◌, ℕ, ◌+◌, ◌-◌, ◌||◌, Bool, true, false, List, [], ◌∷◌, ◌++◌, length, take, decimal, if◌then◌else◌, refl, ap, sym, ◌∙◌, append-nil, length-append, arith}
 use Rattle.std.specs.List.{list_any}
 use Rattle.std.specs.Option.{unwrap_or}
+use Rattle.std.proofs.lemmas.Bool.{cond-true}
 use Rattle.std.proofs.Math.Seq.{take-append_seam}
 use Rattle.std.proofs.lemmas.Grind.{flat_map-append}
 use Rattle.std.proofs.lemmas.List.Folds.{list_any-append}
 use Rattle.ps_lines.specs.Lines.{lines, is_closed, is_cutlist}
 use Rattle.ps_lines.specs.Numbers.{number_of}
 use Rattle.ps_lines.proofs.LineLemmas.{lines_of_cut, is_closed-push}
-use Rattle.ut_args.specs.Commands.{pattern_of}
+use Rattle.ut_args.specs.Built.{is_built_grep, is_built_wc}
 use Rattle.ut_args.specs.declared.invocations.CatInv.{CatInv}
 use Rattle.ut_args.specs.declared.invocations.GrepInv.{GrepInv}
 use Rattle.ut_args.specs.declared.invocations.WcInv.{WcInv}
 use Rattle.ut_args.specs.declared.invocations.Inv.TheVariants as inv
-use Rattle.ut_grep.specs.Fixed.{kept, has_part, selected_lines, has_selected, selected_of}
+use Rattle.ut_grep.specs.Fixed.{kept, has_part, selected_lines, has_selected, selected_of, pattern_of}
 use Rattle.std.proofs.lemmas.List.Sums.{sum_by-append}
 use Rattle.ps_lines.proofs.NumberLemmas.{number_of-decimal}
 use Rattle.ut_groups.specs.Counting.{newlines, saturated, count_line, line_count}
-use Rattle.fl_classes.specs.Aggregates.{count_on}
+use Rattle.fl_classes.specs.Utilities.{selects_of}
+use Rattle.fl_classes.specs.Aggregates.{count_on, map_of, joined_maps}
 use Rattle.fl_classes.specs.Laws.{IsStatelessInBytes, IsStatelessInLines, IsParallel, KeepsClosed}
 
 -- one input is joined to itself
@@ -36,19 +38,29 @@ has_selected-cut : (pattern front back : List ℕ) → is_cutlist (front ∷ bac
     → has_selected pattern (front ++ back) ≡ (has_selected pattern front || has_selected pattern back)
 has_selected-cut pattern front back cut = ap (list_any (has_part pattern)) (lines_of_cut front back cut) ∙ list_any-append (has_part pattern) (lines front) (lines back)
 
-pub grep-lines : (grep : GrepInv) → IsStatelessInLines (inv.Grep grep)
-grep-lines grep =
-    let pattern = pattern_of grep.words in
-    record {
-      output = λ front back cut.
-          ap (selected_lines pattern) (append-nil (front ++ back)) ∙ selected-cut pattern front back cut
-          ∙ ap (λ text. selected_lines pattern text ++ selected_lines pattern back) (sym (append-nil front))
-          ∙ ap (λ text. selected_lines pattern (front ++ []) ++ selected_lines pattern text) (sym (append-nil back));
-      selects = λ front back cut.
-          ap (has_selected pattern) (append-nil (front ++ back)) ∙ has_selected-cut pattern front back cut
-          ∙ ap (λ text. has_selected pattern text || has_selected pattern back) (sym (append-nil front))
-          ∙ ap (λ text. has_selected pattern (front ++ []) || has_selected pattern text) (sym (append-nil back));
-    }
+-- the maps of grep and of wc, where they are built
+module _ (grep : GrepInv) (built : is_built_grep grep.args ≡ true) where
+  pub grep-map : (text : List ℕ) → map_of (inv.Grep grep) text ≡ selected_lines (pattern_of grep.args.patterns) text
+  grep-map text = cond-true (is_built_grep grep.args) (selected_lines (pattern_of grep.args.patterns) (text ++ [])) [] built ∙ ap (selected_lines (pattern_of grep.args.patterns)) (append-nil text)
+
+  pub grep-selects : (text : List ℕ) → selects_of (inv.Grep grep) (text ∷ []) ≡ has_selected (pattern_of grep.args.patterns) text
+  grep-selects text = cond-true (is_built_grep grep.args) (has_selected (pattern_of grep.args.patterns) (text ++ [])) false built ∙ ap (has_selected (pattern_of grep.args.patterns)) (append-nil text)
+
+  pub grep-lines : IsStatelessInLines (inv.Grep grep)
+  grep-lines =
+      let pattern = pattern_of grep.args.patterns in
+      record {
+        output = λ front back cut.
+            grep-map (front ++ back) ∙ selected-cut pattern front back cut
+            ∙ ap (λ text. text ++ selected_lines pattern back) (sym (grep-map front)) ∙ ap (λ text. map_of (inv.Grep grep) front ++ text) (sym (grep-map back));
+        selects = λ front back cut.
+            grep-selects (front ++ back) ∙ has_selected-cut pattern front back cut
+            ∙ ap (λ selects. selects || has_selected pattern back) (sym (grep-selects front))
+            ∙ ap (λ selects. selects_of (inv.Grep grep) (front ∷ []) || selects) (sym (grep-selects back));
+      }
+
+pub wc-map : (wc : WcInv) → is_built_wc wc.args ≡ true → (text : List ℕ) → map_of (inv.Wc wc) text ≡ line_count text
+wc-map wc built text = cond-true (is_built_wc wc.args) (line_count (text ++ [])) [] built ∙ ap line_count (append-nil text)
 
 -- what is written of lines is closed
 pub closed-append : (front back : List ℕ) → is_closed front ≡ true → is_closed back ≡ true → is_closed (front ++ back) ≡ true
@@ -68,8 +80,11 @@ selected-closed : (pattern : List ℕ) (texts : List (List ℕ)) → is_closed (
 selected-closed pattern [] = refl
 selected-closed pattern (line ∷ texts) = closed-append (kept pattern line) (selected_of pattern texts) (kept-closed pattern line) (selected-closed pattern texts)
 
-pub grep-closed : (grep : GrepInv) → KeepsClosed (inv.Grep grep)
-grep-closed grep = record { closed = λ text closed. selected-closed (pattern_of grep.words) (lines (text ++ [])); none = refl }
+pub grep-closed : (grep : GrepInv) → is_built_grep grep.args ≡ true → KeepsClosed (inv.Grep grep)
+grep-closed grep built = record {
+  closed = λ text closed. ap is_closed (grep-map grep built text) ∙ selected-closed (pattern_of grep.args.patterns) (lines text);
+  none = grep-map grep built [];
+}
 
 -- a count is read back from its line
 first-bytes : (text : List ℕ) (byte : ℕ) → take (length (text ++ byte ∷ []) - 1) (text ++ byte ∷ []) ≡ text
@@ -91,13 +106,18 @@ line_count-joins front back =
     ∙ ap (λ first. count_line (first + saturated (newlines back))) (sym (count_on-line (newlines front)))
     ∙ ap (λ second. count_line (count_on (line_count front) + second)) (sym (count_on-line (newlines back)))
 
-pub wc-parallel : (wc : WcInv) → IsParallel (inv.Wc wc)
-wc-parallel wc =
+pub wc-joins : (wc : WcInv) → is_built_wc wc.args ≡ true → (first second : List ℕ) → joined_maps (inv.Wc wc) first second ≡ count_line (count_on first + count_on second)
+wc-joins wc built first second = cond-true (is_built_wc wc.args) (count_line (count_on first + count_on second)) (first ++ second) built
+
+pub wc-parallel : (wc : WcInv) → is_built_wc wc.args ≡ true → IsParallel (inv.Wc wc)
+wc-parallel wc built =
+    let counts = wc-map wc built in
     record {
       joins = λ front back cut.
-          ap line_count (append-nil (front ++ back)) ∙ line_count-joins front back
-          ∙ ap (λ front. count_line (count_on (line_count front) + count_on (line_count back))) (sym (append-nil front))
-          ∙ ap (λ back. count_line (count_on (line_count (front ++ [])) + count_on (line_count back))) (sym (append-nil back));
+          counts (front ++ back) ∙ line_count-joins front back
+          ∙ ap (λ first. count_line (count_on first + count_on (line_count back))) (sym (counts front))
+          ∙ ap (λ second. count_line (count_on (map_of (inv.Wc wc) front) + count_on second)) (sym (counts back))
+          ∙ sym (wc-joins wc built (map_of (inv.Wc wc) front) (map_of (inv.Wc wc) back));
       ends = λ text. refl;
     }
 

@@ -5,8 +5,8 @@ use Rattle.std.specs.List.{concat, flat_map, list_any}
 use Rattle.ps_lines.specs.Lines.{closing}
 use Rattle.ps_world.specs.Paths.{Components}
 use Rattle.ps_world.specs.declared.tree.Mode.{Mode}
-use Rattle.fl_graph.specs.Net.{Cell, after, run}
-use Rattle.fl_graph.specs.Cells.{cells}
+use Rattle.fl_graph.specs.Net.{after, run}
+use Rattle.fl_graph.specs.declared.graphs.Cell.{Cell}
 use Rattle.fl_graph.specs.declared.graphs.Graph.{Graph}
 use Rattle.fl_graph.specs.declared.graphs.StatusRule.{StatusRule}
 use Rattle.fl_graph.specs.declared.graphs.StatusRule.TheVariants as status
@@ -105,7 +105,7 @@ selections nodes sources = run (equation sources) (λ node ins. selects node.1 i
 
 abbrev pub status_by : StatusRule → List Bool → ℕ
 status_by (status.Fixed code) selected = code
-status_by (status.Selected nodes some none) selected = if list_any (λ node. get_or selected node false) nodes.items then some else none
+status_by (status.Selected nodes some none) selected = if list_any (λ node. get_or selected node false) nodes then some else none
 
 -- what a graph leaves: the text at the output, the text for each file in the order of the nodes, and the status
 pub record Outcome : Type 0 where
@@ -116,9 +116,9 @@ pub record Outcome : Type 0 where
 abbrev pub outcome : Graph → List (List ℕ) → Outcome
 outcome graph sources =
     record {
-      output = flat_map to_output (writes (cells graph.nodes.items) sources);
-      files = flat_map to_file (writes (cells graph.nodes.items) sources);
-      status = status_by graph.status (selections (cells graph.nodes.items) sources);
+      output = flat_map to_output (writes graph.nodes sources);
+      files = flat_map to_file (writes graph.nodes sources);
+      status = status_by graph.status (selections graph.nodes sources);
     }
 
 -- the texts meet each node's equation

@@ -4,11 +4,11 @@
 ghost use Rattle.std.specs.Prelude.{◌≡◌, ◌<◌, ◌∷◌, [], ℕ, List, length, map, true};
 ghost use Rattle.std.specs.List.{concat};
 ghost use Rattle.ps_lines.specs.Lines.{is_cutlist};
+ghost use Rattle.ut_args.specs.Built.{is_built_grep, is_built_wc};
 ghost use Rattle.ut_args.specs.declared.invocations.Inv.TheVariants as inv;
 ghost use Rattle.ut_args.specs.declared.invocations.CatInv.{CatInv};
 ghost use Rattle.ut_args.specs.declared.invocations.GrepInv.{GrepInv};
 ghost use Rattle.ut_args.specs.declared.invocations.WcInv.{WcInv};
-ghost use Rattle.fl_graph.specs.Cells.{cells};
 ghost use Rattle.fl_graph.specs.Net.{gives};
 ghost use Rattle.fl_graph.specs.Valid.{Valid};
 ghost use Rattle.fl_classes.specs.Flow.{flow, placed, Solves};
@@ -25,15 +25,15 @@ pub fn cat_is_stateless_in_bytes()
     ensures closed { (cat : CatInv) → KeepsClosed (inv.Cat cat) }
 {}
 
-/// `grep` of one input that writes lines may be cut at the ends of lines.
+/// `grep` of one input that writes lines may be cut at the ends of lines, where it is built.
 pub fn grep_is_stateless_in_lines()
-    ensures output { (grep : GrepInv) → IsStatelessInLines (inv.Grep grep) }
-    ensures closed { (grep : GrepInv) → KeepsClosed (inv.Grep grep) }
+    ensures output { (grep : GrepInv) → is_built_grep grep.args ≡ true → IsStatelessInLines (inv.Grep grep) }
+    ensures closed { (grep : GrepInv) → is_built_grep grep.args ≡ true → KeepsClosed (inv.Grep grep) }
 {}
 
-/// The counts of `wc` are the sums of those of the parts.
+/// The counts of `wc` are the sums of those of the parts, where it is built.
 pub fn wc_is_parallel()
-    ensures { (wc : WcInv) → IsParallel (inv.Wc wc) }
+    ensures { (wc : WcInv) → is_built_wc wc.args ≡ true → IsParallel (inv.Wc wc) }
 {}
 
 /// What a class says of two texts it says of any list that is cut at ends of lines: the maps of its texts are that of the whole, joined
@@ -55,7 +55,7 @@ pub fn parts_cut_the_text_at_ends_of_lines()
 
 /// The flow of a valid graph is the only assignment of texts to its edges that meets the equation of each node.
 pub fn every_solution_is_the_flow(graph: &Graph)
-    requires { Valid (cells graph.now.nodes.items) graph.now.status }
-    ensures { (sources : List (List ℕ)) (texts : ℕ → List ℕ) → Solves sources (placed (cells graph.now.nodes.items)) texts →
-        (edge : ℕ) → edge < length (gives (cells graph.now.nodes.items)) → flow (cells graph.now.nodes.items) sources edge ≡ texts edge }
+    requires { Valid graph.now.nodes graph.now.status }
+    ensures { (sources : List (List ℕ)) (texts : ℕ → List ℕ) → Solves sources (placed graph.now.nodes) texts →
+        (edge : ℕ) → edge < length (gives graph.now.nodes) → flow graph.now.nodes sources edge ≡ texts edge }
 {}

@@ -2,10 +2,9 @@
 use Rattle.std.proofs.Common.{◌≡◌, ℕ, zero, suc, ◌+◌, ◌-◌, ◌<◌, ◌≤◌, ◌==◌, ◌&&◌, ◌||◌, not, nat_lt, List, [], ◌∷◌, ◌++◌, Bool, true, false, length, take, drop, min, if◌then◌else◌, get_or, refl, ap, sym, ◌∙◌, append_assoc, append-nil, ⊎_elim, arith}
 use Rattle.std.proofs.lemmas.Bool.{cases_lt, eq-eqb, ne_eqb, eqb-true, lt-ltb, le-ltb, true≢false}
 use Rattle.std.proofs.lemmas.List.{take-append-drop, drop-take, drop-drop, length-take}
-use Rattle.fl_graph.specs.Machines.{DidPut, is_put, port_put}
+use Rattle.fl_graph.specs.Machines.{NoneWasDue, WereDue, is_put, port_put}
 use Rattle.fl_graph.specs.declared.pieces.Act.{Act}
 use Rattle.fl_graph.specs.declared.pieces.Act.TheVariants as act
-use Rattle.fl_graph.specs.declared.pieces.Piece.TheVariants as piece
 use Rattle.fl_classes.specs.Parts.{part_end, slice, parts_of}
 use Rattle.fl_classes.proofs.PartLemmas.{slice-none}
 use Rattle.fl_joints.specs.Joints.{parts_left}
@@ -116,7 +115,7 @@ due_of taking text parts part given end texts other =
 
 pub put-piece : (text shown bytes : List ℕ) (parts part given given' end most : ℕ) (some broken taking : Bool) → is_put (act_of some broken taking part) ≡ true → broken ≡ false
     → given ≤ end → given' ≡ given + length bytes → shown ≡ text → bytes ≡ take (min (length (slice shown given end)) most) (slice shown given end)
-    → DidPut (due_of taking text parts part given end) (due_of taking text parts part given' end) broken (port_put (act_of some broken taking part)) (piece.Bytes bytes)
+    → (broken ≡ false) × WereDue (due_of taking text parts part given end) (due_of taking text parts part given' end) (port_put (act_of some broken taking part)) bytes
 put-piece text shown bytes parts part given given' end most true false false turn whole within next same front = (
   refl,
   λ texts other. parts_left-piece text bytes parts part given given' end most other within next
@@ -130,12 +129,14 @@ put-piece text shown bytes parts part given given' end most false false true tur
 pub put-end : (text shown : List ℕ) (parts part given end end' : ℕ) (some broken taking : Bool) → is_put (act_of some broken taking part) ≡ true → broken ≡ false
     → given ≡ end → (some ≡ true → part < parts) → (taking ≡ false → broken ≡ false → part < parts → end ≡ part_end text parts (part + 1)) → shown ≡ text
     → (part + 1 < parts → end' ≡ part_end shown parts (part + 1 + 1)) → (parts ≤ part + 1 → end' ≡ end)
-    → DidPut (due_of taking text parts part given end) (due_of taking text parts (part + 1) given end') broken (port_put (act_of some broken taking part)) piece.End
+    → (broken ≡ false) × NoneWasDue (due_of taking text parts part given end) (due_of taking text parts (part + 1) given end') (port_put (act_of some broken taking part))
 put-end text shown parts part given end end' true false false turn whole done low placed same more last = (
   refl,
-  λ texts. parts_left-none text parts part given end done,
-  λ texts other. parts_left-next text parts part (part + 1) given end end' other done refl (low refl) (placed refl refl (low refl))
-      (λ few. more few ∙ ap (λ text. part_end text parts (part + 1 + 1)) same) last,
+  (
+    λ texts. parts_left-none text parts part given end done,
+    λ texts other. parts_left-next text parts part (part + 1) given end end' other done refl (low refl) (placed refl refl (low refl))
+        (λ few. more few ∙ ap (λ text. part_end text parts (part + 1 + 1)) same) last,
+  ),
 )
 put-end text shown parts part given end end' some true taking turn whole done low placed same more last = absurd (true≢false whole)
 put-end text shown parts part given end end' false false false turn whole done low placed same more last = absurd (true≢false (sym turn))

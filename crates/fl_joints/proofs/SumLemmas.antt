@@ -6,6 +6,7 @@ use Rattle.std.specs.Option.{unwrap_or}
 use Rattle.std.proofs.lemmas.List.{length-take-le}
 use Rattle.std.proofs.lemmas.Fmt.{length-decimal-le, decimal_nonempty}
 use Rattle.ps_lines.proofs.NumberLemmas.{number_of-long}
+use Rattle.ut_args.specs.Built.{is_built_wc}
 use Rattle.ut_args.specs.declared.invocations.WcInv.{WcInv}
 use Rattle.ut_args.specs.declared.invocations.Inv.TheVariants as inv
 use Rattle.ut_groups.specs.Counting.{count_line, saturated}
@@ -14,7 +15,7 @@ use Rattle.fl_graph.specs.declared.pieces.Piece.{Piece}
 use Rattle.fl_graph.specs.declared.pieces.Piece.TheVariants as piece
 use Rattle.fl_classes.specs.Aggregates.{count_on, aggregate_of, aggregate_from}
 use Rattle.fl_classes.specs.Nodes.{texts_at}
-use Rattle.fl_classes.proofs.ClassLemmas.{count_on-line}
+use Rattle.fl_classes.proofs.ClassLemmas.{count_on-line, wc-joins}
 use Rattle.fl_joints.specs.Joints.{counts_from}
 use Rattle.fl_joints.proofs.JoinLemmas.{comes-there, comes-elsewhere, get_or-one}
 
@@ -112,23 +113,25 @@ count_line-is count fits = let same : count ≡ saturated count = omega arith in
 pub ruleset lines = (count_line-fits, count_line-is, decimal_nonempty, length-append)
 
 -- the aggregate is the sum of the counts
-aggregate-counts : (wc : WcInv) (texts : ℕ → List ℕ) (sum from count : ℕ)
+aggregate-counts : (wc : WcInv) → is_built_wc wc.args ≡ true → (texts : ℕ → List ℕ) (sum from count : ℕ)
     → aggregate_from (inv.Wc wc) (count_line sum) (map texts (range_with_len from count)) ≡ count_line (sum + counts_from [] texts from count)
-aggregate-counts wc texts sum from zero = ap count_line (omega arith)
-aggregate-counts wc texts sum from (suc count) =
-    aggregate-counts wc texts (count_on (count_line sum) + count_on (texts from)) (from + 1) count
+aggregate-counts wc built texts sum from zero = ap count_line (omega arith)
+aggregate-counts wc built texts sum from (suc count) =
+    ap (λ first. aggregate_from (inv.Wc wc) first (map texts (range_with_len (from + 1) count))) (wc-joins wc built (count_line sum) (texts from))
+    ∙ aggregate-counts wc built texts (count_on (count_line sum) + count_on (texts from)) (from + 1) count
     ∙ ap (λ first. count_line ((first + count_on (texts from)) + counts_from [] texts (from + 1) count)) (count_on-line sum)
     ∙ ap (λ count. decimal count ++ 10 ∷ []) (omega arith)
 
-pub counts-given : (wc : WcInv) (texts : ℕ → List ℕ) (come : List ℕ) (sum at ins port : ℕ) → 2 ≤ ins → come ≡ [] → sum ≡ 0 → at ≡ 0
+pub counts-given : (wc : WcInv) → is_built_wc wc.args ≡ true → (texts : ℕ → List ℕ) (come : List ℕ) (sum at ins port : ℕ) → 2 ≤ ins → come ≡ [] → sum ≡ 0 → at ≡ 0
     → (if port == 0 then count_line (sum + counts_from come texts at (ins - at)) else []) ≡ get_or (aggregate_of (inv.Wc wc) (texts_at ins texts) ∷ []) port []
-counts-given wc texts come sum at zero port some _ _ _ = absurd (omega arith)
-counts-given wc texts come sum at (suc zero) port some _ _ _ = absurd (omega arith)
-counts-given wc texts come sum at (suc (suc ins)) port some none nothing first =
+counts-given wc built texts come sum at zero port some _ _ _ = absurd (omega arith)
+counts-given wc built texts come sum at (suc zero) port some _ _ _ = absurd (omega arith)
+counts-given wc built texts come sum at (suc (suc ins)) port some none nothing first =
     let all : suc (suc ins) - 0 ≡ suc (suc ins) = omega arith in
     ap (λ sum. if port == 0 then count_line (sum + counts_from come texts at (suc (suc ins) - at)) else []) nothing
     ∙ ap (λ come. if port == 0 then count_line (0 + counts_from come texts at (suc (suc ins) - at)) else []) none
     ∙ ap (λ at. if port == 0 then count_line (0 + counts_from [] texts at (suc (suc ins) - at)) else []) first
     ∙ ap (λ count. if port == 0 then count_line (0 + counts_from [] texts 0 count) else []) all
-    ∙ ap (λ text. if port == 0 then text else []) (ap (λ count. decimal count ++ 10 ∷ []) (omega arith) ∙ sym (aggregate-counts wc texts (count_on (texts 0) + count_on (texts (0 + 1))) ((0 + 1) + 1) ins))
+    ∙ ap (λ text. if port == 0 then text else []) (ap (λ count. decimal count ++ 10 ∷ []) (omega arith) ∙ sym (aggregate-counts wc built texts (count_on (texts 0) + count_on (texts (0 + 1))) ((0 + 1) + 1) ins)
+    ∙ sym (ap (λ first. aggregate_from (inv.Wc wc) first (map texts (range_with_len ((0 + 1) + 1) ins))) (wc-joins wc built (texts 0) (texts (0 + 1)))))
     ∙ sym (get_or-one (aggregate_of (inv.Wc wc) (texts_at (suc (suc ins)) texts)) port)

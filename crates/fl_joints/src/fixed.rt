@@ -1,8 +1,7 @@
 //! A node whose out doesn't depend on its in.
 ghost use Rattle.std.specs.Prelude.{◌≡◌, ◌≤◌, ℕ, List, [], true, false, length, IfOk};
 
-use crate::fronts::first_piece;
-use fl_graph::{Act, Machine, Piece};
+use fl_graph::{Act, Machine, Piece, first_piece};
 use ps_lines::{Memory, Text};
 use std::alloc::Global;
 
@@ -62,17 +61,16 @@ impl Machine for Fixed {
     ghost use Rattle.std.specs.Prelude.{◌==◌, drop, if◌then◌else◌};
     ghost use Rattle.fl_graph.specs.declared.pieces.Act.TheVariants.{Put, Stop, Take};
 
-    ghost act = { λ machine. if machine.putting then Put 0 else if machine.taking then Take 0 else Stop };
-
-    ghost takes = { λ machine port. if port == 0 then machine.taking else false };
-
-    ghost puts = { λ machine port. if port == 0 then machine.putting else false };
-
-    ghost broken = { λ machine. machine.broken };
-
-    ghost due = { λ machine texts port. if port == 0 then (if machine.putting then drop machine.given machine.text else []) else [] };
-
-    ghost selects = { λ machine texts. false };
+    ghost state = { λ machine. record {
+      act = if machine.putting then Put 0 else if machine.taking then Take 0 else Stop;
+      takes = λ port. if port == 0 then machine.taking else false;
+      puts = λ port. if port == 0 then machine.putting else false;
+      numbered_ins = λ port. false;
+      numbered_outs = λ port. false;
+      broken = machine.broken;
+      due = λ texts port. if port == 0 then (if machine.putting then drop machine.given machine.text else []) else [];
+      selects = λ texts. false;
+    } };
 
     fn next(&self) -> Act {
         if self.putting {
@@ -114,6 +112,10 @@ impl Machine for Fixed {
                 Err(memory)
             }
         }
+    }
+
+    fn break_off(&mut self) {
+        self.broken = true;
     }
 
     fn selected(&self) -> bool {

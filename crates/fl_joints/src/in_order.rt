@@ -1,8 +1,7 @@
 //! A node that joins its inputs in order.
 ghost use Rattle.std.specs.Prelude.{◌≡◌, ◌≤◌, ◌<◌, ◌-◌, ◌&&◌, ℕ, List, [], None, true, false, is_some, nat_lt};
 
-use crate::fronts::first_piece;
-use fl_graph::{Act, Bytes, Machine, Piece};
+use fl_graph::{Act, Bytes, Machine, Piece, first_piece};
 use ps_lines::{Memory, NEWLINE, is_closed};
 use std::alloc::Global;
 
@@ -65,21 +64,20 @@ impl Machine for InOrder {
     ghost use Rattle.fl_graph.specs.declared.pieces.Act.TheVariants.{Take, Put, Stop};
     ghost use Rattle.fl_joints.specs.Joints.{joined_by};
 
-    ghost act = { λ machine.
-        if machine.putting && (machine.broken || is_some machine.held) then Put 0
-        else if nat_lt machine.at machine.ins then Take machine.at
-        else if machine.putting then Put 0 else Stop };
-
-    ghost takes = { λ machine port. nat_le machine.at port && nat_lt port machine.ins };
-
-    ghost puts = { λ machine port. if port == 0 then machine.putting else false };
-
-    ghost broken = { λ machine. machine.broken };
-
-    ghost due = { λ machine texts port.
-        if port == 0 then option_map_or (λ bytes. bytes) machine.held [] ++ joined_by machine.close machine.within_line texts machine.at (machine.ins - machine.at) else [] };
-
-    ghost selects = { λ machine texts. false };
+    ghost state = { λ machine. record {
+      act =
+          if machine.putting && (machine.broken || is_some machine.held) then Put 0
+          else if nat_lt machine.at machine.ins then Take machine.at
+          else if machine.putting then Put 0 else Stop;
+      takes = λ port. nat_le machine.at port && nat_lt port machine.ins;
+      puts = λ port. if port == 0 then machine.putting else false;
+      numbered_ins = λ port. false;
+      numbered_outs = λ port. false;
+      broken = machine.broken;
+      due = λ texts port.
+          if port == 0 then option_map_or (λ bytes. bytes) machine.held [] ++ joined_by machine.close machine.within_line texts machine.at (machine.ins - machine.at) else [];
+      selects = λ texts. false;
+    } };
 
     fn next(&self) -> Act {
         if self.putting && (self.broken || self.held.is_some()) {
@@ -138,6 +136,11 @@ impl Machine for InOrder {
         } else {
             Ok(Piece::End)
         }
+    }
+
+    fn break_off(&mut self) {
+        self.held = None;
+        self.broken = true;
     }
 
     fn selected(&self) -> bool {

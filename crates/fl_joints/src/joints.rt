@@ -23,46 +23,11 @@ pub enum Joint {
 impl Machine for Joint {
     ghost use Rattle.fl_joints.specs.declared.joints.Joint.TheVariants as variant;
 
-    ghost act = { λ joint. elim joint [
-      | variant.InOrder machine ↦ ⟦<InOrder as Machine>⟧.act machine
-      | variant.Fixed machine ↦ ⟦<Fixed as Machine>⟧.act machine
-      | variant.CountSum machine ↦ ⟦<CountSum as Machine>⟧.act machine
-      | variant.Split machine ↦ ⟦<Split as Machine>⟧.act machine
-    ] };
-
-    ghost takes = { λ joint port. elim joint [
-      | variant.InOrder machine ↦ ⟦<InOrder as Machine>⟧.takes machine port
-      | variant.Fixed machine ↦ ⟦<Fixed as Machine>⟧.takes machine port
-      | variant.CountSum machine ↦ ⟦<CountSum as Machine>⟧.takes machine port
-      | variant.Split machine ↦ ⟦<Split as Machine>⟧.takes machine port
-    ] };
-
-    ghost puts = { λ joint port. elim joint [
-      | variant.InOrder machine ↦ ⟦<InOrder as Machine>⟧.puts machine port
-      | variant.Fixed machine ↦ ⟦<Fixed as Machine>⟧.puts machine port
-      | variant.CountSum machine ↦ ⟦<CountSum as Machine>⟧.puts machine port
-      | variant.Split machine ↦ ⟦<Split as Machine>⟧.puts machine port
-    ] };
-
-    ghost broken = { λ joint. elim joint [
-      | variant.InOrder machine ↦ ⟦<InOrder as Machine>⟧.broken machine
-      | variant.Fixed machine ↦ ⟦<Fixed as Machine>⟧.broken machine
-      | variant.CountSum machine ↦ ⟦<CountSum as Machine>⟧.broken machine
-      | variant.Split machine ↦ ⟦<Split as Machine>⟧.broken machine
-    ] };
-
-    ghost due = { λ joint texts port. elim joint [
-      | variant.InOrder machine ↦ ⟦<InOrder as Machine>⟧.due machine texts port
-      | variant.Fixed machine ↦ ⟦<Fixed as Machine>⟧.due machine texts port
-      | variant.CountSum machine ↦ ⟦<CountSum as Machine>⟧.due machine texts port
-      | variant.Split machine ↦ ⟦<Split as Machine>⟧.due machine texts port
-    ] };
-
-    ghost selects = { λ joint texts. elim joint [
-      | variant.InOrder machine ↦ ⟦<InOrder as Machine>⟧.selects machine texts
-      | variant.Fixed machine ↦ ⟦<Fixed as Machine>⟧.selects machine texts
-      | variant.CountSum machine ↦ ⟦<CountSum as Machine>⟧.selects machine texts
-      | variant.Split machine ↦ ⟦<Split as Machine>⟧.selects machine texts
+    ghost state = { λ joint. elim joint [
+      | variant.InOrder machine ↦ ⟦<InOrder as Machine>⟧.state machine
+      | variant.Fixed machine ↦ ⟦<Fixed as Machine>⟧.state machine
+      | variant.CountSum machine ↦ ⟦<CountSum as Machine>⟧.state machine
+      | variant.Split machine ↦ ⟦<Split as Machine>⟧.state machine
     ] };
 
     fn next(&self) -> Act {
@@ -89,6 +54,15 @@ impl Machine for Joint {
             Joint::Fixed(machine) => machine.put(),
             Joint::CountSum(machine) => machine.put(),
             Joint::Split(machine) => machine.put(),
+        }
+    }
+
+    fn break_off(&mut self) {
+        match self {
+            Joint::InOrder(machine) => machine.break_off(),
+            Joint::Fixed(machine) => machine.break_off(),
+            Joint::CountSum(machine) => machine.break_off(),
+            Joint::Split(machine) => machine.break_off(),
         }
     }
 

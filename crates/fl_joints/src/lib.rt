@@ -8,7 +8,6 @@
 #![tactic(auto)]
 
 mod fixed;
-mod fronts;
 mod in_order;
 mod joints;
 mod makers;

@@ -1,6 +1,6 @@
 //! The joint of a node.
 ghost use Rattle.std.specs.Prelude.{◌≡◌, true, IfOk};
-ghost use Rattle.fl_graph.specs.Kinds.{may_have};
+ghost use Rattle.fl_graph.specs.Kinds.{may_have, runs_what_is_built};
 ghost use Rattle.fl_classes.specs.Nodes.{Begins};
 ghost use Rattle.fl_joints.specs.Joints.{is_joint};
 
@@ -21,8 +21,8 @@ use ut_args::Inv;
 pub fn joint(alloc: Global, kind: &NodeKind, ins: u32, outs: u32) -> Result<Joint, Memory>
     requires known { is_joint kind.now ≡ true }
     requires ports { may_have kind.now ins outs ≡ true }
-    ensures { IfOk result (λ joint. Begins kind.now ins outs (⟦<Joint as Machine>⟧.takes joint) (⟦<Joint as Machine>⟧.puts joint)
-        (⟦<Joint as Machine>⟧.broken joint) (⟦<Joint as Machine>⟧.due joint) (⟦<Joint as Machine>⟧.selects joint)) }
+    requires built { runs_what_is_built kind.now ≡ true }
+    ensures { IfOk result (λ joint. Begins kind.now ins outs (⟦<Joint as Machine>⟧.state joint)) }
 {
     match kind {
         NodeKind::Cat { close } => Ok(Joint::InOrder(InOrder::new(alloc, ins, *close))),

@@ -2,8 +2,7 @@
 ghost use Rattle.std.specs.Prelude.{◌≡◌, ◌≤◌, ◌<◌, ◌+◌, ℕ, List, [], true, false, length};
 ghost use Rattle.fl_classes.specs.Parts.{next_end, part_end, share};
 
-use crate::fronts::first_piece;
-use fl_graph::{Act, Machine, Piece};
+use fl_graph::{Act, Machine, Piece, first_piece};
 use ps_lines::{Memory, next_line};
 use std::alloc::Global;
 
@@ -61,21 +60,20 @@ impl Machine for Split {
     ghost use Rattle.fl_classes.specs.Parts.{parts_of};
     ghost use Rattle.fl_joints.specs.Joints.{parts_left};
 
-    ghost act = { λ machine.
-        if nat_lt machine.part machine.outs && (machine.broken || not machine.taking) then Put machine.part
-        else if machine.taking then Take 0 else Stop };
-
-    ghost takes = { λ machine port. if port == 0 then machine.taking else false };
-
-    ghost puts = { λ machine port. nat_le machine.part port && nat_lt port machine.outs };
-
-    ghost broken = { λ machine. machine.broken };
-
-    ghost due = { λ machine texts port.
-        if machine.taking then get_or (parts_of (machine.text.items ++ texts 0) machine.outs) port []
-        else parts_left machine.text.items machine.outs machine.part machine.given machine.end port };
-
-    ghost selects = { λ machine texts. false };
+    ghost state = { λ machine. record {
+      act =
+          if nat_lt machine.part machine.outs && (machine.broken || not machine.taking) then Put machine.part
+          else if machine.taking then Take 0 else Stop;
+      takes = λ port. if port == 0 then machine.taking else false;
+      puts = λ port. nat_le machine.part port && nat_lt port machine.outs;
+      numbered_ins = λ port. false;
+      numbered_outs = λ port. false;
+      broken = machine.broken;
+      due = λ texts port.
+          if machine.taking then get_or (parts_of (machine.text.items ++ texts 0) machine.outs) port []
+          else parts_left machine.text.items machine.outs machine.part machine.given machine.end port;
+      selects = λ texts. false;
+    } };
 
     fn next(&self) -> Act {
         if self.part < self.outs && (self.broken || !self.taking) {
@@ -137,6 +135,10 @@ impl Machine for Split {
                 Err(memory)
             }
         }
+    }
+
+    fn break_off(&mut self) {
+        self.broken = true;
     }
 
     fn selected(&self) -> bool {

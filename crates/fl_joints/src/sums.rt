@@ -59,22 +59,21 @@ impl Machine for CountSum {
     ghost use Rattle.fl_graph.specs.declared.pieces.Act.TheVariants.{Take, Put, Stop};
     ghost use Rattle.fl_joints.specs.Joints.{counts_from};
 
-    ghost act = { λ machine.
-        if machine.putting && machine.broken then Put 0
-        else if nat_lt machine.at machine.ins then Take machine.at
-        else if machine.putting then Put 0 else Stop };
-
-    ghost takes = { λ machine port. nat_le machine.at port && nat_lt port machine.ins };
-
-    ghost puts = { λ machine port. if port == 0 then machine.putting else false };
-
-    ghost broken = { λ machine. machine.broken };
-
-    ghost due = { λ machine texts port.
-        if port == 0 then (if machine.given then [] else
-        count_line (machine.sum + counts_from machine.line.items texts machine.at (machine.ins - machine.at))) else [] };
-
-    ghost selects = { λ machine texts. false };
+    ghost state = { λ machine. record {
+      act =
+          if machine.putting && machine.broken then Put 0
+          else if nat_lt machine.at machine.ins then Take machine.at
+          else if machine.putting then Put 0 else Stop;
+      takes = λ port. nat_le machine.at port && nat_lt port machine.ins;
+      puts = λ port. if port == 0 then machine.putting else false;
+      numbered_ins = λ port. false;
+      numbered_outs = λ port. false;
+      broken = machine.broken;
+      due = λ texts port.
+          if port == 0 then (if machine.given then [] else
+          count_line (machine.sum + counts_from machine.line.items texts machine.at (machine.ins - machine.at))) else [];
+      selects = λ texts. false;
+    } };
 
     fn next(&self) -> Act {
         if self.putting && self.broken {
@@ -132,6 +131,10 @@ impl Machine for CountSum {
                 Err(memory)
             }
         }
+    }
+
+    fn break_off(&mut self) {
+        self.broken = true;
     }
 
     fn selected(&self) -> bool {

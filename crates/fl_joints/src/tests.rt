@@ -3,12 +3,15 @@
 //! What an out has got is shown with a full stop where it was ended, and a bang where it was broken. A number sign says that the joint
 //! has stopped.
 
+ghost use Rattle.std.specs.Prelude.{◌≡◌, true, IfOk, IfSome};
+ghost use Rattle.ut_args.specs.Built.{is_built_of};
+
 use crate::{Joint, joint};
 use fl_graph::{Act, Bytes, MAX_PIECE, Machine, NodeKind, Piece};
 use ps_lines::{Memory, Text};
 use std::alloc::Global;
 use std::test::Fail;
-use ut_args::{Inv, WcInv, is_known, read_inv};
+use ut_args::{ArgFault, Inv, is_built, read_inv};
 use ut_streams::cut_behind;
 
 /// Adds the bytes of a piece to a text, or how it ends.
@@ -206,19 +209,27 @@ fn an_input_alone_stays_as_it_is(rt: HostRuntime) -> Result<(), Fail> {
     Ok(())
 }
 
-/// `wc -l`, if that is a command.
-fn count_lines(alloc: Global) -> Result<Option<WcInv>, Memory> {
+/// `wc -l`, if that is an invocation that is built.
+fn count_lines(alloc: Global) -> Result<Option<Inv>, Memory>
+    ensures { IfOk result (λ read. IfSome read (λ inv. is_built_of inv ≡ true)) }
+{
     let mut words = Vec::new(alloc);
     for word in ["wc", "-l"] {
         words.push(Vec::from_slice(alloc, word.as_bytes())?)?;
     }
-    if !is_known(words.as_slice()) {
+    if words.is_empty() {
         return Ok(None);
     }
-    let Ok(Inv::Wc(inv)) = read_inv(alloc, words.as_slice()) else {
-        return Ok(None);
-    };
-    Ok(Some(inv))
+    match read_inv(alloc, words.as_slice()) {
+        Ok(inv) => {
+            if is_built(&inv) {
+                return Ok(Some(inv));
+            }
+            Ok(None)
+        }
+        Err(ArgFault::Memory) => Err(Memory),
+        Err(_) => Ok(None),
+    }
 }
 
 /// What an aggregate of three counts puts.
@@ -227,7 +238,7 @@ fn sum_of(
     texts: (&[u8], &[u8], &[u8]),
     cuts: u64,
 ) -> Result<Option<Vec<u8>>, Memory> {
-    let Some(inv) = count_lines(alloc)? else {
+    let Some(Inv::Wc(inv)) = count_lines(alloc)? else {
         return Ok(None);
     };
     let sum = joint(alloc, &NodeKind::Agg(Inv::Wc(inv)), 3, 1)?;
@@ -253,12 +264,10 @@ fn counts_are_summed(rt: HostRuntime) -> Result<(), Fail> {
     ] {
         for cuts in 0..8 {
             let texts = (texts.0.as_bytes(), texts.1.as_bytes(), texts.2.as_bytes());
-            let sum = sum_of(alloc, texts, cuts)?;
-            let Some(sum) = sum else {
-                assert!(rt; false, "no invocation");
-                return Ok(());
-            };
-            assert_eq!(rt; sum.as_slice(), wanted.as_bytes(), "at {cuts}");
+            match sum_of(alloc, texts, cuts)? {
+                Some(sum) => assert_eq!(rt; sum.as_slice(), wanted.as_bytes(), "at {cuts}"),
+                None => assert!(rt; false, "no invocation"),
+            }
         }
     }
     Ok(())

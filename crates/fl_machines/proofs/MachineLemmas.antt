@@ -1,4 +1,192 @@
--- Streams in machines.
+-- Streams in machines, and what is due of a machine at its beginning.
+use Rattle.std.proofs.Common.{◌≡◌, ℕ, zero, suc, ◌+◌, ◌-◌, ◌^◌, ◌≤◌, ◌==◌, ◌&&◌, min, nat_lt, List, [], ◌∷◌, ◌++◌, Bool, true, false, if◌then◌else◌, drop, get_or, refl, ap, sym, subst, ◌∙◌, append-nil, arith}
+use Rattle.std.specs.List.{count_by, list_all}
+use Rattle.std.proofs.lemmas.Bool.{true≢false, and_parts, eqb-true, eq-eqb, ltb-true, lt-ltb, false_from_ne_true}
+use Rattle.std.proofs.Math.Dec.{eqb-suc-zero}
+use Rattle.ps_lines.specs.Lines.{is_empty}
 use Rattle.ut_streams.proofs.StreamLemmas.{Wrote-put}
+use Rattle.ut_args.specs.Built.{is_built_of, is_built_grep, is_built_wc, is_one_pattern, is_fixed_syntax, is_of_lines, changes_lines, has_none}
+use Rattle.ut_args.specs.Inputs.{counted, inputs_of, is_named, joined_inputs, separate_inputs}
+use Rattle.ut_args.specs.Utilities.{has_at_most_one}
+use Rattle.ut_args.specs.declared.commands.GrepArgs.{GrepArgs}
+use Rattle.ut_args.specs.declared.commands.WcArgs.{WcArgs}
+use Rattle.ut_args.specs.declared.invocations.Inv.{Inv}
+use Rattle.ut_args.specs.declared.invocations.Inv.TheVariants as inv
+use Rattle.fl_graph.specs.Kinds.{may_have, reads_one_input, runs_what_is_built}
+use Rattle.fl_graph.specs.Machines.{State}
+use Rattle.fl_graph.specs.declared.kinds.NodeKind.{NodeKind}
+use Rattle.fl_graph.specs.declared.kinds.NodeKind.TheVariants as kind
+use Rattle.fl_graph.specs.declared.pieces.Act.{Act}
+use Rattle.fl_graph.proofs.ListLemmas.{same_tests}
+use Rattle.fl_classes.specs.Flow.{selects}
+use Rattle.fl_classes.specs.Nodes.{Begins, given_on, texts_at}
+use Rattle.fl_classes.specs.Utilities.{output_of, selects_of}
+use Rattle.fl_machines.specs.Kinds.{is_utility_node, runs_utility, stream_output, stream_selects}
+use Rattle.fl_machines.specs.Through.{due_through, only_port, selects_through}
 
 pub ruleset copied = (Wrote-put)
+
+-- an invocation that is built reads one input at most
+joined-few : (operands : List (List ℕ)) → joined_inputs operands ≤ 1
+joined-few [] = omega arith
+joined-few (operand ∷ operands) = by_all (list_all is_empty (operand ∷ operands))
+  where
+    by_all : (all : Bool) → (if all then 0 else 1) ≤ 1
+    by_all true = omega arith
+    by_all false = omega arith
+
+separate-few : (operands : List (List ℕ)) → has_at_most_one operands ≡ true → separate_inputs operands ≤ 1
+separate-few [] few = omega arith
+separate-few (operand ∷ []) few = by_name (is_named operand)
+  where
+    by_name : (named : Bool) → counted (0 + (if named then 1 else 0)) ≤ 1
+    by_name true = omega arith
+    by_name false = omega arith
+separate-few (operand ∷ another ∷ others) few = absurd (true≢false (sym few))
+
+none-few : (operands : List (List ℕ)) → has_none operands ≡ true → separate_inputs operands ≤ 1
+none-few [] none = omega arith
+none-few (operand ∷ operands) none = absurd (true≢false (sym none))
+
+grep-few : (args : GrepArgs) → is_built_grep args ≡ true → separate_inputs args.operands ≤ 1
+grep-few args built =
+    let one = and_parts (is_one_pattern args.patterns) _ built in
+    let two = and_parts (is_fixed_syntax args.syntax) _ one.1 in
+    let three = and_parts (is_of_lines args.report) _ two.1 in
+    separate-few args.operands (and_parts _ (has_at_most_one args.operands) three.1).1
+
+wc-few : (args : WcArgs) → is_built_wc args ≡ true → separate_inputs args.operands ≤ 1
+wc-few args built =
+    let one = and_parts args.lines _ built in
+    let two = and_parts _ _ one.1 in
+    none-few args.operands (and_parts _ (has_none args.operands) two.1).1
+
+built-few : (command : Inv) → is_built_of command ≡ true → inputs_of command ≤ 1
+built-few (inv.Cat cat) built = joined-few cat.args.operands
+built-few (inv.Grep grep) built = grep-few grep.args built
+built-few (inv.Wc wc) built = wc-few wc.args built
+built-few other built = absurd (true≢false (sym built))
+
+-- no input is as an empty one
+nothing-output : (command : Inv) → output_of command ([] ∷ []) ≡ output_of command []
+nothing-output (inv.Cat cat) = refl
+nothing-output (inv.Grep grep) = refl
+nothing-output (inv.Wc wc) = refl
+nothing-output other = refl
+
+nothing-selects : (command : Inv) → selects_of command ([] ∷ []) ≡ selects_of command []
+nothing-selects (inv.Cat cat) = refl
+nothing-selects (inv.Grep grep) = refl
+nothing-selects (inv.Wc wc) = refl
+nothing-selects other = refl
+
+-- how many ins and outs a node has that runs a utility
+both : (ins outs : ℕ) (rest : Bool) → (((ins == 1) && (outs == 1)) && rest) ≡ true → (ins ≡ 1) × (outs ≡ 1)
+both ins outs rest is =
+    let ports = and_parts (ins == 1) (outs == 1) (and_parts ((ins == 1) && (outs == 1)) rest is).0 in
+    (eqb-true ins 1 ports.0, eqb-true outs 1 ports.1)
+
+one-port : (ins outs : ℕ) → (ins ≡ 1) × (outs ≡ 1) → (ins ≤ 1) × (outs ≡ 1)
+one-port ins outs are = let one = are.0 in (omega (arith, one), are.1)
+
+ports : (kind : NodeKind) (ins outs : ℕ) → is_utility_node kind ins outs ≡ true → (ins ≤ 1) × (outs ≡ 1)
+ports (kind.Map inv) ins outs is = one-port ins outs (both ins outs (reads_one_input (kind.Map inv) && is_built_of inv) is)
+ports (kind.Finish inv) ins outs is = one-port ins outs (both ins outs (is_built_of inv) is)
+ports (kind.Whole inv) ins outs is =
+    let parts = and_parts ((ins == inputs_of inv) && (outs == 1)) (is_built_of inv) is in
+    let own = and_parts (ins == inputs_of inv) (outs == 1) parts.0 in
+    let count = eqb-true ins (inputs_of inv) own.0 in
+    let few = built-few inv parts.1 in
+    (omega (arith, count, few), eqb-true outs 1 own.1)
+ports other ins outs is = absurd (true≢false (sym is))
+
+-- what it gives and selects, where it has one in and where it has none
+only-given : (text : List ℕ) (port : ℕ) → get_or (text ∷ []) port [] ≡ (if port == 0 then text else [])
+only-given text zero = refl
+only-given text (suc port) = ap (λ (here : Bool). if here then text else []) (sym (eqb-suc-zero port))
+
+given-some : (kind : NodeKind) (outs : ℕ) (texts : ℕ → List ℕ) (port : ℕ) → runs_utility kind ≡ true
+    → given_on kind 1 outs texts port ≡ (if port == 0 then stream_output kind (texts 0) else [])
+given-some (kind.Map inv) outs texts port runs = only-given (output_of inv (texts 0 ∷ [])) port
+given-some (kind.Whole inv) outs texts port runs = only-given (output_of inv (texts 0 ∷ [])) port
+given-some (kind.Finish inv) outs texts port runs = only-given (texts 0) port
+given-some other outs texts port runs = absurd (true≢false (sym runs))
+
+given-none : (kind : NodeKind) (outs : ℕ) (texts : ℕ → List ℕ) (port : ℕ) → runs_utility kind ≡ true
+    → given_on kind 0 outs texts port ≡ (if port == 0 then stream_output kind [] else [])
+given-none (kind.Map inv) outs texts port runs = only-given (output_of inv ([] ∷ [])) port
+given-none (kind.Whole inv) outs texts port runs =
+    only-given (output_of inv []) port ∙ ap (λ (text : List ℕ). if port == 0 then text else []) (sym (nothing-output inv))
+given-none (kind.Finish inv) outs texts port runs = only-given [] port
+given-none other outs texts port runs = absurd (true≢false (sym runs))
+
+selects-some : (kind : NodeKind) (texts : ℕ → List ℕ) → stream_selects kind (texts 0) ≡ selects kind (texts_at 1 texts)
+selects-some (kind.Map inv) texts = refl
+selects-some (kind.Whole inv) texts = refl
+selects-some other texts = refl
+
+selects-none : (kind : NodeKind) (texts : ℕ → List ℕ) → stream_selects kind [] ≡ selects kind (texts_at 0 texts)
+selects-none (kind.Map inv) texts = refl
+selects-none (kind.Whole inv) texts = nothing-selects inv
+selects-none other texts = refl
+
+-- the one port
+first-port : (port : ℕ) → (port == 0) ≡ nat_lt port 1
+first-port port =
+    same_tests (port == 0) (nat_lt port 1) (λ here. let is = eqb-true port 0 here in lt-ltb port 1 (omega (arith, is)))
+    (λ here. let below = ltb-true port 1 here in eq-eqb port 0 (omega (arith, below)))
+
+no-port : (port : ℕ) → false ≡ nat_lt port 0
+no-port port = sym (false_from_ne_true (nat_lt port 0) (λ here. let below = ltb-true port 0 here in absurd (omega (arith, below))))
+
+-- a machine with the stream of a node stands at the node's beginning
+module _ (kind : NodeKind) (ins outs : ℕ) (is : is_utility_node kind ins outs ≡ true) (act : Act) (taking putting broken : Bool)
+    (due : (ℕ → List ℕ) → ℕ → List ℕ) (will : (ℕ → List ℕ) → Bool) (is_putting : putting ≡ true) (is_whole : broken ≡ false) where
+  abbrev through : State
+  through = record {
+    act = act;
+    takes = only_port taking;
+    puts = only_port putting;
+    numbered_ins = λ port. false;
+    numbered_outs = λ port. false;
+    broken = broken;
+    due = due;
+    selects = will;
+  }
+
+  runs : runs_utility kind ≡ true
+  runs = (and_parts (runs_utility kind) (may_have kind ins outs && (reads_one_input kind && runs_what_is_built kind)) is).0
+
+  puts-all : (port : ℕ) → only_port putting port ≡ nat_lt port outs
+  puts-all port = ap (λ (is_open : Bool). only_port is_open port) is_putting ∙ first-port port ∙ ap (nat_lt port) (sym (ports kind ins outs is).1)
+
+  pub begins-some : (ins ≡ 0 → ⊥) → taking ≡ true → ((texts : ℕ → List ℕ) (port : ℕ) → due texts port ≡ (if port == 0 then stream_output kind (texts 0) else []))
+      → ((texts : ℕ → List ℕ) → will texts ≡ stream_selects kind (texts 0)) → Begins kind ins outs through
+  begins-some some is_taking owed willed =
+      let one : ins ≡ 1 = at_most ins (ports kind ins outs is).0 some in
+      record {
+        takes_all = λ port. ap (λ (is_open : Bool). only_port is_open port) is_taking ∙ first-port port ∙ ap (nat_lt port) (sym one);
+        puts_all = puts-all;
+        plain_ins = λ port. refl;
+        plain_outs = λ port. refl;
+        is_whole = is_whole;
+        owes = λ texts port. owed texts port ∙ sym (given-some kind outs texts port runs) ∙ ap (λ (ins : ℕ). given_on kind ins outs texts port) (sym one);
+        may_select = λ texts. willed texts ∙ selects-some kind texts ∙ ap (λ (ins : ℕ). selects kind (texts_at ins texts)) (sym one);
+      }
+    where
+      at_most : (ins : ℕ) → ins ≤ 1 → (ins ≡ 0 → ⊥) → ins ≡ 1
+      at_most zero few some = absurd (some refl)
+      at_most (suc zero) few some = refl
+      at_most (suc (suc ins)) few some = absurd (omega arith)
+
+  pub begins-none : ins ≡ 0 → taking ≡ false → ((texts : ℕ → List ℕ) (port : ℕ) → due texts port ≡ (if port == 0 then stream_output kind [] else []))
+      → ((texts : ℕ → List ℕ) → will texts ≡ stream_selects kind []) → Begins kind ins outs through
+  begins-none none is_taking owed willed = record {
+    takes_all = λ port. ap (λ (is_open : Bool). only_port is_open port) is_taking ∙ no-port port ∙ ap (nat_lt port) (sym none);
+    puts_all = puts-all;
+    plain_ins = λ port. refl;
+    plain_outs = λ port. refl;
+    is_whole = is_whole;
+    owes = λ texts port. owed texts port ∙ sym (given-none kind outs texts port runs) ∙ ap (λ (ins : ℕ). given_on kind ins outs texts port) (sym none);
+    may_select = λ texts. willed texts ∙ selects-none kind texts ∙ ap (λ (ins : ℕ). selects kind (texts_at ins texts)) (sym none);
+  }

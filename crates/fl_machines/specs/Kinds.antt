@@ -1,7 +1,7 @@
 -- The kinds of nodes that run a utility.
 use Rattle.std.specs.Prelude.{ℕ, List, [], ◌∷◌, Bool, true, false, ◌&&◌}
 use Rattle.fl_classes.specs.Utilities.{output_of, selects_of}
-use Rattle.fl_graph.specs.Kinds.{may_have, reads_one_input}
+use Rattle.fl_graph.specs.Kinds.{may_have, reads_one_input, runs_what_is_built}
 use Rattle.fl_graph.specs.declared.kinds.NodeKind.{NodeKind}
 use Rattle.fl_graph.specs.declared.kinds.NodeKind.TheVariants as kind
 
@@ -14,7 +14,7 @@ runs_utility other = false
 
 -- a node of this kind with so many ports may stand in a valid graph
 abbrev pub is_utility_node : NodeKind → ℕ → ℕ → Bool
-is_utility_node kind ins outs = runs_utility kind && (may_have kind ins outs && reads_one_input kind)
+is_utility_node kind ins outs = runs_utility kind && (may_have kind ins outs && (reads_one_input kind && runs_what_is_built kind))
 
 -- what the stream of such a node writes for one input
 abbrev pub stream_output : NodeKind → List ℕ → List ℕ

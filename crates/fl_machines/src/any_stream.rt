@@ -1,5 +1,7 @@
 //! The stream of any utility.
-ghost use Rattle.std.specs.Prelude.{◌≡◌, ℕ, List, [], ◌∷◌, false, IfOk};
+ghost use Rattle.std.specs.Prelude.{◌≡◌, ℕ, List, [], ◌∷◌, false, true, IfOk};
+ghost use Rattle.ut_args.specs.Built.{is_built_of};
+ghost use Rattle.fl_graph.specs.Kinds.{runs_what_is_built};
 ghost use Rattle.fl_classes.specs.Utilities.{output_of, selects_of};
 ghost use Rattle.fl_machines.specs.Kinds.{stream_output, stream_selects};
 
@@ -21,8 +23,9 @@ pub enum AnyStream {
 }
 
 impl AnyStream {
-    /// The stream of a node that runs a utility, at the beginning of its input.
+    /// The stream of a node that runs a utility, at the beginning of its input; a utility's stream must be built.
     pub fn of_kind(alloc: Global, kind: &NodeKind) -> Result<AnyStream, Memory>
+        requires { runs_what_is_built kind.now ≡ true }
         ensures due { IfOk result (λ stream. (text : List ℕ) → ⟦<AnyStream as Stream>⟧.due stream text ≡ stream_output kind.now text) }
         ensures selects { IfOk result (λ stream. (text : List ℕ) → ⟦<AnyStream as Stream>⟧.selects stream text ≡ stream_selects kind.now text) }
         ensures unspent { IfOk result (λ stream. ⟦<AnyStream as Stream>⟧.spent stream ≡ false) }
@@ -34,8 +37,9 @@ impl AnyStream {
         }
     }
 
-    /// The stream of an invocation.
+    /// The stream of an invocation that is built.
     fn of_invocation(alloc: Global, inv: &Inv) -> Result<AnyStream, Memory>
+        requires { is_built_of inv.now ≡ true }
         ensures due { IfOk result (λ stream. (text : List ℕ) → ⟦<AnyStream as Stream>⟧.due stream text ≡ output_of inv.now (text ∷ [])) }
         ensures selects { IfOk result (λ stream. (text : List ℕ) → ⟦<AnyStream as Stream>⟧.selects stream text ≡ selects_of inv.now (text ∷ [])) }
         ensures unspent { IfOk result (λ stream. ⟦<AnyStream as Stream>⟧.spent stream ≡ false) }
@@ -50,6 +54,7 @@ impl AnyStream {
                 Ok(wc) => Ok(AnyStream::Wc(wc)),
                 Err(memory) => Err(memory),
             },
+            _ => unreachable!(),
         }
     }
 }

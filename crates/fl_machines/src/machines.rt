@@ -20,15 +20,17 @@ pub fn util_machine(
     outs: u32,
 ) -> Result<UtilMachine, Memory>
     requires { is_utility_node kind.now ins outs ≡ true }
-    ensures { IfOk result (λ machine. Begins kind.now ins outs (⟦<UtilMachine as Machine>⟧.takes machine) (⟦<UtilMachine as Machine>⟧.puts machine)
-        (⟦<UtilMachine as Machine>⟧.broken machine) (⟦<UtilMachine as Machine>⟧.due machine) (⟦<UtilMachine as Machine>⟧.selects machine)) }
+    ensures { IfOk result (λ machine. Begins kind.now ins outs (⟦<UtilMachine as Machine>⟧.state machine)) }
 {
     let stream = match AnyStream::of_kind(alloc, kind) {
         Ok(stream) => stream,
         Err(memory) => return Err(memory),
     };
     if ins == 0 {
-        return Through::of_nothing(alloc, stream);
+        return match Through::of_nothing(alloc, stream) {
+            Ok(machine) => Ok(machine),
+            Err(memory) => Err(memory),
+        };
     }
     Ok(Through::new(alloc, stream))
 }

@@ -1,8 +1,7 @@
 //! A machine with a stream in it.
 ghost use Rattle.std.specs.Prelude.{◌≡◌, ◌≤◌, ◌<◌, [], length, vec_len, drop, take, min, true, false, IfOk};
-ghost use Rattle.fl_graph.specs.declared.pieces.TheConstants.{MAX_PIECE};
 
-use fl_graph::{Act, Bytes, MAX_PIECE, Machine, Piece};
+use fl_graph::{Act, Machine, Piece, first_piece};
 use ps_lines::Memory;
 use std::alloc::Global;
 use ut_streams::Stream;
@@ -77,17 +76,16 @@ impl<S: Stream> Machine for Through<S> {
     ghost use Rattle.std.specs.Prelude.{◌||◌, nat_lt};
     ghost use Rattle.fl_machines.specs.Through.{due_through, next_act, only_port, selects_through};
 
-    ghost act = { λ machine. next_act (machine.broken || nat_lt machine.given (vec_len machine.out)) machine.taking machine.putting };
-
-    ghost takes = { λ machine. only_port machine.taking };
-
-    ghost puts = { λ machine. only_port machine.putting };
-
-    ghost broken = { λ machine. machine.broken };
-
-    ghost due = { λ machine. due_through (drop machine.given machine.out.items) machine.taking (S.due machine.stream) };
-
-    ghost selects = { λ machine. selects_through machine.taking (S.selects machine.stream) (S.selected machine.stream) };
+    ghost state = { λ machine. record {
+      act = next_act (machine.broken || nat_lt machine.given (vec_len machine.out)) machine.taking machine.putting;
+      takes = only_port machine.taking;
+      puts = only_port machine.putting;
+      numbered_ins = λ port. false;
+      numbered_outs = λ port. false;
+      broken = machine.broken;
+      due = due_through (drop machine.given machine.out.items) machine.taking (S.due machine.stream);
+      selects = selects_through machine.taking (S.selects machine.stream) (S.selected machine.stream);
+    } };
 
     fn next(&self) -> Act {
         if self.putting && (self.broken || self.given < self.out.len()) {
@@ -153,16 +151,11 @@ impl<S: Stream> Machine for Through<S> {
         }
     }
 
+    fn break_off(&mut self) {
+        self.broken = true;
+    }
+
     fn selected(&self) -> bool {
         self.stream.has_selected()
     }
-}
-
-/// A piece of the front of these bytes, which aren't none.
-fn first_piece(alloc: Global, waiting: &[u8]) -> Result<Bytes, Memory>
-    requires { 0 < length waiting.now }
-    ensures { IfOk result (λ bytes. bytes ≡ take (min (length waiting.now) MAX_PIECE) waiting.now) }
-{
-    let bytes = Vec::from_slice(alloc, &waiting[..waiting.len().min(MAX_PIECE)])?;
-    Ok(Bytes::new(bytes))
 }

@@ -2,7 +2,7 @@
 use Rattle.std.proofs.Common.{◌≡◌, ℕ, ◌<◌, ◌==◌, List, [], ◌∷◌, ◌++◌, Bool, true, false, slice_get, get_or, length, drop, Option, Some, refl, ap, sym, subst, ◌∙◌}
 use Rattle.std.proofs.lemmas.Bool.{true≢false, eqb-true}
 use Rattle.fl_graph.specs.Net.{has}
-use Rattle.fl_graph.specs.Runs.{State}
+use Rattle.fl_graph.specs.Machines.{State}
 use Rattle.fl_graph.specs.declared.pieces.Piece.{Piece}
 use Rattle.fl_core.specs.Runs.{AreDrained, Goes}
 use Rattle.fl_core.specs.Steps.{waiting_on, has_moved, CameTo, SameBut, GaveTo, TookFrom, WentFrom}

@@ -1,16 +1,13 @@
 -- The engine over lists of ends: what is said of the ends by their roles is said of those of the nodes.
 use Rattle.std.proofs.Common.{◌≡◌, ℕ, ◌+◌, ◌<◌, ◌≤◌, ◌||◌, not, List, Bool, true, false, length, slice_get, get_or, Option, Some, is_some, inl, inr, refl, ap, sym, subst, ◌∙◌, arith}
-use Rattle.std.specs.Option.{option_and_then, option_map}
+use Rattle.std.specs.Option.{option_and_then}
 use Rattle.std.proofs.lemmas.Bool.{cases_lt, true≢false}
-use Rattle.std.proofs.lemmas.List.{length-map}
-use Rattle.std.proofs.lemmas.Option.{slice_get-map, slice_get_read, slice_get_within}
+use Rattle.std.proofs.lemmas.Option.{slice_get_read, slice_get_within}
 use Rattle.std.proofs.Math.Path.{fun_ext}
 use Rattle.ps_world.specs.Counts.{Rose}
 use Rattle.ps_world.specs.Paths.{Components}
 use Rattle.ps_world.specs.declared.tree.Mode.{Mode}
-use Rattle.fl_graph.specs.Cells.{cell, cells}
-use Rattle.fl_graph.specs.Net.{Cell}
-use Rattle.fl_graph.specs.declared.graphs.Node.{Node}
+use Rattle.fl_graph.specs.declared.graphs.Cell.{Cell}
 use Rattle.fl_graph.specs.Valid.{HasOneOfEachEnd}
 use Rattle.fl_graph.specs.declared.kinds.NodeKind.{NodeKind}
 use Rattle.fl_graph.specs.declared.kinds.NodeKind.TheVariants as kind
@@ -45,37 +42,37 @@ module _ {R W I O : Type 0} (it : NodeKind) (node : ℕ) (ends : Ends R W I O) (
   writer_there path mode is found = found ∙ file_end Writer ends.writers.items node ∙ sym (ap (λ (it : NodeKind). needs_no_more it node ends) is)
 
 -- one more node has its end
-module _ {R W I O : Type 0} (nodes : List Node) (ends : Ends R W I O) where
+module _ {R W I O : Type 0} (nodes : List (Cell NodeKind)) (ends : Ends R W I O) where
   abbrev pub HaveEndsBelow : ℕ → Type 0
-  HaveEndsBelow below = (node : ℕ) (cell : Cell NodeKind) → node < below → slice_get (cells nodes) node ≡ Some cell → (is_source cell.kind || is_sink cell.kind) ≡ true
+  HaveEndsBelow below = (node : ℕ) (cell : Cell NodeKind) → node < below → slice_get nodes node ≡ Some cell → (is_source cell.kind || is_sink cell.kind) ≡ true
       → is_some (own_end cell.kind node ends) ≡ true
 
   has_its : (it : NodeKind) (node : ℕ) → needs_no_more it node ends ≡ true → (is_source it || is_sink it) ≡ true → is_some (own_end it node ends) ≡ true
   has_its it node has is = sym (ap (λ (test : Bool). not test || is_some (own_end it node ends)) is) ∙ has
 
-  node_at : (node : ℕ) (it : Node) → node < length nodes → it ≡ get_or nodes node it → slice_get (cells nodes) node ≡ Some (cell it)
-  node_at node it within is = slice_get-map cell nodes node ∙ ap (option_map cell) (slice_get_read nodes (length nodes) node it refl within is)
+  node_at : (node : ℕ) (it : Cell NodeKind) → node < length nodes → it ≡ get_or nodes node it → slice_get nodes node ≡ Some it
+  node_at node it within is = slice_get_read nodes (length nodes) node it refl within is
 
-  pub ends_below : (node : ℕ) (it : Node) → node < length nodes → it ≡ get_or nodes node it → needs_no_more it.kind node ends ≡ true → HaveEndsBelow node → HaveEndsBelow (node + 1)
+  pub ends_below : (node : ℕ) (it : Cell NodeKind) → node < length nodes → it ≡ get_or nodes node it → needs_no_more it.kind node ends ≡ true → HaveEndsBelow node → HaveEndsBelow (node + 1)
   ends_below node it within is has before other found below at reads =
       elim (cases_lt other node) [
         | inl earlier ↦ before other found earlier at reads
         | inr later ↦
             let same : other ≡ node = omega (arith, below, later) in
-            let found_is : Some (cell it) ≡ Some found = sym (node_at node it within is) ∙ ap (slice_get (cells nodes)) (sym same) ∙ at in
-            let kind_is : it.kind ≡ found.kind = ap (λ (one : Cell NodeKind). one.kind) (some_is (cell it) found found_is) in
+            let found_is : Some it ≡ Some found = sym (node_at node it within is) ∙ ap (slice_get nodes) (sym same) ∙ at in
+            let kind_is : it.kind ≡ found.kind = ap (λ (one : Cell NodeKind). one.kind) (some_is it found found_is) in
             has_its found.kind other (subst (λ (kind : NodeKind). needs_no_more kind other ends ≡ true) kind_is (subst (λ (at : ℕ). needs_no_more it.kind at ends ≡ true) (sym same) has)) reads
       ]
 
-  pub lacks_end : (node : ℕ) (it : Node) → node < length nodes → it ≡ get_or nodes node it → needs_no_more it.kind node ends ≡ false → HasItsEnds (cells nodes) ends → ⊥
+  pub lacks_end : (node : ℕ) (it : Cell NodeKind) → node < length nodes → it ≡ get_or nodes node it → needs_no_more it.kind node ends ≡ false → HasItsEnds nodes ends → ⊥
   lacks_end node it within is lacks has = by_test (is_source it.kind || is_sink it.kind) refl
     where
       by_test : (test : Bool) → (is_source it.kind || is_sink it.kind) ≡ test → ⊥
-      by_test true reads = true≢false (sym (has node (cell it) (node_at node it within is) reads) ∙ sym (ap (λ (test : Bool). not test || is_some (own_end it.kind node ends)) reads) ∙ lacks)
+      by_test true reads = true≢false (sym (has node it (node_at node it within is) reads) ∙ sym (ap (λ (test : Bool). not test || is_some (own_end it.kind node ends)) reads) ∙ lacks)
       by_test false reads = true≢false (sym (ap (λ (test : Bool). not test || is_some (own_end it.kind node ends)) reads) ∙ lacks)
 
-  pub ends_all : HaveEndsBelow (length nodes) → HasItsEnds (cells nodes) ends
-  ends_all all node found at reads = all node found (subst (λ (count : ℕ). node < count) (length-map nodes cell) (slice_get_within (cells nodes) node found at)) at reads
+  pub ends_all : HaveEndsBelow (length nodes) → HasItsEnds nodes ends
+  ends_all all node found at reads = all node found (slice_get_within nodes node found at) at reads
 
 module _ {R W I O : Type 0} (cells : List (Cell NodeKind)) (ends : Ends R W I O) (roles : List Role) (own : HasRoles cells ends roles) where
   pub are_apart : HasOneOfEachEnd cells → AreApart roles

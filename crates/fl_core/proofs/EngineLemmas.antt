@@ -3,12 +3,11 @@ use Rattle.std.proofs.Common.{◌≡◌, ℕ, zero, suc, ◌<◌, ◌≤◌, Lis
 use Rattle.std.proofs.lemmas.List.{length-map}
 use Rattle.std.proofs.lemmas.Option.{slice_get_within}
 use Rattle.ps_world.specs.Told.{then_bytes, GrewByPrefix, IsEnded}
-use Rattle.fl_graph.specs.Net.{Cell}
-use Rattle.fl_graph.specs.Runs.{State}
+use Rattle.fl_graph.specs.declared.graphs.Cell.{Cell}
+use Rattle.fl_graph.specs.Machines.{State}
 use Rattle.fl_graph.specs.Valid.{Valid}
 use Rattle.fl_graph.specs.declared.graphs.StatusRule.{StatusRule}
 use Rattle.fl_graph.specs.declared.kinds.NodeKind.{NodeKind}
-use Rattle.fl_graph.specs.declared.pieces.Act.{Act}
 use Rattle.fl_graph.specs.declared.pieces.Act.TheVariants as doing
 use Rattle.fl_graph.specs.declared.pieces.Piece.{Piece}
 use Rattle.fl_classes.specs.Flow.{flow, is_source, only, selects, selections}
@@ -58,28 +57,28 @@ module _ {Machine : Type 0} (state : Machine → State) (cells : List (Cell Node
     pub reached_whole : (node : ℕ) (machine : Machine) → slice_get machines' node ≡ Some machine → (state machine).broken ≡ false
     reached_whole node machine at =
         let own = net_plan state cells status valid ports machines wires net left taken in
-        (leads own.0 own.2 own.3 own.4).whole node machine at
+        ((leads own.0 own.2 own.3 own.4).sound own.7).whole node machine at
 
     -- a run in which nothing moves any more has stopped
-    module _ (act : Machine → Act) (cap : Option ℕ) (rooms rooms' : List (Option ℕ)) (has_rooms : HasRooms cells cap rooms) (some_room : IfSome cap (λ room. 1 ≤ room))
+    module _ (cap : Option ℕ) (rooms rooms' : List (Option ℕ)) (has_rooms : HasRooms cells cap rooms) (some_room : IfSome cap (λ room. 1 ≤ room))
         (width : length wires' ≡ length wires) (ports' : List Ports) (same_ports : ports' ≡ ports) (same_rooms : rooms' ≡ rooms)
-        (stuck : IsStuck (λ machine. (state machine).takes) (λ machine. (state machine).puts) act ports' machines' rooms' wires') where
-      stuck_here : IsStuck (λ machine. (state machine).takes) (λ machine. (state machine).puts) act ports machines' rooms wires'
+        (stuck : IsStuck state ports' machines' rooms' wires') where
+      stuck_here : IsStuck state ports machines' rooms wires'
       stuck_here =
-          said_of (λ machine. (state machine).takes) (λ machine. (state machine).puts) act ports machines' rooms wires'
-          (IsStuck (λ machine. (state machine).takes) (λ machine. (state machine).puts) act) ports' machines' rooms' wires' same_ports refl same_rooms refl stuck
+          said_of state ports machines' rooms wires'
+          (IsStuck state) ports' machines' rooms' wires' same_ports refl same_rooms refl stuck
 
-      pub all_stop : (node : ℕ) (machine : Machine) → slice_get machines' node ≡ Some machine → act machine ≡ doing.Stop
+      pub all_stop : (node : ℕ) (machine : Machine) → slice_get machines' node ≡ Some machine → (state machine).act ≡ doing.Stop
       all_stop =
           let own = net_plan state cells status valid ports machines wires net left taken in
-          never_stuck state act cells status valid own.0 own.1 own.2 ports machines' rooms wires' left' taken'
+          never_stuck state cells status valid own.0 own.1 own.2 ports machines' rooms wires' left' taken'
           (subst (λ (count : ℕ). Follows own.0 ports count) (sym width) own.3) (leads own.0 own.2 own.3 own.4) net.all_ports (counted ∙ net.all_machines) cap has_rooms some_room stuck_here
 
       pub all_shut : (node : ℕ) (machine : Machine) → slice_get machines' node ≡ Some machine
           → ((port : ℕ) → (state machine).takes port ≡ false) × ((port : ℕ) → (state machine).puts port ≡ false)
       all_shut =
           let own = net_plan state cells status valid ports machines wires net left taken in
-          shut_when_stuck state act cells status valid own.0 own.1 own.2 ports machines' rooms wires' left' taken'
+          shut_when_stuck state cells status valid own.0 own.1 own.2 ports machines' rooms wires' left' taken'
           (subst (λ (count : ℕ). Follows own.0 ports count) (sym width) own.3) (leads own.0 own.2 own.3 own.4) net.all_ports (counted ∙ net.all_machines) cap has_rooms some_room stuck_here
 
     -- a run that has finished
@@ -88,14 +87,14 @@ module _ {Machine : Type 0} (state : Machine → State) (cells : List (Cell Node
       pub done_reads : (node : ℕ) (cell : Cell NodeKind) → slice_get cells node ≡ Some cell → is_source cell.kind ≡ true → IsEnded (left' node)
       done_reads =
           let own = net_plan state cells status valid ports machines wires net left taken in
-          finished_reads state cells status own.0 valid own.1 machines' wires' left' taken' (leads own.0 own.2 own.3 own.4) (counted ∙ net.all_machines) stopped
+          finished_reads state cells status own.0 valid own.1 machines' wires' left' taken' (leads own.0 own.2 own.3 own.4) (counted ∙ net.all_machines) ((leads own.0 own.2 own.3 own.4).sound own.7) stopped
 
       module _ (sources : List (List ℕ)) (told : AreTold sources cells left) where
         pub done_writes : AreDrained ports wires' → (node : ℕ) (cell : Cell NodeKind) → slice_get cells node ≡ Some cell → is_sink cell.kind ≡ true
             → taken' node ≡ then_bytes (taken node) (only (map (flow cells sources) cell.ins))
         done_writes drained node cell at sink =
             let own = net_plan state cells status valid ports machines wires net left taken in
-            finished_writes state cells status own.0 valid own.1 machines' wires' left' taken' (leads own.0 own.2 own.3 own.4) (counted ∙ net.all_machines) stopped sources told node cell at sink
+            finished_writes state cells status own.0 valid own.1 machines' wires' left' taken' (leads own.0 own.2 own.3 own.4) (counted ∙ net.all_machines) ((leads own.0 own.2 own.3 own.4).sound own.7) stopped sources told node cell at sink
             (outer_drained node cell at sink)
           where
             outer_drained : (node : ℕ) (cell : Cell NodeKind) → slice_get cells node ≡ Some cell → is_sink cell.kind ≡ true → waiting_on wires' (outer_edge cells node) ≡ []
@@ -117,7 +116,7 @@ module _ {Machine : Type 0} (state : Machine → State) (cells : List (Cell Node
             let here = some_at cells node (subst (λ (nodes : ℕ). node < nodes) size (slice_get_within machines' node machine at)) in
             ap (λ (told : List Bool). get_or told node false) (selections_of_the_flow cells status valid sources)
             ∙ map_at (λ (cell : Cell NodeKind). selects cell.kind (map (flow cells sources) cell.ins)) cells node here.0 here.1
-            ∙ sym (finished_selects state cells status own.0 valid own.1 machines' wires' left' taken' (leads own.0 own.2 own.3 own.4) size stopped sources told node here.0 machine here.1 at (λ _. []))
+            ∙ sym (finished_selects state cells status own.0 valid own.1 machines' wires' left' taken' (leads own.0 own.2 own.3 own.4) size ((leads own.0 own.2 own.3 own.4).sound own.7) stopped sources told node here.0 machine here.1 at (λ _. []))
 
         pub done_counted : length (selections cells sources) ≡ length machines'
         done_counted =

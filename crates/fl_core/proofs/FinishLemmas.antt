@@ -6,20 +6,21 @@ use Rattle.std.proofs.lemmas.List.{take-append-drop}
 use Rattle.std.proofs.lemmas.Option.{slice_get_within}
 use Rattle.ps_world.specs.Told.{then_bytes, GrewByPrefix, IsEnded}
 use Rattle.ps_world.proofs.ToldLemmas.{grew_by_front}
-use Rattle.fl_graph.specs.Net.{Cell}
-use Rattle.fl_graph.specs.Runs.{text_of, has_end, are_closed, completed, completion, State, Stopped}
+use Rattle.fl_graph.specs.declared.graphs.Cell.{Cell}
+use Rattle.fl_graph.specs.Machines.{State}
+use Rattle.fl_graph.specs.Runs.{text_of, has_end, are_closed, completed, completion, Stopped}
 use Rattle.fl_graph.specs.Valid.{Valid}
 use Rattle.fl_graph.specs.declared.graphs.StatusRule.{StatusRule}
 use Rattle.fl_graph.specs.declared.kinds.NodeKind.{NodeKind}
 use Rattle.fl_graph.specs.declared.kinds.NodeKind.TheVariants as kind
 use Rattle.fl_graph.specs.declared.pieces.Piece.{Piece}
-use Rattle.fl_graph.proofs.StateLemmas.{Run-stop}
+use Rattle.fl_graph.proofs.StateLemmas.{Run-shut}
 use Rattle.fl_classes.specs.Flow.{is_source, only, flow, selects}
 use Rattle.fl_classes.specs.Nodes.{texts_at}
 use Rattle.fl_core.specs.Kinds.{is_sink, run_kind, run_ins}
 use Rattle.fl_core.specs.Laws.{Carries, at_ports}
 use Rattle.fl_core.specs.Steps.{waiting_on}
-use Rattle.fl_core.specs.Runs.{Plan, Reached, Halted}
+use Rattle.fl_core.specs.Runs.{Plan, IsUnbroken, Reached, Halted}
 use Rattle.fl_core.specs.Plans.{outer_edge, IsPlanOf, AreTold}
 use Rattle.fl_core.proofs.PortLemmas.{stands-has, at_ports-stands}
 use Rattle.fl_core.proofs.LawLemmas.{texts-values, edge_carries, edge_completed}
@@ -80,7 +81,7 @@ selects_other other ins texts is = refl
 
 module _ {Machine : Type 0} (state : Machine → State) (cells : List (Cell NodeKind)) (status : StatusRule) (plan : Plan) (valid : Valid cells status) (planned : IsPlanOf cells plan)
     (machines : List Machine) (wires : List (List Piece)) (left taken : ℕ → Option (List ℕ)) (reached : Reached state plan machines wires left taken) where
-  module _ (counted : length machines ≡ length cells)
+  module _ (counted : length machines ≡ length cells) (unbroken : IsUnbroken state machines reached.put)
       (stopped : (node : ℕ) (machine : Machine) → slice_get machines node ≡ Some machine
       → ((port : ℕ) → (state machine).takes port ≡ false) × ((port : ℕ) → (state machine).puts port ≡ false)) where
     -- a machine stands for each node
@@ -91,7 +92,7 @@ module _ {Machine : Type 0} (state : Machine → State) (cells : List (Cell Node
         → Stopped (plan.starts node) (state machine) (at_ports (plan.ins node) reached.took) (at_ports (plan.outs node) reached.put)
     its_stop node machine at_machine =
         let shut = stopped node machine at_machine in
-        Run-stop (plan.starts node) (state machine) (at_ports (plan.ins node) reached.took) (at_ports (plan.outs node) reached.put)
+        Run-shut (plan.starts node) (state machine) (at_ports (plan.ins node) reached.took) (at_ports (plan.outs node) reached.put) (plan.failed node)
         (reached.runs node machine at_machine) shut.0 shut.1
 
     -- it has taken the end of each of its ins
@@ -99,7 +100,7 @@ module _ {Machine : Type 0} (state : Machine → State) (cells : List (Cell Node
         → (plan.starts node).takes port ≡ true → has_end (reached.took edge) ≡ true
     in_ends node machine port edge at_machine stands opened =
         let stop = its_stop node machine at_machine in
-        taken_ends state plan machines wires left taken reached edge (ap are_closed (sym (at_ports-stands (plan.ins node) reached.took port edge stands)) ∙ stop.ins port opened)
+        taken_ends state plan machines wires left taken reached unbroken edge (ap are_closed (sym (at_ports-stands (plan.ins node) reached.took port edge stands)) ∙ stop.ins port opened)
 
     pub finished_reads : (node : ℕ) (cell : Cell NodeKind) → slice_get cells node ≡ Some cell → is_source cell.kind ≡ true → IsEnded (left node)
     finished_reads node cell at_node source =
@@ -120,7 +121,7 @@ module _ {Machine : Type 0} (state : Machine → State) (cells : List (Cell Node
         let stop = its_stop node found.0 found.1 in
         let opened : (plan.starts node).puts 0 ≡ true = begins.puts_all 0 ∙ ap (λ (test : Bool). nat_lt 0 (if test then 1 else length cell.outs)) sink in
         ap has_end (sym (at_ports-stands (plan.outs node) reached.put 0 (outer_edge cells node) (ap (λ (edges : List ℕ). slice_get edges 0) outs)))
-        ∙ stop.ended (reached.whole node found.0 found.1) 0 opened
+        ∙ stop.ended (unbroken.whole node found.0 found.1) 0 opened
 
     module _ (sources : List (List ℕ)) (told : AreTold sources cells plan.left) where
       pub finished_writes : (node : ℕ) (cell : Cell NodeKind) → slice_get cells node ≡ Some cell → is_sink cell.kind ≡ true → waiting_on wires (outer_edge cells node) ≡ []
@@ -158,7 +159,7 @@ module _ {Machine : Type 0} (state : Machine → State) (cells : List (Cell Node
       finished_selects node cell machine at_node at_machine rest =
           let stop = its_stop node machine at_machine in
           let begins = planned.begins node cell at_node in
-          sym (stop.selection (reached.whole node machine at_machine) rest)
+          sym (stop.selection (unbroken.whole node machine at_machine) rest)
           ∙ begins.may_select (completion (at_ports (plan.ins node) reached.took) rest)
           ∙ by_end (is_source cell.kind || is_sink cell.kind) (completion (at_ports (plan.ins node) reached.took) rest) refl (λ no_source. ins_come node cell machine at_node at_machine no_source rest)
         where

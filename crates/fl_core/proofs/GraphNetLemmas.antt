@@ -1,13 +1,10 @@
 -- Networks of graphs, built node by node.
 use Rattle.std.proofs.Common.{◌≡◌, ℕ, zero, suc, ◌+◌, ◌<◌, List, [], ◌∷◌, ◌++◌, Bool, true, if◌then◌else◌, length, slice_get, get_or, Some, refl, ap, sym, subst, ◌∙◌, length-append}
-use Rattle.std.proofs.lemmas.List.{length-map}
 use Rattle.std.specs.List.{list_all}
-use Rattle.std.specs.Option.{option_map}
-use Rattle.std.proofs.lemmas.Option.{slice_get-map, slice_get_read}
-use Rattle.fl_graph.specs.Cells.{cell, cells}
-use Rattle.fl_graph.specs.Net.{Cell, gives}
-use Rattle.fl_graph.specs.Runs.{State}
-use Rattle.fl_graph.specs.declared.graphs.Node.{Node}
+use Rattle.std.proofs.lemmas.Option.{slice_get_read}
+use Rattle.fl_graph.specs.Net.{gives}
+use Rattle.fl_graph.specs.declared.graphs.Cell.{Cell}
+use Rattle.fl_graph.specs.Machines.{State}
 use Rattle.fl_graph.specs.declared.kinds.NodeKind.{NodeKind}
 use Rattle.fl_graph.specs.declared.pieces.Piece.{Piece}
 use Rattle.fl_classes.specs.Flow.{is_source}
@@ -35,51 +32,47 @@ pushed_at (first ∷ items) last (suc place) item is = behind (pushed_at items l
     behind (Before there) = Before there
     behind (Last at same) = Last (ap (λ (it : ℕ). suc it) at) same
 
--- the cell of a node
-pub cell_at : (nodes : List Node) (node : ℕ) (it : Node) → slice_get nodes node ≡ Some it → slice_get (cells nodes) node ≡ Some (cell it)
-cell_at nodes node it is = slice_get-map cell nodes node ∙ ap (option_map cell) is
-
-pub node_holds : (test : Cell NodeKind → Bool) (nodes : List Node) (node : ℕ) (it : Node) → list_all test (cells nodes) ≡ true → node < length nodes → it ≡ get_or nodes node it
-    → test (cell it) ≡ true
-node_holds test nodes node it all within is = holds_at test (cells nodes) node (cell it) all (cell_at nodes node it (slice_get_read nodes (length nodes) node it refl within is))
+pub node_holds : (test : Cell NodeKind → Bool) (nodes : List (Cell NodeKind)) (node : ℕ) (it : Cell NodeKind) → list_all test nodes ≡ true → node < length nodes → it ≡ get_or nodes node it
+    → test it ≡ true
+node_holds test nodes node it all within is = holds_at test nodes node it all (slice_get_read nodes (length nodes) node it refl within is)
 
 -- the next node has its own too
-pub nodes_more : {Own : Type 0} (has : ℕ → Cell NodeKind → Own → Type 0) (nodes : List Node) (owns now : List Own) (last : Own) (node : ℕ) (it : Node)
-    → now ≡ owns ++ last ∷ [] → node < length nodes → it ≡ get_or nodes node it → (length owns ≡ node) × NodesHave has (cells nodes) owns → has node (cell it) last
-    → (length now ≡ node + 1) × NodesHave has (cells nodes) now
+pub nodes_more : {Own : Type 0} (has : ℕ → Cell NodeKind → Own → Type 0) (nodes : List (Cell NodeKind)) (owns now : List Own) (last : Own) (node : ℕ) (it : Cell NodeKind)
+    → now ≡ owns ++ last ∷ [] → node < length nodes → it ≡ get_or nodes node it → (length owns ≡ node) × NodesHave has nodes owns → has node it last
+    → (length now ≡ node + 1) × NodesHave has nodes now
 nodes_more {Own} has nodes owns now last node it more within is before here =
-    subst (λ (list : List Own). (length list ≡ node + 1) × NodesHave has (cells nodes) list) (sym more) (length-append owns (last ∷ []) ∙ ap (λ (count : ℕ). count + 1) before.0, all)
+    subst (λ (list : List Own). (length list ≡ node + 1) × NodesHave has nodes list) (sym more) (length-append owns (last ∷ []) ∙ ap (λ (count : ℕ). count + 1) before.0, all)
   where
-    at_node : slice_get (cells nodes) node ≡ Some (cell it)
-    at_node = cell_at nodes node it (slice_get_read nodes (length nodes) node it refl within is)
+    at_node : slice_get nodes node ≡ Some it
+    at_node = slice_get_read nodes (length nodes) node it refl within is
 
-    by_place : (other : ℕ) (at_other : Cell NodeKind) (own : Own) → slice_get (cells nodes) other ≡ Some at_other → PushedAt owns last other own → has other at_other own
+    by_place : (other : ℕ) (at_other : Cell NodeKind) (own : Own) → slice_get nodes other ≡ Some at_other → PushedAt owns last other own → has other at_other own
     by_place other at_other own at (Before there) = before.1 other at_other own at there
     by_place other at_other own at (Last place same) =
         let one : other ≡ node = place ∙ before.0 in
-        let found : Some at_other ≡ Some (cell it) = sym at ∙ ap (slice_get (cells nodes)) one ∙ at_node in
-        let same_cell : at_other ≡ cell it = cc in
+        let found : Some at_other ≡ Some it = sym at ∙ ap (slice_get nodes) one ∙ at_node in
+        let same_cell : at_other ≡ it = cc in
         subst (λ (place : ℕ). has place at_other own) (sym one)
-        (subst (λ (cell : Cell NodeKind). has node cell own) (sym same_cell) (subst (λ (own : Own). has node (cell it) own) (sym same) here))
+        (subst (λ (cell : Cell NodeKind). has node cell own) (sym same_cell) (subst (λ (own : Own). has node it own) (sym same) here))
 
-    all : NodesHave has (cells nodes) (owns ++ last ∷ [])
+    all : NodesHave has nodes (owns ++ last ∷ [])
     all other at_other own at at_own = by_place other at_other own at (pushed_at owns last other own at_own)
 
 -- ports with the edges of a node
-pub has_ports : (nodes : List Node) (node : ℕ) (it : Node) (edges : ℕ) (own : Ports) → edges ≡ length (gives (cells nodes))
-    → own.ins.items ≡ (if is_source it.kind then (edges + node) ∷ [] else it.ins.items)
-    → own.outs.items ≡ (if is_sink it.kind then (edges + node) ∷ [] else it.outs.items)
-    → own.reads ≡ is_source it.kind → own.writes ≡ is_sink it.kind → HasPorts (cells nodes) node (cell it) own
+pub has_ports : (nodes : List (Cell NodeKind)) (node : ℕ) (it : Cell NodeKind) (edges : ℕ) (own : Ports) → edges ≡ length (gives nodes)
+    → own.ins.items ≡ (if is_source it.kind then (edges + node) ∷ [] else it.ins)
+    → own.outs.items ≡ (if is_sink it.kind then (edges + node) ∷ [] else it.outs)
+    → own.reads ≡ is_source it.kind → own.writes ≡ is_sink it.kind → HasPorts nodes node it own
 has_ports nodes node it edges own counted ins outs reads writes = record {
-  ins = ins ∙ ap (λ (count : ℕ). if is_source it.kind then (count + node) ∷ [] else it.ins.items) counted;
-  outs = outs ∙ ap (λ (count : ℕ). if is_sink it.kind then (count + node) ∷ [] else it.outs.items) counted;
+  ins = ins ∙ ap (λ (count : ℕ). if is_source it.kind then (count + node) ∷ [] else it.ins) counted;
+  outs = outs ∙ ap (λ (count : ℕ). if is_sink it.kind then (count + node) ∷ [] else it.outs) counted;
   reads = reads;
   writes = writes;
 }
 
 -- what a node's machine is to its callers
 abbrev pub state_of : NodeMachine → State
-state_of it = record { takes = machine.ghosts.takes it; puts = machine.ghosts.puts it; broken = machine.ghosts.broken it; due = machine.ghosts.due it; selects = machine.ghosts.selects it }
+state_of = machine.ghosts.state
 
 abbrev pub begins_here : ℕ → Cell NodeKind → NodeMachine → Type 0
 begins_here node cell it = BeginsAs (state_of it) cell
@@ -92,18 +85,18 @@ nothing_more (wire ∷ wires) none zero = none zero
 nothing_more (wire ∷ wires) none (suc edge) = nothing_more wires (λ other. none (suc other)) edge
 
 -- ports, machines and wires of all nodes are their network
-pub net_is_of : {Machine : Type 0} (state : Machine → State) (nodes given : List Node) (edges count : ℕ) (ports : List Ports) (machines : List Machine) (wires : List (List Piece))
-    → given ≡ nodes → edges ≡ length (gives (cells given)) → count ≡ edges + length given
-    → length ports ≡ length given → NodesHave (HasPorts (cells given)) (cells given) ports
-    → length machines ≡ length given → NodesHave (λ node cell machine. BeginsAs (state machine) cell) (cells given) machines
+pub net_is_of : {Machine : Type 0} (state : Machine → State) (nodes given : List (Cell NodeKind)) (edges count : ℕ) (ports : List Ports) (machines : List Machine) (wires : List (List Piece))
+    → given ≡ nodes → edges ≡ length (gives given) → count ≡ edges + length given
+    → length ports ≡ length given → NodesHave (HasPorts given) given ports
+    → length machines ≡ length given → NodesHave (λ node cell machine. BeginsAs (state machine) cell) given machines
     → length wires ≡ count → ((edge : ℕ) → waiting_on wires edge ≡ [])
-    → IsNetOf state (cells nodes) ports machines wires
+    → IsNetOf state nodes ports machines wires
 net_is_of state nodes given edges count ports machines wires same edges_are count_is all_ports each_port all_machines each_machine all_wires none =
-    subst (λ (list : List Node). IsNetOf state (cells list) ports machines wires) same
+    subst (λ (list : List (Cell NodeKind)). IsNetOf state list ports machines wires) same
     (record {
-      all_ports = all_ports ∙ sym cells_are;
-      all_machines = all_machines ∙ sym cells_are;
-      all_wires = all_wires ∙ count_is ∙ ap (λ (it : ℕ). it + length given) edges_are ∙ ap (λ (it : ℕ). length (gives (cells given)) + it) (sym cells_are);
+      all_ports = all_ports;
+      all_machines = all_machines;
+      all_wires = all_wires ∙ count_is ∙ ap (λ (it : ℕ). it + length given) edges_are;
       none_waits = none;
       ins = λ node cell own at_node at_own. (each_port node cell own at_node at_own).ins;
       outs = λ node cell own at_node at_own. (each_port node cell own at_node at_own).outs;
@@ -111,6 +104,3 @@ net_is_of state nodes given edges count ports machines wires same edges_are coun
       writes = λ node cell own at_node at_own. (each_port node cell own at_node at_own).writes;
       begins = each_machine;
     })
-  where
-    cells_are : length (cells given) ≡ length given
-    cells_are = length-map given cell

@@ -1,25 +1,24 @@
 -- A run may halt wherever it is: each machine has kept what was due of it, and the ends took fronts of what was put.
-use Rattle.std.proofs.Common.{◌≡◌, ℕ, zero, suc, ◌<◌, List, [], ◌∷◌, ◌++◌, true, ◌&&◌, length, slice_get, Option, Some, refl, ap, sym, subst, ◌∙◌, arith}
-use Rattle.std.specs.List.{list_all}
-use Rattle.std.proofs.lemmas.Bool.{and_parts, true≢false}
-use Rattle.std.proofs.lemmas.List.Folds.{list_all-append}
+use Rattle.std.proofs.Common.{◌≡◌, ℕ, zero, suc, ◌<◌, List, [], ◌∷◌, ◌++◌, Bool, true, false, ◌||◌, length, slice_get, Option, Some, refl, ap, sym, subst, ◌∙◌, arith}
+use Rattle.std.proofs.lemmas.Bool.{or_parts, true≢false}
 use Rattle.ps_world.specs.Told.{GrewByPrefix}
 use Rattle.ps_world.proofs.ToldLemmas.{grew_by_front, grew_by_whole}
-use Rattle.fl_graph.specs.Runs.{text_of, has_end, are_closed, State}
+use Rattle.fl_graph.specs.Machines.{State, is_broken}
+use Rattle.fl_graph.specs.Runs.{text_of, has_broken, has_end, are_closed}
 use Rattle.fl_graph.specs.declared.pieces.Piece.{Piece}
 use Rattle.fl_graph.specs.declared.pieces.Piece.TheVariants as piece
 use Rattle.fl_core.specs.Laws.{at_ports, Keeps}
-use Rattle.fl_core.specs.Steps.{is_plain, waiting_on}
-use Rattle.fl_core.specs.Runs.{Plan, Reached, Halted}
+use Rattle.fl_core.specs.Steps.{waiting_on}
+use Rattle.fl_graph.proofs.StateLemmas.{closed_ends}
+use Rattle.fl_core.specs.Runs.{Plan, IsUnbroken, Reached, Halted}
 use Rattle.fl_core.proofs.PieceLemmas.{text_of-append}
 
--- plain pieces are closed by an end alone
-plain_ends : (pieces : List Piece) → list_all is_plain pieces ≡ true → are_closed pieces ≡ true → has_end pieces ≡ true
-plain_ends [] plain closed = closed
-plain_ends (piece.Bytes bytes ∷ pieces) plain closed = plain_ends pieces plain closed
-plain_ends (piece.Mark ∷ pieces) plain closed = absurd (true≢false (sym plain))
-plain_ends (piece.End ∷ pieces) plain closed = refl
-plain_ends (piece.Broken ∷ pieces) plain closed = absurd (true≢false (sym plain))
+-- a break in front is there
+unbroken-front : (front back : List Piece) → has_broken (front ++ back) ≡ false → has_broken front ≡ false
+unbroken-front [] back none = refl
+unbroken-front (first ∷ front) back none =
+    let parts = or_parts (is_broken first) (has_broken (front ++ back)) none in
+    ap (λ (test : Bool). test || has_broken front) parts.0 ∙ unbroken-front front back parts.1
 
 -- an end in front is there
 pub has_end-front : (front back : List Piece) → has_end front ≡ true → has_end (front ++ back) ≡ true
@@ -71,9 +70,8 @@ module _ {Machine : Type 0} (state : Machine → State) (plan : Plan) (machines 
     written = written_front;
   }
 
-  -- what was taken from an edge and is closed has its end
-  pub taken_ends : (edge : ℕ) → are_closed (reached.took edge) ≡ true → has_end (reached.took edge) ≡ true
-  taken_ends edge closed =
-      let both : (list_all is_plain (reached.took edge) && list_all is_plain (waiting_on wires edge)) ≡ true =
-      sym (list_all-append is_plain (reached.took edge) (waiting_on wires edge)) ∙ ap (list_all is_plain) (sym (reached.queued edge)) ∙ reached.plain edge in
-      plain_ends (reached.took edge) (and_parts (list_all is_plain (reached.took edge)) (list_all is_plain (waiting_on wires edge)) both).0 closed
+  -- where no machine is broken, what was taken from an edge and is closed has its end
+  pub taken_ends : IsUnbroken state machines reached.put → (edge : ℕ) → are_closed (reached.took edge) ≡ true → has_end (reached.took edge) ≡ true
+  taken_ends unbroken edge closed =
+      closed_ends (reached.took edge) closed
+      (unbroken-front (reached.took edge) (waiting_on wires edge) (ap has_broken (sym (reached.queued edge)) ∙ unbroken.edges edge))

@@ -5,7 +5,7 @@ use Rattle.std.proofs.Math.Seq.{take-append_seam}
 use Rattle.std.proofs.lemmas.Bool.{true≢false}
 use Rattle.std.proofs.lemmas.Option.{slice_get_within}
 use Rattle.ps_world.specs.Told.{bytes_then, IsEnded}
-use Rattle.fl_graph.specs.Net.{Cell}
+use Rattle.fl_graph.specs.declared.graphs.Cell.{Cell}
 use Rattle.ps_lines.specs.Texts.{BeginsWith}
 use Rattle.fl_graph.specs.Runs.{text_of, has_end, completion}
 use Rattle.fl_graph.specs.Valid.{Valid}

@@ -5,7 +5,8 @@ use Rattle.std.proofs.lemmas.Bool.{true≢false, and_parts, or_parts, true_from_
 use Rattle.std.proofs.lemmas.List.Concat.{flat_map_single}
 use Rattle.std.proofs.lemmas.List.Folds.{list_any-append}
 use Rattle.std.proofs.lemmas.Grind.{flat_map-append}
-use Rattle.fl_graph.specs.Net.{Cell, has, count, gives, store, step, after, run}
+use Rattle.fl_graph.specs.Net.{has, count, gives, store, step, after, run}
+use Rattle.fl_graph.specs.declared.graphs.Cell.{Cell}
 use Rattle.fl_graph.specs.Checks.{takes_given, each_after}
 use Rattle.ps_lines.specs.Texts.{BeginsWith}
 use Rattle.fl_graph.specs.Runs.{text_of, has_end, completed, completion}
@@ -167,13 +168,13 @@ module _ (sources : List (List ℕ)) (taken put waiting : ℕ → List Piece) (q
       (known_all (before ++ cell ∷ []) cells (step (equation sources) cell now) behind parts.1 keep.1 (once-next before cell cells once))
 
 module _ (cells : List (Cell NodeKind)) (status : StatusRule) (valid : Valid cells status) where
-  placed_order : each_after takes_given [] (placed cells) ≡ true
+  pub placed_order : each_after takes_given [] (placed cells) ≡ true
   placed_order = order-placed 0 [] [] cells refl ∙ sym (leads_on-each cells) ∙ valid.edges.later
 
   placed_once : AreOnce [] (placed cells)
   placed_once edge = let same = ap (count edge) (gives-placed 0 cells) in let once = valid.edges.once edge in omega (arith, same, once)
 
-  placed_gives : (edge : ℕ) → edge < length (gives cells) → has edge (gives (placed cells)) ≡ true
+  pub placed_gives : (edge : ℕ) → edge < length (gives cells) → has edge (gives (placed cells)) ≡ true
   placed_gives edge within =
       ap (has edge) (gives-placed 0 cells)
       ∙ true_from_ne_false (has edge (gives cells)) (λ none.

@@ -28,3 +28,5 @@ pub mod EngineLemmas
 pub mod RoleLemmas
 pub mod EndListLemmas
 pub mod OutputLemmas
+pub mod RanLemmas
+pub mod FileLemmas

@@ -3,11 +3,9 @@ use Rattle.std.proofs.Common.{◌≡◌, ℕ, ◌+◌, ◌-◌, ◌<◌, List, [
 use Rattle.std.specs.List.{list_all}
 use Rattle.std.proofs.lemmas.Bool.{cases_lt, ne_eqb, or_parts}
 use Rattle.std.proofs.lemmas.List.{get_or-set_same, get_or-set_other, set-get_or, take_rest, take-append-drop}
-use Rattle.std.proofs.lemmas.List.{length-map}
 use Rattle.std.proofs.lemmas.Option.{slice_get_read, slice_get_within}
-use Rattle.fl_graph.specs.Cells.{cell, cells}
-use Rattle.fl_graph.specs.Net.{Cell, gives}
-use Rattle.fl_graph.specs.declared.graphs.Node.{Node}
+use Rattle.fl_graph.specs.Net.{gives}
+use Rattle.fl_graph.specs.declared.graphs.Cell.{Cell}
 use Rattle.fl_graph.specs.declared.kinds.NodeKind.{NodeKind}
 use Rattle.fl_classes.specs.Flow.{is_source}
 use Rattle.fl_graph.specs.Machines.{closes}
@@ -18,7 +16,6 @@ use Rattle.fl_core.specs.Inputs.{AreWhole, IsLoaded}
 use Rattle.fl_core.specs.Laws.{is_clean}
 use Rattle.fl_core.specs.Plans.{outer_edge}
 use Rattle.fl_core.specs.Steps.{has_bytes, is_plain, waiting_on}
-use Rattle.fl_core.proofs.GraphNetLemmas.{cell_at}
 use Rattle.fl_core.proofs.PieceLemmas.{text_of-append}
 use Rattle.fl_core.proofs.ReachLemmas.{all-more, clean-more}
 use Rattle.fl_core.proofs.TurnLemmas.{wire_at}
@@ -136,24 +133,23 @@ module _ (cells : List (Cell NodeKind)) (inputs : ℕ → List ℕ) where
     }
 
 -- one node more of a graph's
-pub nodes_loaded_more : (nodes : List Node) (inputs : ℕ → List ℕ) (edges node : ℕ) (it : Node) (wires : List (List Piece)) (was wire : List Piece) (text : List ℕ)
-    → edges ≡ length (gives (cells nodes)) → node < length nodes → it ≡ get_or nodes node it → edges + node < length wires → was ≡ get_or wires (edges + node) was → text ≡ inputs node
-    → LoadedTo (cells nodes) inputs node wires → (is_source (get_or nodes node it).kind ≡ true → AreWhole wire text) → (is_source (get_or nodes node it).kind ≡ false → wire ≡ get_or wires (edges + node) was)
-    → LoadedTo (cells nodes) inputs (node + 1) (slice_set wires (edges + node) wire)
+pub nodes_loaded_more : (nodes : List (Cell NodeKind)) (inputs : ℕ → List ℕ) (edges node : ℕ) (it : Cell NodeKind) (wires : List (List Piece)) (was wire : List Piece) (text : List ℕ)
+    → edges ≡ length (gives nodes) → node < length nodes → it ≡ get_or nodes node it → edges + node < length wires → was ≡ get_or wires (edges + node) was → text ≡ inputs node
+    → LoadedTo nodes inputs node wires → (is_source (get_or nodes node it).kind ≡ true → AreWhole wire text) → (is_source (get_or nodes node it).kind ≡ false → wire ≡ get_or wires (edges + node) was)
+    → LoadedTo nodes inputs (node + 1) (slice_set wires (edges + node) wire)
 nodes_loaded_more nodes inputs edges node it wires was wire text counted low it_is within was_is text_is before whole same =
-    let here : outer_edge (cells nodes) node ≡ edges + node = ap (λ (count : ℕ). count + node) (sym counted) in
-    let kind = ap (λ (found : Node). is_source found.kind) (sym it_is) in
-    subst (λ (edge : ℕ). LoadedTo (cells nodes) inputs (node + 1) (slice_set wires edge wire)) here
-    (loaded_more (cells nodes) inputs node (cell it) (cell_at nodes node it (slice_get_read nodes (length nodes) node it refl low it_is)) wires wire
+    let here : outer_edge nodes node ≡ edges + node = ap (λ (count : ℕ). count + node) (sym counted) in
+    let kind = ap (λ (found : Cell NodeKind). is_source found.kind) (sym it_is) in
+    subst (λ (edge : ℕ). LoadedTo nodes inputs (node + 1) (slice_set wires edge wire)) here
+    (loaded_more nodes inputs node it (slice_get_read nodes (length nodes) node it refl low it_is) wires wire
     (subst (λ (edge : ℕ). edge < length wires) (sym here) within) before
     (λ is. subst (λ (it : List ℕ). AreWhole wire it) text_is (whole (kind ∙ is)))
     (λ is. same (kind ∙ is) ∙ sym was_is ∙ wire_at wires (edges + node) was within was_is ∙ ap (waiting_on wires) (sym here)))
 
 -- all of a graph's
-pub nodes_loaded : (nodes : List Node) (inputs : ℕ → List ℕ) (node : ℕ) (wires : List (List Piece)) → length nodes ≤ node → LoadedTo (cells nodes) inputs node wires
-    → IsLoaded (cells nodes) inputs wires
+pub nodes_loaded : (nodes : List (Cell NodeKind)) (inputs : ℕ → List ℕ) (node : ℕ) (wires : List (List Piece)) → length nodes ≤ node → LoadedTo nodes inputs node wires
+    → IsLoaded nodes inputs wires
 nodes_loaded nodes inputs node wires all =
-    loaded_last (cells nodes) inputs node wires
+    loaded_last nodes inputs node wires
     (λ other found at_other.
-    let low = slice_get_within (cells nodes) other found at_other in
-    let size = length-map nodes cell in omega (arith, low, all, size))
+    let low = slice_get_within nodes other found at_other in omega (arith, low, all))

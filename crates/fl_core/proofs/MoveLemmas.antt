@@ -3,9 +3,11 @@ use Rattle.std.proofs.Common.{◌≡◌, ℕ, ◌+◌, ◌<◌, ◌≤◌, List,
 use Rattle.std.specs.List.{list_all, range_with_len, sum_by}
 use Rattle.std.proofs.lemmas.Bool.{and_parts, true≢false}
 use Rattle.std.proofs.lemmas.List.{length-take}
-use Rattle.fl_graph.specs.Net.{Cell, gives, takes}
+use Rattle.fl_graph.specs.Net.{gives, takes}
+use Rattle.fl_graph.specs.declared.graphs.Cell.{Cell}
 use Rattle.ps_lines.specs.Texts.{BeginsWith}
-use Rattle.fl_graph.specs.Runs.{text_of, State}
+use Rattle.fl_graph.specs.Machines.{State}
+use Rattle.fl_graph.specs.Runs.{text_of}
 use Rattle.fl_graph.specs.Valid.{Valid}
 use Rattle.fl_graph.specs.declared.graphs.StatusRule.{StatusRule}
 use Rattle.fl_graph.specs.declared.kinds.NodeKind.{NodeKind}
@@ -19,7 +21,7 @@ use Rattle.fl_core.specs.Laws.{is_clean, NetKeeps}
 use Rattle.fl_core.specs.Moves.{moves_at, most_moves, most_pieces, outer_texts}
 use Rattle.fl_core.specs.Plans.{outer_edge, AreTold}
 use Rattle.fl_core.specs.Runs.{Plan, Reached}
-use Rattle.fl_core.specs.Steps.{has_bytes, is_plain, waiting_on}
+use Rattle.fl_core.specs.Steps.{has_bytes, waiting_on}
 use Rattle.fl_core.specs.declared.nets.Ports.{Ports}
 use Rattle.fl_core.proofs.HaltLemmas.{reached_halts}
 use Rattle.fl_core.proofs.KeepLemmas.{at_unplaced, halted_keeps, unplaced}
@@ -33,23 +35,25 @@ has_some : (bytes : List ℕ) → has_bytes (piece.Bytes bytes) ≡ true → 1 �
 has_some [] none = absurd (true≢false (sym none))
 has_some (byte ∷ bytes) some = omega arith
 
--- each piece but the end has a byte, and nothing stands behind the end
-pieces-few : (pieces : List Piece) → is_clean pieces ≡ true → list_all is_plain pieces ≡ true → list_all has_bytes pieces ≡ true → length pieces ≤ most_pieces (text_of pieces)
-pieces-few [] clean plain sized = omega arith
-pieces-few (piece.Bytes bytes ∷ []) clean plain sized =
+-- each piece but the last has a byte or is a mark, and nothing stands behind what closes
+pieces-few : (pieces : List Piece) → is_clean pieces ≡ true → list_all has_bytes pieces ≡ true → length pieces ≤ most_pieces (text_of pieces)
+pieces-few [] clean sized = omega arith
+pieces-few (piece.Bytes bytes ∷ []) clean sized =
     let some = has_some bytes (and_parts (has_bytes (piece.Bytes bytes)) true sized).0 in
     let all = length-append bytes [] in
     omega (arith, some, all)
-pieces-few (piece.Bytes bytes ∷ next ∷ pieces) clean plain sized =
+pieces-few (piece.Bytes bytes ∷ next ∷ pieces) clean sized =
     let parts = and_parts (has_bytes (piece.Bytes bytes)) (list_all has_bytes (next ∷ pieces)) sized in
-    let rest = pieces-few (next ∷ pieces) clean plain parts.1 in
+    let rest = pieces-few (next ∷ pieces) clean parts.1 in
     let all = length-append bytes (text_of (next ∷ pieces)) in
     let some = has_some bytes parts.0 in
     omega (arith, rest, all, some)
-pieces-few (piece.Mark ∷ pieces) clean plain sized = absurd (true≢false (sym plain))
-pieces-few (piece.End ∷ []) clean plain sized = omega arith
-pieces-few (piece.End ∷ next ∷ pieces) clean plain sized = absurd (true≢false (sym clean))
-pieces-few (piece.Broken ∷ pieces) clean plain sized = absurd (true≢false (sym plain))
+pieces-few (piece.Mark ∷ []) clean sized = omega arith
+pieces-few (piece.Mark ∷ next ∷ pieces) clean sized = let rest = pieces-few (next ∷ pieces) clean sized in omega (arith, rest)
+pieces-few (piece.End ∷ []) clean sized = omega arith
+pieces-few (piece.End ∷ next ∷ pieces) clean sized = absurd (true≢false (sym clean))
+pieces-few (piece.Broken ∷ []) clean sized = omega arith
+pieces-few (piece.Broken ∷ next ∷ pieces) clean sized = absurd (true≢false (sym clean))
 
 -- a text that begins so is as long
 begins-length : (text front : List ℕ) → BeginsWith text front → length front ≤ length text
@@ -62,7 +66,7 @@ some_text : (one other : List ℕ) → Some one ≡ Some other → one ≡ other
 some_text one other is = cc
 
 module _ {Machine : Type 0} (state : Machine → State) (cells : List (Cell NodeKind)) (status : StatusRule) (valid : Valid cells status) (inputs : ℕ → List ℕ)
-    (moves : ℕ) (ports : List Ports) (machines : List Machine) (wires : List (List Piece)) (runs : RunsOver state cells inputs moves ports machines wires)
+    (moves : ℕ) (failed : ℕ → Bool) (ports : List Ports) (machines : List Machine) (wires : List (List Piece)) (runs : RunsOver state cells inputs moves failed ports machines wires)
     (sources : List (List ℕ)) (told : AreTold sources cells (λ node. Some (inputs node))) where
   abbrev plan : Plan
   plan = runs.goes.plan
@@ -79,7 +83,7 @@ module _ {Machine : Type 0} (state : Machine → State) (cells : List (Cell Node
   -- what was put on an edge that carries a front of a text
   put_few : (edge : ℕ) (text : List ℕ) → BeginsWith text (text_of (reached.put edge)) → length (reached.put edge) ≤ most_pieces text
   put_few edge text begins =
-      let few = pieces-few (reached.put edge) (reached.clean edge) (reached.plain edge) (reached.sized edge) in
+      let few = pieces-few (reached.put edge) (reached.clean edge) (reached.sized edge) in
       let front = begins-length text (text_of (reached.put edge)) begins in
       omega (arith, few, front)
 
@@ -128,7 +132,7 @@ module _ {Machine : Type 0} (state : Machine → State) (cells : List (Cell Node
         some_text (get_or sources cell.kind.0 []) (text_of (reached.put (outer_edge cells node)) ++ [])
         (sym (runs.told node ∙ told node cell at_node is) ∙ reached.read node (outer_edge cells node) (runs.planned.reads node (unplaced cell) at_cell ∙ is) outer) in
         let whole = read ∙ append-nil (text_of (reached.put (outer_edge cells node))) in
-        let few = pieces-few (reached.put (outer_edge cells node)) (reached.clean (outer_edge cells node)) (reached.plain (outer_edge cells node)) (reached.sized (outer_edge cells node)) in
+        let few = pieces-few (reached.put (outer_edge cells node)) (reached.clean (outer_edge cells node)) (reached.sized (outer_edge cells node)) in
         let same = ap (λ (text : List ℕ). length text) whole in
         let less = took_few (outer_edge cells node) in
         subst (λ (edges : List ℕ). sum_by (λ (edge : ℕ). length (reached.took edge)) edges ≤ most_pieces (get_or sources cell.kind.0 [])) (sym outer)
@@ -137,7 +141,7 @@ module _ {Machine : Type 0} (state : Machine → State) (cells : List (Cell Node
     outer_given : is_sink cell.kind.1 ≡ true → sum_by (λ (edge : ℕ). length (reached.put edge)) (plan.outs node) ≤ most_pieces (only (map (flow cells sources) cell.ins))
     outer_given is =
         let few = put_few (outer_edge cells node) (only (map (flow cells sources) cell.ins))
-        (put_carries state cells status valid inputs moves ports machines wires runs sources told node (unplaced cell) at_cell is).front in
+        (put_carries state cells status valid inputs moves failed ports machines wires runs sources told node (unplaced cell) at_cell is).front in
         subst (λ (edges : List ℕ). sum_by (λ (edge : ℕ). length (reached.put edge)) edges ≤ most_pieces (only (map (flow cells sources) cell.ins)))
         (sym (sink_edge cells status plan valid runs.planned node (unplaced cell) at_cell is))
         (omega (arith, few))

@@ -4,9 +4,8 @@ use Rattle.std.specs.List.{count_by, flat_map}
 use Rattle.std.specs.Option.{option_and_then}
 use Rattle.std.proofs.lemmas.Bool.{true≢false}
 use Rattle.std.proofs.lemmas.Grind.{flat_map-append}
-use Rattle.fl_graph.specs.Cells.{cells}
 use Rattle.fl_graph.specs.Kinds.{is_output}
-use Rattle.fl_graph.specs.Net.{Cell}
+use Rattle.fl_graph.specs.declared.graphs.Cell.{Cell}
 use Rattle.fl_graph.specs.Valid.{Valid}
 use Rattle.fl_graph.specs.declared.graphs.Graph.{Graph}
 use Rattle.fl_graph.specs.declared.kinds.NodeKind.{NodeKind}
@@ -113,33 +112,33 @@ module _ {R W I O : Type 0} where
 
   -- the output grows by what the graph leaves there, as each sink's end does by its text
   module _ (grows : Option (List ℕ) → Option (List ℕ) → List ℕ → Type 0) (nothing : (told : Option (List ℕ)) → grows told told []) where
-    pub output_grows : (graph : Graph) → Valid (cells graph.nodes.items) graph.status → (ends ends' : Ends R W I O) → KeepsOthers (cells graph.nodes.items) ends ends'
+    pub output_grows : (graph : Graph) → Valid graph.nodes graph.status → (ends ends' : Ends R W I O) → KeepsOthers graph.nodes ends ends'
         → (of_writer : W → Option (List ℕ)) (of_output : O → Option (List ℕ)) (sources : List (List ℕ))
-        → ((node : ℕ) (cell : Cell NodeKind) → slice_get (cells graph.nodes.items) node ≡ Some cell → is_sink cell.kind ≡ true
-        → grows (taken_at of_writer of_output (cells graph.nodes.items) ends node) (taken_at of_writer of_output (cells graph.nodes.items) ends' node)
-        (only (map (flow (cells graph.nodes.items) sources) cell.ins)))
+        → ((node : ℕ) (cell : Cell NodeKind) → slice_get graph.nodes node ≡ Some cell → is_sink cell.kind ≡ true
+        → grows (taken_at of_writer of_output graph.nodes ends node) (taken_at of_writer of_output graph.nodes ends' node)
+        (only (map (flow graph.nodes sources) cell.ins)))
         → grows (of_output ends.out) (of_output ends'.out) (outcome graph sources).output
-    output_grows graph valid ends ends' keeps of_writer of_output sources grown = by_node (sought (λ (cell : Cell NodeKind). is_output cell.kind) (cells graph.nodes.items))
+    output_grows graph valid ends ends' keeps of_writer of_output sources grown = by_node (sought (λ (cell : Cell NodeKind). is_output cell.kind) graph.nodes)
       where
-        output_is : (outcome graph sources).output ≡ flat_map to_output (flat_map (told (flow (cells graph.nodes.items) sources)) (cells graph.nodes.items))
-        output_is = ap (λ (list : List Write). flat_map to_output list) (writes_of_the_flow (cells graph.nodes.items) graph.status valid sources)
+        output_is : (outcome graph sources).output ≡ flat_map to_output (flat_map (told (flow graph.nodes sources)) graph.nodes)
+        output_is = ap (λ (list : List Write). flat_map to_output list) (writes_of_the_flow graph.nodes graph.status valid sources)
 
-        at_out : (ends : Ends R W I O) (node : ℕ) (cell : Cell NodeKind) → slice_get (cells graph.nodes.items) node ≡ Some cell → is_output cell.kind ≡ true
-            → taken_at of_writer of_output (cells graph.nodes.items) ends node ≡ of_output ends.out
+        at_out : (ends : Ends R W I O) (node : ℕ) (cell : Cell NodeKind) → slice_get graph.nodes node ≡ Some cell → is_output cell.kind ≡ true
+            → taken_at of_writer of_output graph.nodes ends node ≡ of_output ends.out
         at_out ends node cell at is =
             ap (taken_by of_writer of_output)
             (ap (option_and_then (λ (cell : Cell NodeKind). own_end cell.kind node ends)) at ∙ out_end cell.kind node ends is)
 
-        by_node : ((node : ℕ) × ((cell : Cell NodeKind) × ((slice_get (cells graph.nodes.items) node ≡ Some cell) × (is_output cell.kind ≡ true))))
-            ⊎ ((node : ℕ) (cell : Cell NodeKind) → slice_get (cells graph.nodes.items) node ≡ Some cell → is_output cell.kind ≡ false)
+        by_node : ((node : ℕ) × ((cell : Cell NodeKind) × ((slice_get graph.nodes node ≡ Some cell) × (is_output cell.kind ≡ true))))
+            ⊎ ((node : ℕ) (cell : Cell NodeKind) → slice_get graph.nodes node ≡ Some cell → is_output cell.kind ≡ false)
             → grows (of_output ends.out) (of_output ends'.out) (outcome graph sources).output
         by_node (inl found) =
             let node = found.0 in let cell = found.1.0 in let at = found.1.1.0 in let is = found.1.1.1 in
             subst (grows (of_output ends.out) (of_output ends'.out))
-            (sym (output_is ∙ heard_once (flow (cells graph.nodes.items) sources) (cells graph.nodes.items) valid.ends.output node cell at is))
-            (subst (λ (told : Option (List ℕ)). grows told (of_output ends'.out) (only (map (flow (cells graph.nodes.items) sources) cell.ins))) (at_out ends node cell at is)
-            (subst (λ (told : Option (List ℕ)). grows (taken_at of_writer of_output (cells graph.nodes.items) ends node) told (only (map (flow (cells graph.nodes.items) sources) cell.ins))) (at_out ends' node cell at is)
+            (sym (output_is ∙ heard_once (flow graph.nodes sources) graph.nodes valid.ends.output node cell at is))
+            (subst (λ (told : Option (List ℕ)). grows told (of_output ends'.out) (only (map (flow graph.nodes sources) cell.ins))) (at_out ends node cell at is)
+            (subst (λ (told : Option (List ℕ)). grows (taken_at of_writer of_output graph.nodes ends node) told (only (map (flow graph.nodes sources) cell.ins))) (at_out ends' node cell at is)
             (grown node cell at (out_sink cell.kind is))))
         by_node (inr none) =
-            subst (grows (of_output ends.out) (of_output ends'.out)) (sym (output_is ∙ silent (flow (cells graph.nodes.items) sources) (cells graph.nodes.items) none))
+            subst (grows (of_output ends.out) (of_output ends'.out)) (sym (output_is ∙ silent (flow graph.nodes sources) graph.nodes none))
             (subst (λ (told : Option (List ℕ)). grows (of_output ends.out) told []) (ap of_output (sym (keeps.out none))) (nothing (of_output ends.out)))

@@ -4,7 +4,8 @@ use Rattle.std.proofs.lemmas.Bool.{true≢false, eqb-true}
 use Rattle.ps_world.specs.Told.{then_bytes, GrewByPrefix}
 use Rattle.ps_world.proofs.ToldLemmas.{then_bytes-append, grew_by_whole, grew_by_front, grew_by_more}
 use Rattle.fl_graph.specs.Net.{has}
-use Rattle.fl_graph.specs.Runs.{text_of, add, State, Run}
+use Rattle.fl_graph.specs.Machines.{State}
+use Rattle.fl_graph.specs.Runs.{text_of, add, Run}
 use Rattle.fl_graph.specs.declared.pieces.Piece.{Piece}
 use Rattle.fl_core.specs.Laws.{at_ports, Keeps}
 use Rattle.fl_core.specs.Steps.{waiting_on, SameBut}
@@ -48,10 +49,10 @@ module _ {Machine : Type 0} (state : Machine → State) (plan : Plan) (wired : I
     plain = reached.plain;
     sized = reached.sized;
     runs = λ other now at.
-        subst (λ (pieces : ℕ → List Piece). Run (plan.starts other) (state now) pieces (at_ports (plan.outs other) reached.put))
+        subst (λ (pieces : ℕ → List Piece). Run (plan.starts other) (state now) pieces (at_ports (plan.outs other) reached.put) (plan.failed other))
         (sym (at_ports-elsewhere (plan.ins other) edge first reached.took (wired.to_outside node other edge writes (only_has edge (plan.outs node) is))))
         (reached.runs other now at);
-    whole = reached.whole;
+    sound = reached.sound;
     read = reached.read;
     ended = reached.ended;
     written = λ other out other_writes at. told other out other_writes at (other == node) refl;

@@ -4,6 +4,7 @@ use Rattle.std.proofs.lemmas.Bool.{true≢false}
 use Rattle.std.proofs.lemmas.List.{take-append-drop}
 use Rattle.std.proofs.Math.Seq.{take-append_seam}
 use Rattle.ps_lines.specs.Texts.{BeginsWith}
+use Rattle.fl_graph.specs.Machines.{mark}
 use Rattle.fl_graph.specs.Runs.{text_of, has_end, completed}
 use Rattle.fl_graph.specs.declared.pieces.Piece.{Piece}
 use Rattle.fl_graph.specs.declared.pieces.Piece.TheVariants as piece
@@ -12,7 +13,7 @@ use Rattle.fl_core.specs.Laws.{Carries, is_clean}
 pub text_of-append : (front back : List Piece) → text_of (front ++ back) ≡ text_of front ++ text_of back
 text_of-append [] back = refl
 text_of-append (piece.Bytes bytes ∷ front) back = ap (λ (text : List ℕ). bytes ++ text) (text_of-append front back) ∙ sym (append_assoc bytes (text_of front) (text_of back))
-text_of-append (piece.Mark ∷ front) back = text_of-append front back
+text_of-append (piece.Mark ∷ front) back = ap (λ (text : List ℕ). mark ∷ text) (text_of-append front back)
 text_of-append (piece.End ∷ front) back = text_of-append front back
 text_of-append (piece.Broken ∷ front) back = text_of-append front back
 
@@ -20,7 +21,7 @@ text_of-append (piece.Broken ∷ front) back = text_of-append front back
 completed-open : (pieces : List Piece) (rest : List ℕ) → has_end pieces ≡ false → completed pieces rest ≡ text_of pieces ++ rest
 completed-open [] rest none = refl
 completed-open (piece.Bytes bytes ∷ pieces) rest none = ap (λ (text : List ℕ). bytes ++ text) (completed-open pieces rest none) ∙ sym (append_assoc bytes (text_of pieces) rest)
-completed-open (piece.Mark ∷ pieces) rest none = completed-open pieces rest none
+completed-open (piece.Mark ∷ pieces) rest none = ap (λ (text : List ℕ). mark ∷ text) (completed-open pieces rest none)
 completed-open (piece.End ∷ pieces) rest none = absurd (true≢false none)
 completed-open (piece.Broken ∷ pieces) rest none = completed-open pieces rest none
 
@@ -32,7 +33,7 @@ completed-ended (piece.Mark ∷ []) rest clean ended = absurd (true≢false (sym
 completed-ended (piece.End ∷ []) rest clean ended = refl
 completed-ended (piece.Broken ∷ []) rest clean ended = absurd (true≢false (sym ended))
 completed-ended (piece.Bytes bytes ∷ next ∷ pieces) rest clean ended = ap (λ (text : List ℕ). bytes ++ text) (completed-ended (next ∷ pieces) rest clean ended)
-completed-ended (piece.Mark ∷ next ∷ pieces) rest clean ended = completed-ended (next ∷ pieces) rest clean ended
+completed-ended (piece.Mark ∷ next ∷ pieces) rest clean ended = ap (λ (text : List ℕ). mark ∷ text) (completed-ended (next ∷ pieces) rest clean ended)
 completed-ended (piece.End ∷ next ∷ pieces) rest clean ended = absurd (true≢false (sym clean))
 completed-ended (piece.Broken ∷ next ∷ pieces) rest clean ended = absurd (true≢false (sym clean))
 

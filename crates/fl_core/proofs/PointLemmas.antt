@@ -1,7 +1,7 @@
 -- One stretch of a run behind another.
 use Rattle.std.proofs.Common.{◌≡◌, ℕ, List, length, slice_get, ◌≤◌, Option, Result, Ok, Err, refl, ap, sym, subst, ◌∙◌}
 use Rattle.ps_world.specs.Counts.{Rose}
-use Rattle.fl_graph.specs.Runs.{State}
+use Rattle.fl_graph.specs.Machines.{State}
 use Rattle.fl_core.specs.Causes.{Causes}
 use Rattle.fl_core.specs.Runs.{AreDrained, Follows, Leads, Halts, Goes}
 use Rattle.fl_core.specs.Points.{Point, IsUnderWay, Advances, HaltsFrom}

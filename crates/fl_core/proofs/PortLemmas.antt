@@ -4,7 +4,8 @@ use Rattle.std.specs.List.{flat_map}
 use Rattle.std.proofs.lemmas.Bool.{or_parts, or_left, or_right, eqb-true, ne_eqb}
 use Rattle.std.proofs.Math.Dec.{eqb-suc-suc}
 use mathlib.Core.Path.{fun_ext}
-use Rattle.fl_graph.specs.Net.{Cell, has, count, takes}
+use Rattle.fl_graph.specs.Net.{has, count, takes}
+use Rattle.fl_graph.specs.declared.graphs.Cell.{Cell}
 use Rattle.fl_graph.specs.Runs.{add}
 use Rattle.fl_graph.specs.Valid.{Valid}
 use Rattle.fl_graph.specs.declared.graphs.StatusRule.{StatusRule}

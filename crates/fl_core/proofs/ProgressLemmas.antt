@@ -5,9 +5,10 @@ use Rattle.std.proofs.lemmas.Bool.{and_parts, true≢false, lt-ltb, leb-true, eq
 use Rattle.std.proofs.lemmas.List.Folds.{list_any-append}
 use Rattle.std.proofs.lemmas.Option.{slice_get_within, get_or_from_slice_get}
 use Rattle.fl_graph.specs.Checks.{each_after, takes_given}
-use Rattle.fl_graph.specs.Machines.{closes, MayDo}
-use Rattle.fl_graph.specs.Net.{Cell, has, gives}
-use Rattle.fl_graph.specs.Runs.{are_closed, State}
+use Rattle.fl_graph.specs.Machines.{MayDo, State, closes}
+use Rattle.fl_graph.specs.Net.{has, gives}
+use Rattle.fl_graph.specs.declared.graphs.Cell.{Cell}
+use Rattle.fl_graph.specs.Runs.{are_closed}
 use Rattle.fl_graph.specs.Valid.{Valid}
 use Rattle.fl_graph.specs.declared.graphs.StatusRule.{StatusRule}
 use Rattle.fl_graph.specs.declared.kinds.NodeKind.{NodeKind}
@@ -153,12 +154,12 @@ shut_now now true true is shut opened = refl
 shut_now now true false is shut opened = absurd (true≢false (sym is ∙ shut))
 shut_now now false closed is shut opened = absurd (true≢false (sym opened))
 
-module _ {Machine : Type 0} (state : Machine → State) (act : Machine → Act) (cells : List (Cell NodeKind)) (status : StatusRule) (valid : Valid cells status)
+module _ {Machine : Type 0} (state : Machine → State) (cells : List (Cell NodeKind)) (status : StatusRule) (valid : Valid cells status)
     (plan : Plan) (planned : IsPlanOf cells plan) (wired : IsWired plan) (ports : List Ports) (machines : List Machine) (rooms : List (Option ℕ)) (wires : List (List Piece))
     (left taken : ℕ → Option (List ℕ)) (follows : Follows plan ports (length wires)) (reached : Reached state plan machines wires left taken)
     (all_ports : length ports ≡ length cells) (all_machines : length machines ≡ length cells)
     (cap : Option ℕ) (has_rooms : HasRooms cells cap rooms) (some_room : IfSome cap (λ room. 1 ≤ room))
-    (stuck : IsStuck (λ machine. (state machine).takes) (λ machine. (state machine).puts) act ports machines rooms wires) where
+    (stuck : IsStuck state ports machines rooms wires) where
   -- a node, with its machine and its ports
   record Stands (node : ℕ) (cell : Cell NodeKind) : Type 0 where
     at_node : slice_get cells node ≡ Some cell
@@ -182,11 +183,11 @@ module _ {Machine : Type 0} (state : Machine → State) (act : Machine → Act) 
     outs_are = follows.outs node here.own here.at_own
 
     -- what its machine does next is what it may, and moves nothing
-    halts_at : (next_act : Act) → act here.machine ≡ next_act → is_stuck (progress_at next_act here.own.ins.items here.own.outs.items rooms wires) here.own.reads ≡ true
+    halts_at : (next_act : Act) → (state here.machine).act ≡ next_act → is_stuck (progress_at next_act here.own.ins.items here.own.outs.items rooms wires) here.own.reads ≡ true
     halts_at next_act is = subst (λ (it : Act). is_stuck (progress_at it here.own.ins.items here.own.outs.items rooms wires) here.own.reads ≡ true) is ((stuck.each node).moves_none here.machine here.own here.at_machine here.at_own)
 
-    may_do : (next_act : Act) → act here.machine ≡ next_act → MayDo (state here.machine).takes (state here.machine).puts next_act
-    may_do next_act is = subst (λ (it : Act). MayDo (state here.machine).takes (state here.machine).puts it) is ((stuck.each node).may here.machine here.at_machine)
+    may_do : (next_act : Act) → (state here.machine).act ≡ next_act → MayDo (state here.machine) next_act
+    may_do next_act is = subst (λ (it : Act). MayDo (state here.machine) it) is ((stuck.each node).may here.machine here.at_machine)
 
     -- an in that is open is an in of the node, and nothing has closed it
     record OpenIn (port : ℕ) : Type 0 where
@@ -266,7 +267,7 @@ module _ {Machine : Type 0} (state : Machine → State) (act : Machine → Act) 
       by_sole false is at_cap = absurd (true≢false (sym at_cap))
 
   -- no node waits: the one behind the full edge would have to wait too, and so on to the last
-  never_waits : (fuel node : ℕ) (cell : Cell NodeKind) (here : Stands node cell) (port : ℕ) → length cells ≤ node + fuel → act here.machine ≡ doing.Put port → ⊥
+  never_waits : (fuel node : ℕ) (cell : Cell NodeKind) (here : Stands node cell) (port : ℕ) → length cells ≤ node + fuel → (state here.machine).act ≡ doing.Put port → ⊥
   never_waits zero node cell here port enough is =
       let within = slice_get_within cells node cell here.at_node in omega (arith, within, enough)
   never_waits (suc fuel) node cell here port enough is =
@@ -277,8 +278,8 @@ module _ {Machine : Type 0} (state : Machine → State) (act : Machine → Act) 
       behind edge (stands-has (plan.outs node) port edge out.1) (full_edge edge full).0 (full_edge edge full).1 (never_waits fuel)
     where
       behind : (edge : ℕ) → has edge (plan.outs node) ≡ true → TakesAlone cells edge → is_empty (waiting_on wires edge) ≡ false
-          → ((node : ℕ) (cell : Cell NodeKind) (here : Stands node cell) (port : ℕ) → length cells ≤ node + fuel → act here.machine ≡ doing.Put port → ⊥) → ⊥
-      behind edge gives taker some go_on = by_act (act next.machine) refl
+          → ((node : ℕ) (cell : Cell NodeKind) (here : Stands node cell) (port : ℕ) → length cells ≤ node + fuel → (state here.machine).act ≡ doing.Put port → ⊥) → ⊥
+      behind edge gives taker some go_on = by_act (state next.machine).act refl
         where
           next : Stands taker.node taker.cell
           next = stand taker.node taker.cell taker.at_node
@@ -305,7 +306,7 @@ module _ {Machine : Type 0} (state : Machine → State) (act : Machine → Act) 
               ∙ ap (λ (test : Bool). nat_lt 0 (if test then 1 else length taker.cell.ins)) (no_source taker.node taker.cell edge taker.at_node takes)
               ∙ ap (λ (edges : List ℕ). nat_lt 0 (length edges)) taker.alone
 
-          by_act : (next_act : Act) → act next.machine ≡ next_act → ⊥
+          by_act : (next_act : Act) → (state next.machine).act ≡ next_act → ⊥
           by_act (doing.Take port') is' =
               let in_ = open_in next port' (may_do next (doing.Take port') is') in
               let same : in_.edge ≡ edge = only_port port' in_.edge (ap (λ (edges : List ℕ). slice_get edges port') (sym sole) ∙ in_.stands) in
@@ -319,7 +320,7 @@ module _ {Machine : Type 0} (state : Machine → State) (act : Machine → Act) 
               true≢false (sym (ap is_empty none) ∙ some)
 
   -- no node starves: the one that gives it the edge would have to starve too, and so on to the first
-  never_starves : (bound node : ℕ) (cell : Cell NodeKind) (here : Stands node cell) (port : ℕ) → node < bound → act here.machine ≡ doing.Take port → ⊥
+  never_starves : (bound node : ℕ) (cell : Cell NodeKind) (here : Stands node cell) (port : ℕ) → node < bound → (state here.machine).act ≡ doing.Take port → ⊥
   never_starves zero node cell here port low is = omega (arith, low)
   never_starves (suc bound) node cell here port low is =
       let in_ = open_in here port (may_do here (doing.Take port) is) in
@@ -331,8 +332,8 @@ module _ {Machine : Type 0} (state : Machine → State) (act : Machine → Act) 
       before in_.edge (giver node cell in_.edge here.at_node takes) (none_waits (waiting_on wires in_.edge) told.0) in_.unclosed (never_starves bound)
     where
       before : (edge : ℕ) → GivesBefore cells edge node → waiting_on wires edge ≡ [] → are_closed (reached.took edge) ≡ false
-          → ((node : ℕ) (cell : Cell NodeKind) (here : Stands node cell) (port : ℕ) → node < bound → act here.machine ≡ doing.Take port → ⊥) → ⊥
-      before edge found none unclosed go_on = by_act (act next.machine) refl
+          → ((node : ℕ) (cell : Cell NodeKind) (here : Stands node cell) (port : ℕ) → node < bound → (state here.machine).act ≡ doing.Take port → ⊥) → ⊥
+      before edge found none unclosed go_on = by_act (state next.machine).act refl
         where
           next : Stands found.node found.cell
           next = stand found.node found.cell found.at_node
@@ -352,7 +353,7 @@ module _ {Machine : Type 0} (state : Machine → State) (act : Machine → Act) 
               ∙ ap (λ (test : Bool). nat_lt own.0 (if test then 1 else length found.cell.outs)) (no_sink found.node found.cell edge found.at_node found.among_outs)
               ∙ lt-ltb own.0 (length found.cell.outs) (slice_get_within found.cell.outs own.0 edge own.1)
 
-          by_act : (next_act : Act) → act next.machine ≡ next_act → ⊥
+          by_act : (next_act : Act) → (state next.machine).act ≡ next_act → ⊥
           by_act (doing.Take port') is' = let lower = found.before in go_on found.node found.cell next port' (omega (arith, lower, low)) is'
           by_act (doing.Put port') is' = never_waits (length cells) found.node found.cell next port' (omega arith) is'
           by_act doing.Stop is' =
@@ -375,11 +376,11 @@ module _ {Machine : Type 0} (state : Machine → State) (act : Machine → Act) 
       at_own = (stand node its_cell.0 its_cell.1).at_own;
     }
 
-    pub never_stuck : act machine ≡ doing.Stop
+    pub never_stuck : (state machine).act ≡ doing.Stop
     unfolding its_stand
-    never_stuck = by_act (act its_stand.machine) refl
+    never_stuck = by_act (state its_stand.machine).act refl
       where
-        by_act : (next_act : Act) → act its_stand.machine ≡ next_act → act machine ≡ doing.Stop
+        by_act : (next_act : Act) → (state its_stand.machine).act ≡ next_act → (state machine).act ≡ doing.Stop
         by_act (doing.Take port) is = absurd (never_starves (suc node) node its_cell.0 its_stand port (omega arith) is)
         by_act (doing.Put port) is = absurd (never_waits (length cells) node its_cell.0 its_stand port (omega arith) is)
         by_act doing.Stop is = is
@@ -390,9 +391,9 @@ module _ {Machine : Type 0} (state : Machine → State) (act : Machine → Act) 
     shut_when_stuck = may_do its_stand doing.Stop never_stuck
 
 -- in a network over texts no source starves, so it is stuck where no step moves a piece
-module _ {Machine : Type 0} (state : Machine → State) (act : Machine → Act) (cells : List (Cell NodeKind)) (status : StatusRule) (valid : Valid cells status) (inputs : ℕ → List ℕ)
-    (moves : ℕ) (ports : List Ports) (machines : List Machine) (rooms : List (Option ℕ)) (wires : List (List Piece)) (runs : RunsOver state cells inputs moves ports machines wires)
-    (still : IsStill (λ machine. (state machine).takes) (λ machine. (state machine).puts) act ports machines rooms wires) where
+module _ {Machine : Type 0} (state : Machine → State) (cells : List (Cell NodeKind)) (status : StatusRule) (valid : Valid cells status) (inputs : ℕ → List ℕ)
+    (moves : ℕ) (failed : ℕ → Bool) (ports : List Ports) (machines : List Machine) (rooms : List (Option ℕ)) (wires : List (List Piece)) (runs : RunsOver state cells inputs moves failed ports machines wires)
+    (still : IsStill state ports machines rooms wires) where
   module _ (node : ℕ) (machine : Machine) (own : Ports) (at : slice_get machines node ≡ Some machine) (at_own : slice_get ports node ≡ Some own) where
     -- a node that would take from an edge on which nothing waits is no source
     is_inside : (port : ℕ) → (state machine).takes port ≡ true → is_empty (waiting_on wires (get_or own.ins.items port 0)) ≡ true → own.reads ≡ false
@@ -419,8 +420,8 @@ module _ {Machine : Type 0} (state : Machine → State) (act : Machine → Act) 
         by_test true is = absurd (sourced (source_at cells status runs.goes.plan valid runs.planned node (runs.goes.follows.reads node own at_own ∙ is)))
         by_test false is = refl
 
-    stuck_here : is_stuck (progress_at (act machine) own.ins.items own.outs.items rooms wires) own.reads ≡ true
-    stuck_here = by_act (act machine) (still.may node machine at) (still.moves_none node machine own at at_own)
+    stuck_here : is_stuck (progress_at (state machine).act own.ins.items own.outs.items rooms wires) own.reads ≡ true
+    stuck_here = by_act (state machine).act (still.may node machine at) (still.moves_none node machine own at at_own)
       where
         starves : (empty reads : Bool) → has_moved (if empty then progress.Starves else progress.Took) ≡ false → (empty ≡ true → reads ≡ false)
             → is_stuck (if empty then progress.Starves else progress.Took) reads ≡ true
@@ -431,7 +432,7 @@ module _ {Machine : Type 0} (state : Machine → State) (act : Machine → Act) 
         waits true reads rests = refl
         waits false reads rests = absurd (true≢false rests)
 
-        by_act : (next_act : Act) → MayDo (state machine).takes (state machine).puts next_act → has_moved (progress_at next_act own.ins.items own.outs.items rooms wires) ≡ false
+        by_act : (next_act : Act) → MayDo (state machine) next_act → has_moved (progress_at next_act own.ins.items own.outs.items rooms wires) ≡ false
             → is_stuck (progress_at next_act own.ins.items own.outs.items rooms wires) own.reads ≡ true
         by_act (doing.Take port) may rests = starves (is_empty (waiting_on wires (get_or own.ins.items port 0))) own.reads rests (is_inside port may)
         by_act (doing.Put port) may rests = waits (is_full (room_on rooms (get_or own.outs.items port 0)) (waiting_on wires (get_or own.outs.items port 0))) own.reads rests
@@ -439,8 +440,8 @@ module _ {Machine : Type 0} (state : Machine → State) (act : Machine → Act) 
 
   -- so each machine has stopped
   pub still_stops : length ports ≡ length cells → (cap : Option ℕ) → HasRooms cells cap rooms → IfSome cap (λ room. 1 ≤ room)
-      → (node : ℕ) (machine : Machine) → slice_get machines node ≡ Some machine → act machine ≡ doing.Stop
+      → (node : ℕ) (machine : Machine) → slice_get machines node ≡ Some machine → (state machine).act ≡ doing.Stop
   still_stops all_ports cap has_rooms some_room =
-      never_stuck state act cells status valid runs.goes.plan runs.planned runs.goes.wired ports machines rooms wires (λ node. Some []) (λ node. Some []) runs.goes.follows runs.goes.reached
+      never_stuck state cells status valid runs.goes.plan runs.planned runs.goes.wired ports machines rooms wires (λ node. Some []) (λ node. Some []) runs.goes.follows runs.goes.reached
       all_ports runs.counted cap has_rooms some_room
       (record { each = λ node. record { moves_none = λ machine own at at_own. stuck_here node machine own at at_own; may = λ machine at. still.may node machine at } })

@@ -5,15 +5,16 @@ use Rattle.std.proofs.lemmas.Bool.{and_parts, and_from, or_parts, or_left, true�
 use Rattle.std.proofs.lemmas.List.Folds.{list_all-append}
 use Rattle.ps_world.specs.Told.{then_bytes, bytes_then, IsEnded}
 use Rattle.ps_world.proofs.ToldLemmas.{bytes_then-append}
-use Rattle.fl_graph.specs.Machines.{closes}
+use Rattle.fl_graph.specs.Machines.{State, closes, is_broken}
 use Rattle.fl_graph.specs.Net.{has}
-use Rattle.fl_graph.specs.Runs.{text_of, is_end, has_end, are_closed, add, State, Run}
+use Rattle.fl_graph.specs.Runs.{text_of, is_end, has_broken, has_end, are_closed, add, Run}
 use Rattle.fl_graph.specs.declared.pieces.Piece.{Piece}
 use Rattle.fl_graph.specs.declared.pieces.Piece.TheVariants as piece
+use Rattle.fl_graph.proofs.StateLemmas.{none_broken}
 use Rattle.fl_core.specs.Laws.{is_clean, at_ports}
 use Rattle.fl_core.specs.Moves.{moves_of}
-use Rattle.fl_core.specs.Steps.{has_bytes, is_plain, waiting_on, SameBut, Took, Gave, Starves}
-use Rattle.fl_core.specs.Runs.{Plan, IsWired, Reached}
+use Rattle.fl_core.specs.Steps.{has_bytes, is_plain, waiting_on, SameBut, Took, Gave, Broke, Starves}
+use Rattle.fl_core.specs.Runs.{Plan, IsUnbroken, IsWired, Reached}
 use Rattle.fl_core.proofs.PieceLemmas.{text_of-append}
 use Rattle.fl_core.proofs.PortLemmas.{stands-has, at_ports-stands, at_ports-add, at_ports-elsewhere}
 use Rattle.fl_core.proofs.SumLemmas.{moves-took, moves-put}
@@ -60,6 +61,11 @@ has_end-last (first ∷ pieces) last none ended =
     let parts = or_parts (is_end first) (has_end pieces) none in
     has_end-last pieces last parts.1 (sym (ap (λ (test : Bool). test || has_end (pieces ++ last ∷ [])) parts.0) ∙ ended)
 
+-- a piece between others is no break where none of them is
+broken_within : (front : List Piece) (piece : Piece) (back : List Piece) → has_broken (front ++ piece ∷ back) ≡ false → is_broken piece ≡ false
+broken_within [] piece back none = (or_parts (is_broken piece) (has_broken back) none).0
+broken_within (first ∷ front) piece back none = broken_within front piece back (or_parts (is_broken first) (has_broken (front ++ piece ∷ back)) none).1
+
 -- an edge that one list has and another hasn't isn't the one that the other has
 differs : (edge other : ℕ) (edges : List ℕ) → has other edges ≡ true → has edge edges ≡ false → (edge == other) ≡ false
 differs edge other edges there absent = by_test (edge == other) refl
@@ -95,9 +101,9 @@ module _ {Machine : Type 0} (state : Machine → State) (plan : Plan) (wired : I
 
   -- a machine took a piece
   pub reached_took : (machines machines' : List Machine) (wires wires' : List (List Piece)) (left taken : ℕ → Option (List ℕ)) (node : ℕ) (machine machine' : Machine)
-      → Replaced machines machines' node machine machine' → Took (state machine) (state machine') (plan.ins node) wires wires'
+      (refused : Bool) → (refused ≡ true → plan.failed node ≡ true) → Replaced machines machines' node machine machine' → Took (state machine) (state machine') (plan.ins node) refused wires wires'
       → Reached state plan machines wires left taken → Reached state plan machines' wires' left taken
-  reached_took machines machines' wires wires' left taken node machine machine' replaced took reached = record {
+  reached_took machines machines' wires wires' left taken node machine machine' refused marks replaced took reached = record {
     took = add edge first reached.took;
     put = reached.put;
     queued = λ other. queue other (other == edge) refl;
@@ -105,7 +111,7 @@ module _ {Machine : Type 0} (state : Machine → State) (plan : Plan) (wired : I
     plain = reached.plain;
     sized = reached.sized;
     runs = λ other now is. run other now is (other == node) refl;
-    whole = λ other now is. still other now is (other == node) refl;
+    sound = unbroken;
     read = reached.read;
     ended = reached.ended;
     written = λ other out writes is. reached.written other out writes is
@@ -130,25 +136,41 @@ module _ {Machine : Type 0} (state : Machine → State) (plan : Plan) (wired : I
       queue other false is = reached.queued other ∙ ap (λ (pieces : List Piece). reached.took other ++ pieces) (sym (took.others other is))
 
       run : (other : ℕ) (now : Machine) → slice_get machines' other ≡ Some now → (here : Bool) → (other == node) ≡ here
-          → Run (plan.starts other) (state now) (at_ports (plan.ins other) (add edge first reached.took)) (at_ports (plan.outs other) reached.put)
+          → Run (plan.starts other) (state now) (at_ports (plan.ins other) (add edge first reached.took)) (at_ports (plan.outs other) reached.put) (plan.failed other)
       run other now is true same =
           let at : other ≡ node = eqb-true other node same in
           let now_is : now ≡ machine' = replaced.here now (ap (slice_get machines') (sym at) ∙ is) in
-          subst (λ (it : ℕ). Run (plan.starts it) (state now) (at_ports (plan.ins it) (add edge first reached.took)) (at_ports (plan.outs it) reached.put)) (sym at)
-          (subst (λ (it : Machine). Run (plan.starts node) (state it) (at_ports (plan.ins node) (add edge first reached.took)) (at_ports (plan.outs node) reached.put)) (sym now_is)
-          (subst (λ (pieces : ℕ → List Piece). Run (plan.starts node) (state machine') pieces (at_ports (plan.outs node) reached.put))
+          subst (λ (it : ℕ). Run (plan.starts it) (state now) (at_ports (plan.ins it) (add edge first reached.took)) (at_ports (plan.outs it) reached.put) (plan.failed it)) (sym at)
+          (subst (λ (it : Machine). Run (plan.starts node) (state it) (at_ports (plan.ins node) (add edge first reached.took)) (at_ports (plan.outs node) reached.put) (plan.failed node)) (sym now_is)
+          (subst (λ (pieces : ℕ → List Piece). Run (plan.starts node) (state machine') pieces (at_ports (plan.outs node) reached.put) (plan.failed node))
           (sym (at_ports-add (plan.ins node) edge took.port first reached.took took.there (wired.in_once node edge there)))
-          (took.moved.runs (plan.starts node) (at_ports (plan.ins node) reached.took) (at_ports (plan.outs node) reached.put) (reached.runs node machine replaced.was))))
+          (took.moved.runs (plan.starts node) (at_ports (plan.ins node) reached.took) (at_ports (plan.outs node) reached.put) (plan.failed node) marks (reached.runs node machine replaced.was))))
       run other now is false elsewhere =
-          subst (λ (pieces : ℕ → List Piece). Run (plan.starts other) (state now) pieces (at_ports (plan.outs other) reached.put))
+          subst (λ (pieces : ℕ → List Piece). Run (plan.starts other) (state now) pieces (at_ports (plan.outs other) reached.put) (plan.failed other))
           (sym (at_ports-elsewhere (plan.ins other) edge first reached.took (not_taken node other edge there elsewhere)))
           (reached.runs other now (sym (replaced.others other elsewhere) ∙ is))
 
-      still : (other : ℕ) (now : Machine) → slice_get machines' other ≡ Some now → (here : Bool) → (other == node) ≡ here → (state now).broken ≡ false
-      still other now is true same =
-          ap (λ (it : Machine). (state it).broken) (replaced.here now (ap (slice_get machines') (sym (eqb-true other node same)) ∙ is))
-          ∙ took.moved.broken ∙ reached.whole node machine replaced.was
-      still other now is false elsewhere = reached.whole other now (sym (replaced.others other elsewhere) ∙ is)
+      -- where no node has failed none is broken, since no Broken was there to take
+      unbroken : ((other : ℕ) → plan.failed other ≡ false) → IsUnbroken state machines' reached.put
+      unbroken unfailed = record { whole = λ other now is. still other now is (other == node) refl; edges = before.edges }
+        where
+          before : IsUnbroken state machines reached.put
+          before = reached.sound unfailed
+
+          unrefused : (test : Bool) → refused ≡ test → refused ≡ false
+          unrefused true is = absurd (true≢false (sym (marks is) ∙ unfailed node))
+          unrefused false is = is
+
+          first_whole : is_broken first ≡ false
+          first_whole =
+              broken_within (reached.took edge) first (waiting_on wires' edge)
+              (ap has_broken (ap (λ (pieces : List Piece). reached.took edge ++ pieces) (sym took.moved.first) ∙ sym (reached.queued edge)) ∙ before.edges edge)
+
+          still : (other : ℕ) (now : Machine) → slice_get machines' other ≡ Some now → (here : Bool) → (other == node) ≡ here → (state now).broken ≡ false
+          still other now is true same =
+              ap (λ (it : Machine). (state it).broken) (replaced.here now (ap (slice_get machines') (sym (eqb-true other node same)) ∙ is))
+              ∙ took.moved.sound (unrefused refused refl) first_whole ∙ before.whole node machine replaced.was
+          still other now is false elsewhere = before.whole other now (sym (replaced.others other elsewhere) ∙ is)
 
       untouched : (other out : ℕ) → plan.writes other ≡ true → plan.outs other ≡ out ∷ [] → add edge first reached.took out ≡ reached.took out
       untouched other out writes is =
@@ -163,12 +185,12 @@ module _ {Machine : Type 0} (state : Machine → State) (plan : Plan) (wired : I
 
   -- by one move
   pub took_moves : (machines machines' : List Machine) (wires wires' : List (List Piece)) (left taken : ℕ → Option (List ℕ)) (node : ℕ) (machine machine' : Machine)
-      → (replaced : Replaced machines machines' node machine machine') (took : Took (state machine) (state machine') (plan.ins node) wires wires')
+      (refused : Bool) (marks : refused ≡ true → plan.failed node ≡ true) (replaced : Replaced machines machines' node machine machine') (took : Took (state machine) (state machine') (plan.ins node) refused wires wires')
       → (reached : Reached state plan machines wires left taken) (nodes : ℕ) → node < nodes
-      → moves_of plan nodes (reached_took machines machines' wires wires' left taken node machine machine' replaced took reached).took
-      (reached_took machines machines' wires wires' left taken node machine machine' replaced took reached).put ≡ suc (moves_of plan nodes reached.took reached.put)
+      → moves_of plan nodes (reached_took machines machines' wires wires' left taken node machine machine' refused marks replaced took reached).took
+      (reached_took machines machines' wires wires' left taken node machine machine' refused marks replaced took reached).put ≡ suc (moves_of plan nodes reached.took reached.put)
   unfolding reached_took
-  took_moves machines machines' wires wires' left taken node machine machine' replaced took reached nodes within =
+  took_moves machines machines' wires wires' left taken node machine machine' refused marks replaced took reached nodes within =
       let there = stands-has (plan.ins node) took.port took.edge took.there in
       let more = moves-took plan reached.took reached.put nodes node took.edge took.moved.piece within (wired.in_once node took.edge there) (λ other. not_taken node other took.edge there) in
       more ∙ omega arith
@@ -185,7 +207,7 @@ module _ {Machine : Type 0} (state : Machine → State) (plan : Plan) (wired : I
     plain = λ other. even other (other == edge) refl;
     sized = λ other. filled other (other == edge) refl;
     runs = λ other now is. run other now is (other == node) refl;
-    whole = λ other now is. still other now is (other == node) refl;
+    sound = unbroken;
     read = λ other into reads is. reached.read other into reads is
         ∙ ap (λ (pieces : List Piece). bytes_then (text_of pieces) (left other)) (sym (untouched other into reads is));
     ended = λ other into reads is ends. reached.ended other into reads is (ap has_end (sym (untouched other into reads is)) ∙ ends);
@@ -228,25 +250,34 @@ module _ {Machine : Type 0} (state : Machine → State) (plan : Plan) (wired : I
       filled other false is = reached.sized other
 
       run : (other : ℕ) (now : Machine) → slice_get machines' other ≡ Some now → (here : Bool) → (other == node) ≡ here
-          → Run (plan.starts other) (state now) (at_ports (plan.ins other) reached.took) (at_ports (plan.outs other) (add edge last reached.put))
+          → Run (plan.starts other) (state now) (at_ports (plan.ins other) reached.took) (at_ports (plan.outs other) (add edge last reached.put)) (plan.failed other)
       run other now is true same =
           let at : other ≡ node = eqb-true other node same in
           let now_is : now ≡ machine' = replaced.here now (ap (slice_get machines') (sym at) ∙ is) in
-          subst (λ (it : ℕ). Run (plan.starts it) (state now) (at_ports (plan.ins it) reached.took) (at_ports (plan.outs it) (add edge last reached.put))) (sym at)
-          (subst (λ (it : Machine). Run (plan.starts node) (state it) (at_ports (plan.ins node) reached.took) (at_ports (plan.outs node) (add edge last reached.put))) (sym now_is)
-          (subst (λ (pieces : ℕ → List Piece). Run (plan.starts node) (state machine') (at_ports (plan.ins node) reached.took) pieces)
+          subst (λ (it : ℕ). Run (plan.starts it) (state now) (at_ports (plan.ins it) reached.took) (at_ports (plan.outs it) (add edge last reached.put)) (plan.failed it)) (sym at)
+          (subst (λ (it : Machine). Run (plan.starts node) (state it) (at_ports (plan.ins node) reached.took) (at_ports (plan.outs node) (add edge last reached.put)) (plan.failed node)) (sym now_is)
+          (subst (λ (pieces : ℕ → List Piece). Run (plan.starts node) (state machine') (at_ports (plan.ins node) reached.took) pieces (plan.failed node))
           (sym (at_ports-add (plan.outs node) edge gave.port last reached.put gave.there (wired.out_once node edge there)))
-          (gave.moved.runs (plan.starts node) (at_ports (plan.ins node) reached.took) (at_ports (plan.outs node) reached.put) (reached.runs node machine replaced.was))))
+          (gave.moved.runs (plan.starts node) (at_ports (plan.ins node) reached.took) (at_ports (plan.outs node) reached.put) (plan.failed node) (reached.runs node machine replaced.was))))
       run other now is false elsewhere =
-          subst (λ (pieces : ℕ → List Piece). Run (plan.starts other) (state now) (at_ports (plan.ins other) reached.took) pieces)
+          subst (λ (pieces : ℕ → List Piece). Run (plan.starts other) (state now) (at_ports (plan.ins other) reached.took) pieces (plan.failed other))
           (sym (at_ports-elsewhere (plan.outs other) edge last reached.put (not_given node other edge there elsewhere)))
           (reached.runs other now (sym (replaced.others other elsewhere) ∙ is))
 
-      still : (other : ℕ) (now : Machine) → slice_get machines' other ≡ Some now → (here : Bool) → (other == node) ≡ here → (state now).broken ≡ false
-      still other now is true same =
-          ap (λ (it : Machine). (state it).broken) (replaced.here now (ap (slice_get machines') (sym (eqb-true other node same)) ∙ is))
-          ∙ gave.moved.broken ∙ reached.whole node machine replaced.was
-      still other now is false elsewhere = reached.whole other now (sym (replaced.others other elsewhere) ∙ is)
+      unbroken : ((other : ℕ) → plan.failed other ≡ false) → IsUnbroken state machines' (add edge last reached.put)
+      unbroken unfailed = record {
+        whole = λ other now is. still other now is (other == node) refl;
+        edges = none_broken reached.put edge last before.edges (gave.moved.sound (before.whole node machine replaced.was));
+      }
+        where
+          before : IsUnbroken state machines reached.put
+          before = reached.sound unfailed
+
+          still : (other : ℕ) (now : Machine) → slice_get machines' other ≡ Some now → (here : Bool) → (other == node) ≡ here → (state now).broken ≡ false
+          still other now is true same =
+              ap (λ (it : Machine). (state it).broken) (replaced.here now (ap (slice_get machines') (sym (eqb-true other node same)) ∙ is))
+              ∙ gave.moved.broken ∙ before.whole node machine replaced.was
+          still other now is false elsewhere = before.whole other now (sym (replaced.others other elsewhere) ∙ is)
 
       untouched : (other into : ℕ) → plan.reads other ≡ true → plan.ins other ≡ into ∷ [] → add edge last reached.put into ≡ reached.put into
       untouched other into reads is =
@@ -271,11 +302,58 @@ module _ {Machine : Type 0} (state : Machine → State) (plan : Plan) (wired : I
       let more = moves-put plan reached.took reached.put nodes node gave.edge gave.moved.piece within (wired.out_once node gave.edge there) (λ other. not_given node other gave.edge there) in
       more ∙ omega arith
 
+  -- a machine is broken, and may have failed; no piece has moved
+  pub reached_broke : (machines machines' : List Machine) (wires : List (List Piece)) (left taken : ℕ → Option (List ℕ)) (node : ℕ) (machine machine' : Machine)
+      → plan.failed node ≡ true → Replaced machines machines' node machine machine' → Broke (state machine) (state machine')
+      → Reached state plan machines wires left taken → Reached state plan machines' wires left taken
+  reached_broke machines machines' wires left taken node machine machine' marked replaced broke reached = record {
+    took = reached.took;
+    put = reached.put;
+    queued = reached.queued;
+    clean = reached.clean;
+    plain = reached.plain;
+    sized = reached.sized;
+    runs = λ other now is. run other now is (other == node) refl;
+    sound = λ unfailed. absurd (true≢false (sym marked ∙ unfailed node));
+    read = reached.read;
+    ended = reached.ended;
+    written = reached.written;
+  }
+    where
+      ins : ℕ → List Piece
+      ins = at_ports (plan.ins node) reached.took
+
+      outs : ℕ → List Piece
+      outs = at_ports (plan.outs node) reached.put
+
+      here : Run (plan.starts node) (state machine') ins outs (plan.failed node)
+      here =
+          subst (λ (test : Bool). Run (plan.starts node) (state machine') ins outs test) (sym marked)
+          (broke.runs (plan.starts node) ins outs (subst (λ (test : Bool). Run (plan.starts node) (state machine) ins outs test) marked (reached.runs node machine replaced.was)))
+
+      run : (other : ℕ) (now : Machine) → slice_get machines' other ≡ Some now → (same : Bool) → (other == node) ≡ same
+          → Run (plan.starts other) (state now) (at_ports (plan.ins other) reached.took) (at_ports (plan.outs other) reached.put) (plan.failed other)
+      run other now is true same =
+          let at : other ≡ node = eqb-true other node same in
+          subst (λ (it : ℕ). Run (plan.starts it) (state now) (at_ports (plan.ins it) reached.took) (at_ports (plan.outs it) reached.put) (plan.failed it)) (sym at)
+          (subst (λ (it : Machine). Run (plan.starts node) (state it) ins outs (plan.failed node)) (sym (replaced.here now (ap (slice_get machines') (sym at) ∙ is))) here)
+      run other now is false elsewhere = reached.runs other now (sym (replaced.others other elsewhere) ∙ is)
+
+  -- by no move
+  pub broke_moves : (machines machines' : List Machine) (wires : List (List Piece)) (left taken : ℕ → Option (List ℕ)) (node : ℕ) (machine machine' : Machine)
+      (marked : plan.failed node ≡ true) (replaced : Replaced machines machines' node machine machine') (broke : Broke (state machine) (state machine'))
+      (reached : Reached state plan machines wires left taken) (nodes : ℕ)
+      → moves_of plan nodes (reached_broke machines machines' wires left taken node machine machine' marked replaced broke reached).took
+      (reached_broke machines machines' wires left taken node machine machine' marked replaced broke reached).put ≡ moves_of plan nodes reached.took reached.put
+  unfolding reached_broke
+  broke_moves machines machines' wires left taken node machine machine' marked replaced broke reached nodes = refl
+
   -- a piece came from outside
   pub record Came (wires wires' : List (List Piece)) (left left' : ℕ → Option (List ℕ)) (node edge : ℕ) (piece : Piece) : Type 0 where
     pub last : waiting_on wires' edge ≡ waiting_on wires edge ++ piece ∷ []
     pub others : SameBut edge wires wires'
     pub plain : is_plain piece ≡ true
+    pub whole : is_broken piece ≡ false
     pub sized : has_bytes piece ≡ true
     pub bytes : left node ≡ bytes_then (text_of (piece ∷ [])) (left' node)
     pub ended : is_end piece ≡ true → IsEnded (left' node)
@@ -293,10 +371,12 @@ module _ {Machine : Type 0} (state : Machine → State) (plan : Plan) (wired : I
     plain = λ other. even other (other == edge) refl;
     sized = λ other. filled other (other == edge) refl;
     runs = λ other now at.
-        subst (λ (pieces : ℕ → List Piece). Run (plan.starts other) (state now) (at_ports (plan.ins other) reached.took) pieces)
+        subst (λ (pieces : ℕ → List Piece). Run (plan.starts other) (state now) (at_ports (plan.ins other) reached.took) pieces (plan.failed other))
         (sym (at_ports-elsewhere (plan.outs other) edge last reached.put (wired.from_outside node other edge reads there)))
         (reached.runs other now at);
-    whole = reached.whole;
+    sound = λ unfailed.
+        let before = reached.sound unfailed in
+        record { whole = before.whole; edges = none_broken reached.put edge last before.edges came.whole };
     read = λ other into other_reads at. told other into other_reads at (other == node) refl;
     ended = λ other into other_reads at ends. over other into other_reads at ends (other == node) refl;
     written = reached.written;

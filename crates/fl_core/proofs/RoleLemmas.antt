@@ -6,14 +6,11 @@ use Rattle.std.proofs.Math.Path.{fun_ext}
 use Rattle.std.proofs.Math.Seq.{map-set_same}
 use Rattle.std.proofs.lemmas.Iterator.Adapters.{position_from-zero}
 use Rattle.std.proofs.lemmas.Bool.{true≢false, eqb-true}
-use Rattle.std.proofs.lemmas.List.{length-map}
 use Rattle.std.proofs.lemmas.List.Sums.{sum_by-cons}
 use Rattle.std.proofs.lemmas.Option.{slice_get-map, slice_get_within, get_or_from_slice_get, unwrap_or-slice_get}
-use Rattle.fl_graph.specs.Cells.{cell, cells}
-use Rattle.fl_graph.specs.Net.{Cell}
+use Rattle.fl_graph.specs.declared.graphs.Cell.{Cell}
 use Rattle.fl_graph.specs.Kinds.{is_input, is_output}
 use Rattle.fl_graph.specs.Valid.{HasOneOfEachEnd}
-use Rattle.fl_graph.specs.declared.graphs.Node.{Node}
 use Rattle.fl_graph.specs.declared.kinds.NodeKind.{NodeKind}
 use Rattle.fl_graph.specs.declared.kinds.NodeKind.TheVariants as kind
 use Rattle.fl_graph.specs.declared.kinds.From.TheVariants as from
@@ -200,9 +197,9 @@ module _ {R W I O : Type 0} where
       by_place (Some place) = refl
   own_role other node ends = refl
 
-pub has_roles : {R W I O : Type 0} (nodes : List Node) (ends : Ends R W I O) (roles : List Role) → length roles ≡ length nodes
-    → NodesHave (λ node cell it. it ≡ role_of cell.kind node (numbers_of ends.readers.items) (numbers_of ends.writers.items)) (cells nodes) roles → HasRoles (cells nodes) ends roles
-has_roles nodes ends roles all each = record { all = all ∙ sym (length-map nodes cell); each = each }
+pub has_roles : {R W I O : Type 0} (nodes : List (Cell NodeKind)) (ends : Ends R W I O) (roles : List Role) → length roles ≡ length nodes
+    → NodesHave (λ node cell it. it ≡ role_of cell.kind node (numbers_of ends.readers.items) (numbers_of ends.writers.items)) nodes roles → HasRoles nodes ends roles
+has_roles nodes ends roles all each = record { all = all; each = each }
 
 module _ (cells : List (Cell NodeKind)) (readers writers : List ℕ) (roles : List Role) (all : length roles ≡ length cells)
     (each : NodesHave (λ node cell it. it ≡ role_of cell.kind node readers writers) cells roles) where

@@ -3,10 +3,9 @@ use Rattle.std.proofs.Common.{◌≡◌, ℕ, ◌+◌, ◌||◌, ◌<◌, ◌≤
 use Rattle.std.specs.List.{list_any}
 use Rattle.std.proofs.Math.ListN.{get_or-eq_default}
 use Rattle.std.proofs.lemmas.Bool.{cases_lt, true≢false, true_from_ne_false}
-use Rattle.fl_graph.specs.Cells.{cells}
-use Rattle.fl_graph.specs.Net.{Cell, has, count, gives, takes}
+use Rattle.fl_graph.specs.Net.{has, count, gives, takes}
+use Rattle.fl_graph.specs.declared.graphs.Cell.{Cell}
 use Rattle.fl_graph.specs.Valid.{Valid}
-use Rattle.fl_graph.specs.declared.graphs.Node.{Node}
 use Rattle.fl_graph.specs.declared.graphs.StatusRule.{StatusRule}
 use Rattle.fl_graph.specs.declared.kinds.NodeKind.{NodeKind}
 use Rattle.fl_graph.proofs.ListLemmas.{count-append, count-none}
@@ -56,10 +55,10 @@ module _ (cells : List (Cell NodeKind)) (status : StatusRule) (valid : Valid cel
       unbounded false is beyond = refl
 
 -- as a graph's network has them
-pub nodes_rooms : (nodes given : List Node) (status : StatusRule) → Valid (cells nodes) status → (cap : Option ℕ) (rooms : List (Option ℕ)) (edges : ℕ)
-    → given ≡ nodes → edges ≡ length (gives (cells given)) → length rooms ≡ edges
-    → ((edge : ℕ) → edge < edges → room_on rooms edge ≡ room_of (cells given) cap edge) → HasRooms (cells nodes) cap rooms
+pub nodes_rooms : (nodes given : List (Cell NodeKind)) (status : StatusRule) → Valid nodes status → (cap : Option ℕ) (rooms : List (Option ℕ)) (edges : ℕ)
+    → given ≡ nodes → edges ≡ length (gives given) → length rooms ≡ edges
+    → ((edge : ℕ) → edge < edges → room_on rooms edge ≡ room_of given cap edge) → HasRooms nodes cap rooms
 nodes_rooms nodes given status valid cap rooms edges same edges_are all each =
-    rooms_of_all (cells nodes) status valid cap rooms edges
-    (edges_are ∙ ap (λ (list : List Node). length (gives (cells list))) same) all
-    (λ edge below. each edge below ∙ ap (λ (list : List Node). room_of (cells list) cap edge) same)
+    rooms_of_all nodes status valid cap rooms edges
+    (edges_are ∙ ap (λ (list : List (Cell NodeKind)). length (gives list)) same) all
+    (λ edge below. each edge below ∙ ap (λ (list : List (Cell NodeKind)). room_of list cap edge) same)

@@ -3,14 +3,15 @@ use Rattle.std.proofs.Common.{◌≡◌, ℕ, zero, suc, ◌-◌, ◌==◌, List
 use mathlib.Core.Path.{fun_ext}
 use Rattle.std.specs.List.{list_all, range_with_len}
 use Rattle.std.proofs.lemmas.Bool.{cases_lt, true≢false}
-use Rattle.fl_graph.specs.Cells.{cells}
-use Rattle.fl_graph.specs.Net.{Cell, has, gives}
-use Rattle.fl_graph.specs.Runs.{text_of, State, Run}
+use Rattle.fl_graph.specs.Net.{has, gives}
+use Rattle.fl_graph.specs.declared.graphs.Cell.{Cell}
+use Rattle.fl_graph.specs.Machines.{State}
+use Rattle.fl_graph.specs.Runs.{text_of, has_broken, has_end, Run}
 use Rattle.fl_graph.specs.Valid.{Valid}
-use Rattle.fl_graph.specs.declared.graphs.Node.{Node}
 use Rattle.fl_graph.specs.declared.graphs.StatusRule.{StatusRule}
 use Rattle.fl_graph.specs.declared.kinds.NodeKind.{NodeKind}
 use Rattle.fl_graph.specs.declared.pieces.Piece.{Piece}
+use Rattle.fl_graph.specs.declared.pieces.Piece.TheVariants as piece
 use Rattle.fl_classes.specs.Flow.{is_source}
 use Rattle.fl_core.specs.Inputs.{AreWhole, IsLoaded, BeginsOver, RunsOver}
 use Rattle.fl_core.specs.Laws.{is_clean, at_ports}
@@ -33,6 +34,18 @@ at_ports-same (edge ∷ edges) one other same (suc port) = at_ports-same edges o
     behind : (test : Bool) {rest : Bool} → rest ≡ true → (test || rest) ≡ true
     behind true is = refl
     behind false is = is
+
+-- clean pieces with an end have no Broken
+ended_unbroken : (pieces : List Piece) → is_clean pieces ≡ true → has_end pieces ≡ true → has_broken pieces ≡ false
+ended_unbroken [] clean ended = refl
+ended_unbroken (piece.Bytes bytes ∷ []) clean ended = refl
+ended_unbroken (piece.Bytes bytes ∷ next ∷ pieces) clean ended = ended_unbroken (next ∷ pieces) clean ended
+ended_unbroken (piece.Mark ∷ []) clean ended = refl
+ended_unbroken (piece.Mark ∷ next ∷ pieces) clean ended = ended_unbroken (next ∷ pieces) clean ended
+ended_unbroken (piece.End ∷ []) clean ended = refl
+ended_unbroken (piece.End ∷ next ∷ pieces) clean ended = absurd (true≢false (sym clean))
+ended_unbroken (piece.Broken ∷ []) clean ended = absurd (true≢false (sym ended))
+ended_unbroken (piece.Broken ∷ next ∷ pieces) clean ended = absurd (true≢false (sym clean))
 
 module _ {Machine : Type 0} (state : Machine → State) (cells : List (Cell NodeKind)) (status : StatusRule) (valid : Valid cells status) (inputs : ℕ → List ℕ)
     (ports : List Ports) (machines : List Machine) (wires : List (List Piece)) (begins : BeginsOver state cells inputs ports machines wires) where
@@ -84,6 +97,10 @@ module _ {Machine : Type 0} (state : Machine → State) (cells : List (Cell Node
   waiting_clean edge (Nothing none) = ap is_clean none
   waiting_clean edge (Whole text whole) = whole.clean
 
+  waiting_unbroken : (edge : ℕ) → Waits edge → has_broken (waiting_on wires edge) ≡ false
+  waiting_unbroken edge (Nothing none) = ap has_broken none
+  waiting_unbroken edge (Whole text whole) = ended_unbroken (waiting_on wires edge) whole.clean whole.ended
+
   waiting_plain : (edge : ℕ) → Waits edge → list_all is_plain (waiting_on wires edge) ≡ true
   waiting_plain edge (Nothing none) = ap (list_all is_plain) none
   waiting_plain edge (Whole text whole) = whole.plain
@@ -119,10 +136,13 @@ module _ {Machine : Type 0} (state : Machine → State) (cells : List (Cell Node
     plain = λ edge. waiting_plain edge (waits edge);
     sized = λ edge. waiting_sized edge (waits edge);
     runs = λ node machine at_machine.
-        subst (λ (put : ℕ → List Piece). Run (plan.starts node) (state machine) (at_ports (plan.ins node) (λ (_ : ℕ). [])) put)
+        subst (λ (put : ℕ → List Piece). Run (plan.starts node) (state machine) (at_ports (plan.ins node) (λ (_ : ℕ). [])) put false)
         (fun_ext (λ (port : ℕ). at_ports-same (plan.outs node) (λ (_ : ℕ). []) (waiting_on wires) (none_given node) port))
         (start_runs state cells status valid ports machines begins.empty begins.net told taken node machine at_machine);
-    whole = start_whole state cells status valid ports machines begins.empty begins.net told taken;
+    sound = λ unfailed. record {
+      whole = start_whole state cells status valid ports machines begins.empty begins.net told taken;
+      edges = λ edge. waiting_unbroken edge (waits edge);
+    };
     read = waiting_read;
     ended = λ node edge reads is ended. refl;
     written = λ node edge writes is. refl;
@@ -137,7 +157,7 @@ module _ {Machine : Type 0} (state : Machine → State) (cells : List (Cell Node
       omega (arith, taken, given)))
 
   -- the network is under way from where its texts came
-  pub runs_over : RunsOver state cells inputs 0 ports machines wires
+  pub runs_over : RunsOver state cells inputs 0 (λ _. false) ports machines wires
   unfolding reached
   runs_over = record {
     goes = record {
@@ -150,17 +170,18 @@ module _ {Machine : Type 0} (state : Machine → State) (cells : List (Cell Node
     counted = begins.net.all_machines;
     told = λ node. refl;
     untaken = λ node. refl;
+    marked = λ node. refl;
     brought = λ node cell machine at_node at_machine is opened. closed_by_end (waiting_on wires (outer_edge cells node)) (begins.loaded.source node cell at_node is).ended;
     moved = no_moves;
   }
 
 -- what has come on the wires of a graph's network is what it begins over
-pub begins_over : {Machine : Type 0} (state : Machine → State) (nodes given : List Node) (inputs : ℕ → List ℕ) (ports : List Ports) (machines : List Machine) (empty wires new : List (List Piece))
-    → IsNetOf state (cells nodes) ports machines empty → given ≡ nodes → length new ≡ length empty → IsLoaded (cells given) inputs new → wires ≡ new
-    → BeginsOver state (cells nodes) inputs ports machines wires
+pub begins_over : {Machine : Type 0} (state : Machine → State) (nodes given : List (Cell NodeKind)) (inputs : ℕ → List ℕ) (ports : List Ports) (machines : List Machine) (empty wires new : List (List Piece))
+    → IsNetOf state nodes ports machines empty → given ≡ nodes → length new ≡ length empty → IsLoaded given inputs new → wires ≡ new
+    → BeginsOver state nodes inputs ports machines wires
 begins_over state nodes given inputs ports machines empty wires new net same width loaded new_is = record {
   empty = empty;
   net = net;
   all_wires = ap (λ (it : List (List Piece)). length it) new_is ∙ width;
-  loaded = subst (λ (it : List (List Piece)). IsLoaded (cells nodes) inputs it) (sym new_is) (subst (λ (it : List Node). IsLoaded (cells it) inputs new) same loaded);
+  loaded = subst (λ (it : List (List Piece)). IsLoaded nodes inputs it) (sym new_is) (subst (λ (it : List (Cell NodeKind)). IsLoaded it inputs new) same loaded);
 }

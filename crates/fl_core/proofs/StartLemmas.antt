@@ -6,8 +6,11 @@ use Rattle.std.specs.List.{flat_map}
 use Rattle.std.proofs.lemmas.Bool.{true≢false, true_from_ne_false, ltb-true}
 use Rattle.std.proofs.lemmas.Option.{slice_get_within, slice_get-get_or}
 use Rattle.ps_world.proofs.ToldLemmas.{then_bytes-nil, bytes_then-nil}
-use Rattle.fl_graph.specs.Net.{Cell, has, count, gives, takes}
-use Rattle.fl_graph.specs.Runs.{State, Run}
+use Rattle.fl_graph.specs.Net.{has, count, gives, takes}
+use Rattle.fl_graph.specs.declared.graphs.Cell.{Cell}
+use Rattle.fl_graph.specs.Machines.{State}
+use Rattle.fl_graph.specs.declared.pieces.Act.TheVariants as act
+use Rattle.fl_graph.specs.Runs.{Run}
 use Rattle.fl_graph.specs.Valid.{Valid}
 use Rattle.fl_graph.specs.declared.graphs.StatusRule.{StatusRule}
 use Rattle.fl_graph.specs.declared.kinds.NodeKind.{NodeKind}
@@ -43,7 +46,16 @@ sole_length false outer edges = refl
 
 -- a machine of a node that isn't there
 abbrev pub no_state : State
-no_state = record { takes = λ _. false; puts = λ _. false; broken = false; due = λ _ _. []; selects = λ _. false }
+no_state = record {
+  act = act.Stop;
+  takes = λ _. false;
+  puts = λ _. false;
+  numbered_ins = λ _. false;
+  numbered_outs = λ _. false;
+  broken = false;
+  due = λ _ _. [];
+  selects = λ _. false;
+}
 
 module _ {Machine : Type 0} (state : Machine → State) (cells : List (Cell NodeKind)) (status : StatusRule) (valid : Valid cells status)
     (ports : List Ports) (machines : List Machine) (wires : List (List Piece)) (net : IsNetOf state cells ports machines wires) (left taken : ℕ → Option (List ℕ)) where
@@ -56,6 +68,7 @@ module _ {Machine : Type 0} (state : Machine → State) (cells : List (Cell Node
     writes = λ node. option_map_or (λ cell. is_sink cell.kind) (slice_get cells node) false;
     left = left;
     taken = taken;
+    failed = λ node. false;
   }
 
   -- a node has its machine, and a machine its node
@@ -92,8 +105,7 @@ module _ {Machine : Type 0} (state : Machine → State) (cells : List (Cell Node
     no_writes = λ node none. ap (λ (found : Option (Cell NodeKind)). option_map_or (λ (it : Cell NodeKind). is_sink it.kind) found false) none;
     begins = λ node cell at_node.
         let its = node_machine node cell at_node in
-        subst (λ (start : State). Begins (run_kind cell.kind) (run_ins cell.kind (length cell.ins)) (run_outs cell.kind (length cell.outs))
-        start.takes start.puts start.broken start.due start.selects)
+        subst (λ (start : State). Begins (run_kind cell.kind) (run_ins cell.kind (length cell.ins)) (run_outs cell.kind (length cell.outs)) start)
         (sym (start_of node its.0 its.1)) (net.begins node cell its.0 at_node its.1);
   }
 
@@ -152,6 +164,14 @@ module _ {Machine : Type 0} (state : Machine → State) (cells : List (Cell Node
   taken_below : (edge : ℕ) → 1 ≤ count edge (takes cells) → edge < length (gives cells)
   taken_below edge some = let same = valid.edges.taken edge in given_below edge (omega (arith, same, some))
 
+  -- no out carries blocks
+  start_plain : (node port : ℕ) → (start_plan.starts node).numbered_outs port ≡ false
+  start_plain node port = by_machine (slice_get machines node) refl
+    where
+      by_machine : (found : Option Machine) → slice_get machines node ≡ found → (option_map_or state found no_state).numbered_outs port ≡ false
+      by_machine None at_machine = refl
+      by_machine (Some machine) at_machine = let its = machine_node node machine at_machine in (net.begins node its.0 machine its.1 at_machine).plain_outs port
+
   -- the network's ports are the plan's
   pub start_follows : Follows start_plan ports (length wires)
   start_follows = record {
@@ -165,6 +185,7 @@ module _ {Machine : Type 0} (state : Machine → State) (cells : List (Cell Node
         (λ cell machine port at_node at_machine. (net.begins node cell machine at_node at_machine).takes_all port);
     out_ports = λ node. ports_own (λ (cell : Cell NodeKind). cell.outs) is_sink given_below node (λ (it : State) (port : ℕ). it.puts port) (λ port. refl)
         (λ cell machine port at_node at_machine. (net.begins node cell machine at_node at_machine).puts_all port);
+    plain_outs = start_plain;
   }
 
   pub start_whole : (node : ℕ) (machine : Machine) → slice_get machines node ≡ Some machine → (state machine).broken ≡ false
@@ -172,13 +193,13 @@ module _ {Machine : Type 0} (state : Machine → State) (cells : List (Cell Node
 
   -- no machine has taken or put anything
   pub start_runs : (node : ℕ) (machine : Machine) → slice_get machines node ≡ Some machine
-      → Run (start_plan.starts node) (state machine) (at_ports (start_plan.ins node) (λ (_ : ℕ). [])) (at_ports (start_plan.outs node) (λ (_ : ℕ). []))
+      → Run (start_plan.starts node) (state machine) (at_ports (start_plan.ins node) (λ (_ : ℕ). [])) (at_ports (start_plan.outs node) (λ (_ : ℕ). [])) false
   start_runs node machine at_machine =
       let nothing : (edges : List ℕ) → (λ (_ : ℕ). []) ≡ at_ports edges (λ (_ : ℕ). []) = λ edges. fun_ext (λ (port : ℕ). sym (at_ports-nothing edges port)) in
-      subst (λ (start : State). Run start (state machine) (at_ports (start_plan.ins node) (λ (_ : ℕ). [])) (at_ports (start_plan.outs node) (λ (_ : ℕ). [])))
+      subst (λ (start : State). Run start (state machine) (at_ports (start_plan.ins node) (λ (_ : ℕ). [])) (at_ports (start_plan.outs node) (λ (_ : ℕ). [])) false)
       (sym (start_of node machine at_machine))
-      (subst (λ (put : ℕ → List Piece). Run (state machine) (state machine) (at_ports (start_plan.ins node) (λ (_ : ℕ). [])) put) (nothing (start_plan.outs node))
-      (subst (λ (took : ℕ → List Piece). Run (state machine) (state machine) took (λ (_ : ℕ). [])) (nothing (start_plan.ins node))
+      (subst (λ (put : ℕ → List Piece). Run (state machine) (state machine) (at_ports (start_plan.ins node) (λ (_ : ℕ). [])) put false) (nothing (start_plan.outs node))
+      (subst (λ (took : ℕ → List Piece). Run (state machine) (state machine) took (λ (_ : ℕ). []) false) (nothing (start_plan.ins node))
       (Run-start (state machine) (start_whole node machine at_machine))))
 
   -- before anything has moved
@@ -191,15 +212,15 @@ module _ {Machine : Type 0} (state : Machine → State) (cells : List (Cell Node
     plain = λ edge. refl;
     sized = λ edge. refl;
     runs = start_runs;
-    whole = start_whole;
+    sound = λ unfailed. record { whole = start_whole; edges = λ edge. refl };
     read = λ node edge reads is. sym (bytes_then-nil (left node));
     ended = λ node edge reads is ended. absurd (true≢false (sym ended));
     written = λ node edge writes is. sym (then_bytes-nil (taken node));
   }
 
   -- all that later steps want of the plan
-  abbrev pub net_plan : (plan : Plan) × IsPlanOf cells plan × IsWired plan × Follows plan ports (length wires) × Reached state plan machines wires left taken × (plan.left ≡ left) × (plan.taken ≡ taken)
-  net_plan = (start_plan, start_is_planned, start_is_wired, start_follows, start_is_reached, refl, refl)
+  abbrev pub net_plan : (plan : Plan) × IsPlanOf cells plan × IsWired plan × Follows plan ports (length wires) × Reached state plan machines wires left taken × (plan.left ≡ left) × (plan.taken ≡ taken) × ((node : ℕ) → plan.failed node ≡ false)
+  net_plan = (start_plan, start_is_planned, start_is_wired, start_follows, start_is_reached, refl, refl, λ node. refl)
 
   -- so a run is under way, where each source has an end to read from and each sink one to write to
   pub net_under_way : (reads writes : ℕ → Bool) (faults : ℕ → ℕ)

@@ -2,14 +2,14 @@
 use Rattle.std.proofs.Common.{◌≡◌, ℕ, ◌+◌, ◌<◌, ◌≤◌, List, Bool, true, false, not, ◌||◌, length, slice_get, Option, Some, Result, Ok, refl, ap, sym, ◌∙◌, subst, inl, inr, arith}
 use Rattle.std.proofs.lemmas.Bool.{cases_lt, true≢false}
 use Rattle.std.proofs.lemmas.Option.{slice_get_within}
-use Rattle.fl_graph.specs.declared.pieces.Act.{Act}
+use Rattle.fl_graph.specs.Machines.{State}
 use Rattle.fl_graph.specs.declared.pieces.Piece.{Piece}
 use Rattle.fl_core.specs.Steps.{progress_at}
 use Rattle.fl_core.specs.Stuck.{is_stuck, IsStuck, IsStuckAt}
 use Rattle.fl_core.specs.declared.nets.Ports.{Ports}
 use Rattle.fl_core.proofs.OutsideLemmas.{some_at}
 
-module _ {Machine : Type 0} (takes puts : Machine → ℕ → Bool) (act : Machine → Act) (ports : List Ports) (machines : List Machine) (rooms : List (Option ℕ)) (wires : List (List Piece)) where
+module _ {Machine : Type 0} (state : Machine → State) (ports : List Ports) (machines : List Machine) (rooms : List (Option ℕ)) (wires : List (List Piece)) where
   -- whatever is said of a network is said of one that is the same
   pub said_of : (P : List Ports → List Machine → List (Option ℕ) → List (List Piece) → Type 0)
       (ports' : List Ports) (machines' : List Machine) (rooms' : List (Option ℕ)) (wires' : List (List Piece))
@@ -20,22 +20,22 @@ module _ {Machine : Type 0} (takes puts : Machine → ℕ → Bool) (act : Machi
       (subst (λ (it : List Machine). P ports it rooms' wires') same_machines
       (subst (λ (it : List Ports). P it machines' rooms' wires') same_ports said)))
 
-  pub one_more_stuck : (node : ℕ) → ((number : ℕ) → number < node → IsStuckAt takes puts act ports machines rooms wires number)
-      → IsStuckAt takes puts act ports machines rooms wires node
-      → (number : ℕ) → number < node + 1 → IsStuckAt takes puts act ports machines rooms wires number
+  pub one_more_stuck : (node : ℕ) → ((number : ℕ) → number < node → IsStuckAt state ports machines rooms wires number)
+      → IsStuckAt state ports machines rooms wires node
+      → (number : ℕ) → number < node + 1 → IsStuckAt state ports machines rooms wires number
   one_more_stuck node before here number within =
       elim (cases_lt number node) [
         | inl earlier ↦ before number earlier
         | inr later ↦
             let same : node ≡ number = omega (arith, within, later) in
-            subst (IsStuckAt takes puts act ports machines rooms wires) same here
+            subst (IsStuckAt state ports machines rooms wires) same here
       ]
 
-  pub all_stuck : (count : ℕ) → length machines ≤ count → ((number : ℕ) → number < count → IsStuckAt takes puts act ports machines rooms wires number)
-      → IsStuck takes puts act ports machines rooms wires
+  pub all_stuck : (count : ℕ) → length machines ≤ count → ((number : ℕ) → number < count → IsStuckAt state ports machines rooms wires number)
+      → IsStuck state ports machines rooms wires
   all_stuck count all each = record { each = stuck_at }
     where
-      stuck_at : (node : ℕ) → IsStuckAt takes puts act ports machines rooms wires node
+      stuck_at : (node : ℕ) → IsStuckAt state ports machines rooms wires node
       stuck_at node =
           elim (cases_lt node count) [
             | inl within ↦ each node within
@@ -48,12 +48,12 @@ module _ {Machine : Type 0} (takes puts : Machine → ℕ → Bool) (act : Machi
   -- the answer of a node's turn: whether it could do anything
   abbrev pub Answers : ℕ → Bool → Type 0
   Answers node moved = (machine : Machine) (own : Ports) → slice_get machines node ≡ Some machine → slice_get ports node ≡ Some own
-      → moved ≡ not (is_stuck (progress_at (act machine) own.ins.items own.outs.items rooms wires) own.reads)
+      → moved ≡ not (is_stuck (progress_at (state machine).act own.ins.items own.outs.items rooms wires) own.reads)
 
   -- a piece moved before this node's turn or in it, so that one could move
   pub one_moved : (node : ℕ) (moved here : Bool) → (moved || here) ≡ true → node < length machines → node < length ports
-      → (moved ≡ true → IsStuck takes puts act ports machines rooms wires → ⊥) → (moved ≡ false → Answers node here)
-      → IsStuck takes puts act ports machines rooms wires → ⊥
+      → (moved ≡ true → IsStuck state ports machines rooms wires → ⊥) → (moved ≡ false → Answers node here)
+      → IsStuck state ports machines rooms wires → ⊥
   one_moved node true here is within has_ports before answer stuck = before refl stuck
   one_moved node false here is within has_ports before answer stuck =
       let machine = some_at machines node within in

@@ -1,11 +1,13 @@
 -- What goes over a network's outer edges goes on with its run.
-use Rattle.std.proofs.Common.{◌≡◌, ℕ, ◌==◌, ◌<◌, List, [], ◌∷◌, ◌++◌, Bool, true, false, length, slice_get, slice_set, get_or, drop, Option, Some, Result, Ok, Err, OnOk, OnErr, refl, ap, sym, subst, ◌∙◌, arith, eq-eqb}
-use Rattle.std.proofs.lemmas.Bool.{true≢false}
+use Rattle.std.proofs.Common.{◌≡◌, ℕ, ◌==◌, ◌<◌, List, [], ◌∷◌, ◌++◌, Bool, true, false, not, length, slice_get, slice_set, get_or, drop, Option, Some, Result, Ok, Err, OnOk, OnErr, refl, ap, sym, subst, ◌∙◌, arith, eq-eqb}
+use Rattle.std.specs.List.{list_all}
+use Rattle.std.proofs.lemmas.Bool.{and_parts, true≢false}
 use Rattle.std.proofs.lemmas.List.{get_or-set_same, get_or-set_other}
 use Rattle.std.proofs.lemmas.Option.{get_or_from_slice_get, slice_get_read}
 use mathlib.Core.Path.{fun_ext}
 use Rattle.ps_world.specs.Told.{bytes_then, then_bytes, GrewByPrefix, IsEnded}
-use Rattle.fl_graph.specs.Runs.{text_of, is_end, State}
+use Rattle.fl_graph.specs.Machines.{State, is_broken, is_mark}
+use Rattle.fl_graph.specs.Runs.{text_of, is_end}
 use Rattle.fl_graph.specs.declared.pieces.Piece.{Piece}
 use Rattle.fl_core.specs.Steps.{has_bytes, is_plain, waiting_on, CameTo, SameBut, Starves, WentFrom}
 use Rattle.fl_core.specs.Runs.{Plan, IsWired, Follows, Reached, Halted, Leads, Halts, Goes, HasEnds}
@@ -23,15 +25,24 @@ set_others wires edge pieces other apart = get_or-set_other wires edge other pie
 first_of : (edges : List ℕ) (edge : ℕ) → edges ≡ edge ∷ [] → get_or edges 0 0 ≡ edge
 first_of edges edge is = ap (λ (it : List ℕ). get_or it 0 0) is
 
+-- a piece between others is no mark where none of them is
+plain_within : (front : List Piece) (piece : Piece) (back : List Piece) → list_all is_plain (front ++ piece ∷ back) ≡ true → is_mark piece ≡ false
+plain_within [] piece back plain = denied (is_mark piece) (and_parts (is_plain piece) (list_all is_plain back) plain).0
+  where
+    denied : (test : Bool) → not test ≡ true → test ≡ false
+    denied true is = sym is
+    denied false is = refl
+plain_within (first ∷ front) piece back plain = plain_within front piece back (and_parts (is_plain first) (list_all is_plain (front ++ piece ∷ back)) plain).1
+
 module _ {Machine : Type 0} (state : Machine → State) (ports : List Ports) (machines : List Machine) (wires : List (List Piece)) (left left' taken taken' : ℕ → Option (List ℕ))
     (node : ℕ) (own : Ports) (at_own : slice_get ports node ≡ Some own) where
   -- a piece was read
   pub read_leads : (machine : Machine) (piece : Piece) → slice_get machines node ≡ Some machine → own.reads ≡ true → Starves (state machine) own.ins.items wires
       → get_or own.ins.items 0 0 < length wires
-      → is_plain piece ≡ true → has_bytes piece ≡ true → left node ≡ bytes_then (text_of (piece ∷ [])) (left' node) → (is_end piece ≡ true → IsEnded (left' node))
+      → is_plain piece ≡ true → is_broken piece ≡ false → has_bytes piece ≡ true → left node ≡ bytes_then (text_of (piece ∷ [])) (left' node) → (is_end piece ≡ true → IsEnded (left' node))
       → ((other : ℕ) → (other == node) ≡ false → left' other ≡ left other) → ((other : ℕ) → taken' other ≡ taken other)
       → Leads state ports machines machines wires (slice_set wires (get_or own.ins.items 0 0) (waiting_on wires (get_or own.ins.items 0 0) ++ piece ∷ [])) left left' taken taken'
-  read_leads machine piece at reads starves within plain sized bytes ended elsewhere same plan wired follows reached =
+  read_leads machine piece at reads starves within plain whole sized bytes ended elsewhere same plan wired follows reached =
       let reading = follows.reads node own at_own ∙ reads in
       let ins = follows.ins node own at_own in
       let one = wired.one_in node reading in
@@ -46,6 +57,7 @@ module _ {Machine : Type 0} (state : Machine → State) (ports : List Ports) (ma
         last = set_there wires (get_or own.ins.items 0 0) (waiting_on wires (get_or own.ins.items 0 0) ++ piece ∷ []) within;
         others = set_others wires (get_or own.ins.items 0 0) (waiting_on wires (get_or own.ins.items 0 0) ++ piece ∷ []);
         plain = plain;
+        whole = whole;
         sized = sized;
         bytes = bytes;
         ended = ended;
@@ -64,8 +76,15 @@ module _ {Machine : Type 0} (state : Machine → State) (ports : List Ports) (ma
         let one = wired.one_out node (follows.writes node own at_own ∙ writes) in
         one.1 ∙ ap (λ (edge : ℕ). edge ∷ []) (sym (first_of own.outs.items one.0 (sym (follows.outs node own at_own) ∙ one.1)))
 
+    -- it is no mark, since none waits
+    unmarked : (plan : Plan) → Reached state plan machines wires left taken → is_mark piece ≡ false
+    unmarked plan reached =
+        let edge = get_or own.outs.items 0 0 in
+        plain_within (reached.took edge) piece rest
+        (ap (list_all is_plain) (ap (λ (pieces : List Piece). reached.took edge ++ pieces) (sym waits) ∙ sym (reached.queued edge)) ∙ reached.plain edge)
+
     -- a piece was written
-    pub write_leads : taken' node ≡ then_bytes (taken node) (text_of (piece ∷ [])) → ((other : ℕ) → left' other ≡ left other)
+    pub write_leads : (is_mark piece ≡ false → taken' node ≡ then_bytes (taken node) (text_of (piece ∷ []))) → ((other : ℕ) → left' other ≡ left other)
         → Leads state ports machines machines wires (slice_set wires (get_or own.outs.items 0 0) rest) left left' taken taken'
     write_leads grew same plan wired follows reached =
         subst (λ (told : ℕ → Option (List ℕ)). Reached state plan machines (slice_set wires (get_or own.outs.items 0 0) rest) told taken') (sym (fun_ext same))
@@ -75,7 +94,7 @@ module _ {Machine : Type 0} (state : Machine → State) (ports : List Ports) (ma
           first = waits ∙ ap (λ (pieces : List Piece). piece ∷ pieces) (sym (set_there wires (get_or own.outs.items 0 0) rest within));
           others = set_others wires (get_or own.outs.items 0 0) rest;
         })
-        grew elsewhere reached)
+        (grew (unmarked plan reached)) elsewhere reached)
 
     -- or a front of it
     pub write_halts : GrewByPrefix (taken node) (taken' node) (text_of (piece ∷ [])) → Halts state ports machines wires left taken taken'
@@ -107,20 +126,20 @@ module _ {Machine : Type 0} (state : Machine → State) (ports : List Ports) (ma
   same_own own at_own = cc
 
   pub read_leads_at : (wire wire' : List Piece) (piece : Piece) → edge ≡ get_or found.ins.items 0 0 → wire ≡ waiting_on wires edge → wire' ≡ wire ++ piece ∷ []
-      → is_plain piece ≡ true → has_bytes piece ≡ true → left node ≡ bytes_then (text_of (piece ∷ [])) (left' node) → (is_end piece ≡ true → IsEnded (left' node))
+      → is_plain piece ≡ true → is_broken piece ≡ false → has_bytes piece ≡ true → left node ≡ bytes_then (text_of (piece ∷ [])) (left' node) → (is_end piece ≡ true → IsEnded (left' node))
       → ((other : ℕ) → (other == node) ≡ false → left' other ≡ left other) → ((other : ℕ) → taken' other ≡ taken other)
       → (own : Ports) (machine : Machine) → slice_get ports node ≡ Some own → slice_get machines node ≡ Some machine → own.reads ≡ true → Starves (state machine) own.ins.items wires
       → Leads state ports machines machines wires (slice_set wires edge wire') left left' taken taken'
-  read_leads_at wire wire' piece edge_is wire_is more plain sized bytes ended elsewhere same own machine at_own at reads starves =
+  read_leads_at wire wire' piece edge_is wire_is more plain whole sized bytes ended elsewhere same own machine at_own at reads starves =
       let edge_here : edge ≡ get_or own.ins.items 0 0 = edge_is ∙ ap (λ (it : Ports). get_or it.ins.items 0 0) (same_own own at_own) in
       subst (λ (pieces : List Piece). Leads state ports machines machines wires (slice_set wires edge pieces) left left' taken taken') (sym (more ∙ ap (λ (pieces : List Piece). pieces ++ piece ∷ []) wire_is))
       (subst (λ (it : ℕ). Leads state ports machines machines wires (slice_set wires it (waiting_on wires it ++ piece ∷ [])) left left' taken taken') (sym edge_here)
       (read_leads state ports machines wires left left' taken taken' node own at_own machine piece at reads starves
-      (subst (λ (it : ℕ). it < length wires) edge_here within) plain sized bytes ended elsewhere same))
+      (subst (λ (it : ℕ). it < length wires) edge_here within) plain whole sized bytes ended elsewhere same))
 
   pub write_leads_at : (wire : List Piece) (piece : Piece) (rest : List Piece) → edge ≡ get_or found.outs.items 0 0 → wire ≡ waiting_on wires edge → wire ≡ piece ∷ rest
       → ((other : ℕ) → (other == node) ≡ false → taken' other ≡ taken other)
-      → taken' node ≡ then_bytes (taken node) (text_of (piece ∷ [])) → ((other : ℕ) → left' other ≡ left other)
+      → (is_mark piece ≡ false → taken' node ≡ then_bytes (taken node) (text_of (piece ∷ []))) → ((other : ℕ) → left' other ≡ left other)
       → (own : Ports) → slice_get ports node ≡ Some own → own.writes ≡ true
       → Leads state ports machines machines wires (slice_set wires edge rest) left left' taken taken'
   write_leads_at wire piece rest edge_is wire_is waits elsewhere grew same own at_own writes =

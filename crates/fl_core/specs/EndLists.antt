@@ -1,9 +1,12 @@
 -- The ends of a graph's nodes, in lists (own): a node of a file has the first end with its number, and those of standard input and standard
 -- output stand apart.
-use Rattle.std.specs.Prelude.{◌≡◌, ◌≤◌, ℕ, zero, suc, ◌==◌, ◌||◌, List, [], ◌∷◌, Bool, true, false, if◌then◌else◌, map, slice_get, Option, Some, None, is_some}
+use Rattle.std.specs.Prelude.{◌≡◌, ◌≤◌, ℕ, zero, suc, ◌+◌, ◌==◌, ◌||◌, List, [], ◌∷◌, Bool, true, false, if◌then◌else◌, map, slice_get, Option, Some, None, is_some}
 use Rattle.std.specs.Option.{option_map, option_and_then}
 use Rattle.ps_world.specs.Counts.{Rose}
-use Rattle.fl_graph.specs.Net.{Cell}
+use Rattle.ps_world.specs.Paths.{Components}
+use Rattle.ps_world.specs.Told.{then_bytes}
+use Rattle.ps_world.specs.declared.tree.Mode.{Mode}
+use Rattle.fl_graph.specs.declared.graphs.Cell.{Cell}
 use Rattle.fl_graph.specs.Kinds.{is_input, is_output}
 use Rattle.fl_graph.specs.declared.kinds.NodeKind.{NodeKind}
 use Rattle.fl_graph.specs.declared.kinds.NodeKind.TheVariants as kind
@@ -40,6 +43,18 @@ reads_file other = false
 abbrev pub writes_file : NodeKind → Bool
 writes_file (kind.Sink (to.File path mode)) = true
 writes_file other = false
+
+-- the numbers of those that write one, counted on from this number
+abbrev pub file_nodes : ℕ → List (Cell NodeKind) → List ℕ
+file_nodes number [] = []
+file_nodes number (cell ∷ cells) = if writes_file cell.kind then number ∷ file_nodes (number + 1) cells else file_nodes (number + 1) cells
+
+-- the ends of these nodes have grown by the texts of these files, each by its own
+abbrev pub GrewByFiles : (ℕ → Option (List ℕ)) → (ℕ → Option (List ℕ)) → List ℕ → List (Components × (Mode × List ℕ)) → Type 0
+GrewByFiles old new [] [] = Unit {0}
+GrewByFiles old new [] (file ∷ files) = ⊥
+GrewByFiles old new (node ∷ nodes) [] = ⊥
+GrewByFiles old new (node ∷ nodes) (file ∷ files) = (new node ≡ then_bytes (old node) file.1.1) × GrewByFiles old new nodes files
 
 -- an end that a node reads or writes
 pub data NodeEnd (R W I O : Type 0) : Type 0 where

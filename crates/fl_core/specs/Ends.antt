@@ -1,7 +1,7 @@
 -- What a network is at its end (own).
 use Rattle.std.specs.Prelude.{◌≡◌, ℕ, List, true, map, slice_get, Option, Some}
 use Rattle.ps_world.specs.Told.{then_bytes, GrewByPrefix, IsEnded}
-use Rattle.fl_graph.specs.Net.{Cell}
+use Rattle.fl_graph.specs.declared.graphs.Cell.{Cell}
 use Rattle.fl_graph.specs.declared.kinds.NodeKind.{NodeKind}
 use Rattle.fl_classes.specs.Flow.{flow, is_source, only}
 use Rattle.fl_core.specs.Kinds.{is_sink}

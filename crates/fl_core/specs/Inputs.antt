@@ -1,9 +1,10 @@
 -- Networks over texts that are there from the beginning (own): each waits on its source's edge from outside, and nothing else comes.
-use Rattle.std.specs.Prelude.{◌≡◌, ℕ, List, [], ◌∷◌, true, ◌==◌, if◌then◌else◌, length, slice_get, Some}
+use Rattle.std.specs.Prelude.{◌≡◌, ℕ, List, [], ◌∷◌, Bool, true, ◌==◌, if◌then◌else◌, length, slice_get, Some}
 use Rattle.std.specs.Global.{Vec}
 use Rattle.std.specs.List.{list_all}
-use Rattle.fl_graph.specs.Net.{Cell}
-use Rattle.fl_graph.specs.Runs.{are_closed, text_of, has_end, State}
+use Rattle.fl_graph.specs.declared.graphs.Cell.{Cell}
+use Rattle.fl_graph.specs.Machines.{State}
+use Rattle.fl_graph.specs.Runs.{are_closed, text_of, has_end}
 use Rattle.fl_graph.specs.declared.kinds.NodeKind.{NodeKind}
 use Rattle.fl_graph.specs.declared.pieces.Piece.{Piece}
 use Rattle.fl_classes.specs.Flow.{is_source}
@@ -18,6 +19,10 @@ use Rattle.fl_core.specs.declared.nets.Ports.{Ports}
 abbrev pub input_of : List (ℕ × Vec ℕ) → ℕ → List ℕ
 input_of [] node = []
 input_of (input ∷ inputs) node = if input.0 == node then input.1.items else input_of inputs node
+
+-- a node more may have failed
+abbrev pub marked : ℕ → (ℕ → Bool) → ℕ → Bool
+marked node failed other = if other == node then true else failed other
 
 -- the pieces are all of the text, and its end
 pub record AreWhole (pieces : List Piece) (text : List ℕ) : Type 0 where
@@ -48,13 +53,15 @@ module _ {Machine : Type 0} (state : Machine → State) (cells : List (Cell Node
     pub all_wires : length wires ≡ length empty
     pub loaded : IsLoaded cells inputs wires
 
-  -- it has come from there to here by so many moves: all was read at its beginning, and nothing was taken from its sinks
-  pub record RunsOver (moves : ℕ) (ports : List Ports) (machines : List Machine) (wires : List (List Piece)) : Type 0 where
+  -- it has come from there to here by so many moves, while these nodes may have failed: all was read at its beginning, and nothing was taken
+  -- from its sinks
+  pub record RunsOver (moves : ℕ) (failed : ℕ → Bool) (ports : List Ports) (machines : List Machine) (wires : List (List Piece)) : Type 0 where
     pub goes : Goes state ports machines wires (λ node. Some []) (λ node. Some [])
     pub planned : IsPlanOf cells goes.plan
     pub counted : length machines ≡ length cells
     pub told : (node : ℕ) → goes.plan.left node ≡ Some (inputs node)
     pub untaken : (node : ℕ) → goes.plan.taken node ≡ Some []
+    pub marked : (node : ℕ) → goes.plan.failed node ≡ failed node
     pub brought : AreBrought state cells machines wires
     pub moved : moves ≡ moves_of goes.plan (length cells) goes.reached.took goes.reached.put
 
@@ -63,5 +70,6 @@ pub record CanStep {Machine : Type 0} (state : Machine → State) (ports : List 
   pub cells : List (Cell NodeKind)
   pub inputs : ℕ → List ℕ
   pub moves : ℕ
-  pub over : RunsOver state cells inputs moves ports machines wires
+  pub failed : ℕ → Bool
+  pub over : RunsOver state cells inputs moves failed ports machines wires
   pub all_ports : length ports ≡ length machines

@@ -1,9 +1,9 @@
 -- What the pieces on a graph's edges carry (own): what each node took and put meets its equation, so each edge carries its flow.
-use Rattle.std.specs.Prelude.{◌≡◌, ℕ, zero, suc, List, [], ◌∷◌, ◌++◌, Bool, true, not, ◌&&◌, get_or, length}
+use Rattle.std.specs.Prelude.{◌≡◌, ℕ, zero, suc, ◌+◌, ◌<◌, List, [], ◌∷◌, ◌++◌, Bool, true, false, not, ◌&&◌, get_or, length}
 use Rattle.fl_graph.specs.Machines.{closes}
-use Rattle.fl_graph.specs.Net.{Cell}
+use Rattle.fl_graph.specs.declared.graphs.Cell.{Cell}
 use Rattle.ps_lines.specs.Texts.{BeginsWith}
-use Rattle.fl_graph.specs.Runs.{text_of, has_end, completion}
+use Rattle.fl_graph.specs.Runs.{text_of, are_closed, has_broken, has_end, completion}
 use Rattle.fl_graph.specs.declared.kinds.NodeKind.{NodeKind}
 use Rattle.fl_graph.specs.declared.pieces.Piece.{Piece}
 use Rattle.fl_classes.specs.Flow.{Placed, placed, texts_given}
@@ -49,3 +49,22 @@ pub record NetKeeps (sources : List (List ℕ)) (cells : List (Cell NodeKind)) (
   pub queued : (edge : ℕ) → put edge ≡ taken edge ++ waiting edge
   pub clean : (edge : ℕ) → is_clean (put edge) ≡ true
   pub nodes : NodesKeep sources (placed cells) taken put
+
+-- a node that has run to its stop has taken and put these pieces: it kept its equation, closed its outs, and put a Broken only where one was
+-- taken or it failed
+pub record NodeRan (equation : (ℕ → List ℕ) → ℕ → List ℕ) (outs : ℕ) (taken put : ℕ → List Piece) (failed : Bool) : Type 0 where
+  pub keeps : Keeps equation taken put
+  pub closed : (port : ℕ) → port < outs → are_closed (put port) ≡ true
+  pub caused : failed ≡ false → ((port : ℕ) → has_broken (taken port) ≡ false) → (port : ℕ) → has_broken (put port) ≡ false
+
+-- each node has, where the pieces given on each edge are those taken from it; nodes are counted on from this number
+abbrev pub NodesRan : List (List ℕ) → (ℕ → Bool) → ℕ → List (Cell Placed) → (ℕ → List Piece) → Type 0
+NodesRan sources failed number [] pieces = Unit {0}
+NodesRan sources failed number (cell ∷ cells) pieces =
+    NodeRan (given sources cell.kind (length cell.ins) (length cell.outs)) (length cell.outs) (at_ports cell.ins pieces) (at_ports cell.outs pieces) (failed number)
+    × NodesRan sources failed (number + 1) cells pieces
+
+-- all nodes of a graph have run to their stops, and these went over its edges
+pub record NetRan (sources : List (List ℕ)) (cells : List (Cell NodeKind)) (pieces : ℕ → List Piece) (failed : ℕ → Bool) : Type 0 where
+  pub clean : (edge : ℕ) → is_clean (pieces edge) ≡ true
+  pub nodes : NodesRan sources failed 0 (placed cells) pieces

@@ -1,7 +1,8 @@
 -- How many pieces the steps of a network have moved, and how many they move at most (own).
 use Rattle.std.specs.Prelude.{ℕ, ◌+◌, ◌*◌, List, [], ◌∷◌, if◌then◌else◌, length, map, get_or}
 use Rattle.std.specs.List.{flat_map, range_with_len, sum_by}
-use Rattle.fl_graph.specs.Net.{Cell, gives}
+use Rattle.fl_graph.specs.Net.{gives}
+use Rattle.fl_graph.specs.declared.graphs.Cell.{Cell}
 use Rattle.fl_graph.specs.declared.kinds.NodeKind.{NodeKind}
 use Rattle.fl_graph.specs.declared.pieces.Piece.{Piece}
 use Rattle.fl_classes.specs.Flow.{Placed, placed, flow, is_source, only}

@@ -1,12 +1,13 @@
 -- The plan of a graph (own): the edges with which each node runs, and how its machine begins.
 use Rattle.std.specs.Prelude.{◌≡◌, ℕ, ◌+◌, List, [], ◌∷◌, Bool, true, false, ◌==◌, if◌then◌else◌, length, slice_get, get_or, Option, Some, None}
 use Rattle.std.specs.List.{list_any}
-use Rattle.fl_graph.specs.Net.{Cell, gives}
+use Rattle.fl_graph.specs.Net.{gives}
+use Rattle.fl_graph.specs.declared.graphs.Cell.{Cell}
 use Rattle.fl_graph.specs.declared.kinds.NodeKind.{NodeKind}
 use Rattle.fl_classes.specs.Flow.{Placed, placed, is_source}
 use Rattle.fl_classes.specs.Nodes.{Begins}
 use Rattle.fl_core.specs.Kinds.{is_sink, run_kind, run_ins, run_outs}
-use Rattle.fl_graph.specs.Runs.{State}
+use Rattle.fl_graph.specs.Machines.{State}
 use Rattle.fl_graph.specs.declared.pieces.Piece.{Piece}
 use Rattle.fl_core.specs.Runs.{Plan}
 use Rattle.fl_core.specs.Steps.{room_on, waiting_on}
@@ -48,8 +49,7 @@ pub record IsPlanOf (cells : List (Cell NodeKind)) (plan : Plan) : Type 0 where
   pub no_reads : (node : ℕ) → slice_get cells node ≡ None → plan.reads node ≡ false
   pub no_writes : (node : ℕ) → slice_get cells node ≡ None → plan.writes node ≡ false
   pub begins : (node : ℕ) (cell : Cell NodeKind) → slice_get cells node ≡ Some cell
-      → Begins (run_kind cell.kind) (run_ins cell.kind (length cell.ins)) (run_outs cell.kind (length cell.outs))
-      (plan.starts node).takes (plan.starts node).puts (plan.starts node).broken (plan.starts node).due (plan.starts node).selects
+      → Begins (run_kind cell.kind) (run_ins cell.kind (length cell.ins)) (run_outs cell.kind (length cell.outs)) (plan.starts node)
 
 -- the ends of the sources tell these texts, in the order of the nodes
 abbrev pub AreTold : List (List ℕ) → List (Cell NodeKind) → (ℕ → Option (List ℕ)) → Type 0
@@ -68,5 +68,4 @@ pub record IsNetOf {Machine : Type 0} (state : Machine → State) (cells : List 
   pub reads : (node : ℕ) (cell : Cell NodeKind) (own : Ports) → slice_get cells node ≡ Some cell → slice_get ports node ≡ Some own → own.reads ≡ is_source cell.kind
   pub writes : (node : ℕ) (cell : Cell NodeKind) (own : Ports) → slice_get cells node ≡ Some cell → slice_get ports node ≡ Some own → own.writes ≡ is_sink cell.kind
   pub begins : (node : ℕ) (cell : Cell NodeKind) (machine : Machine) → slice_get cells node ≡ Some cell → slice_get machines node ≡ Some machine
-      → Begins (run_kind cell.kind) (run_ins cell.kind (length cell.ins)) (run_outs cell.kind (length cell.outs))
-      (state machine).takes (state machine).puts (state machine).broken (state machine).due (state machine).selects
+      → Begins (run_kind cell.kind) (run_ins cell.kind (length cell.ins)) (run_outs cell.kind (length cell.outs)) (state machine)

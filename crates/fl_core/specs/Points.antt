@@ -1,6 +1,6 @@
 -- Points of a run (own): all that a network and its ends are at one time, and what leads from one to another.
 use Rattle.std.specs.Prelude.{◌≡◌, ℕ, List, Bool, length, Option}
-use Rattle.fl_graph.specs.Runs.{State}
+use Rattle.fl_graph.specs.Machines.{State}
 use Rattle.fl_graph.specs.declared.pieces.Piece.{Piece}
 use Rattle.fl_core.specs.Runs.{AreDrained, Goes, Halts, HasEnds, Leads}
 use Rattle.fl_core.specs.declared.nets.Ports.{Ports}

@@ -3,13 +3,15 @@ use Rattle.std.specs.Prelude.{◌≡◌, ℕ, ◌<◌, List, [], ◌∷◌, ◌+
 use Rattle.std.specs.List.{list_all}
 use Rattle.ps_world.specs.Told.{then_bytes, bytes_then, GrewByPrefix, IsEnded}
 use Rattle.fl_graph.specs.Net.{has, count}
-use Rattle.fl_graph.specs.Runs.{text_of, has_end, State, Run}
+use Rattle.fl_graph.specs.Machines.{State}
+use Rattle.fl_graph.specs.Runs.{text_of, has_broken, has_end, Run}
 use Rattle.fl_graph.specs.declared.pieces.Piece.{Piece}
 use Rattle.fl_core.specs.Laws.{is_clean, at_ports, Keeps}
 use Rattle.fl_core.specs.Steps.{has_bytes, is_plain, waiting_on}
 use Rattle.fl_core.specs.declared.nets.Ports.{Ports}
 
--- what stays as it is while a network runs: the edges of each node, the machines' beginnings, and what the ends held then
+-- what a network's run is held against: the edges of each node, the machines' beginnings, what the ends held then, and which nodes may have
+-- failed
 pub record Plan : Type 0 where
   pub ins : ℕ → List ℕ
   pub outs : ℕ → List ℕ
@@ -19,6 +21,7 @@ pub record Plan : Type 0 where
   pub writes : ℕ → Bool
   pub left : ℕ → Option (List ℕ)
   pub taken : ℕ → Option (List ℕ)
+  pub failed : ℕ → Bool
 
 -- each edge is taken by one node and given by one, and those from outside and to the outside by none
 pub record IsWired (plan : Plan) : Type 0 where
@@ -41,8 +44,14 @@ pub record Follows (plan : Plan) (ports : List Ports) (wires : ℕ) : Type 0 whe
   pub wired_outs : (node port : ℕ) → port < length (plan.outs node) → get_or (plan.outs node) port 0 < wires
   pub in_ports : (node port : ℕ) → (plan.starts node).takes port ≡ true → port < length (plan.ins node)
   pub out_ports : (node port : ℕ) → (plan.starts node).puts port ≡ true → port < length (plan.outs node)
+  pub plain_outs : (node port : ℕ) → (plan.starts node).numbered_outs port ≡ false
 
 module _ {Machine : Type 0} (state : Machine → State) where
+  -- no machine is broken, and no edge has carried a Broken
+  pub record IsUnbroken (machines : List Machine) (put : ℕ → List Piece) : Type 0 where
+    pub whole : (node : ℕ) (machine : Machine) → slice_get machines node ≡ Some machine → (state machine).broken ≡ false
+    pub edges : (edge : ℕ) → has_broken (put edge) ≡ false
+
   -- so far
   pub record Reached (plan : Plan) (machines : List Machine) (wires : List (List Piece)) (left taken : ℕ → Option (List ℕ)) : Type 0 where
     -- the pieces that were taken from each edge, and those that were put on it
@@ -53,8 +62,8 @@ module _ {Machine : Type 0} (state : Machine → State) where
     pub plain : (edge : ℕ) → list_all is_plain (put edge) ≡ true
     pub sized : (edge : ℕ) → list_all has_bytes (put edge) ≡ true
     pub runs : (node : ℕ) (machine : Machine) → slice_get machines node ≡ Some machine
-        → Run (plan.starts node) (state machine) (at_ports (plan.ins node) took) (at_ports (plan.outs node) put)
-    pub whole : (node : ℕ) (machine : Machine) → slice_get machines node ≡ Some machine → (state machine).broken ≡ false
+        → Run (plan.starts node) (state machine) (at_ports (plan.ins node) took) (at_ports (plan.outs node) put) (plan.failed node)
+    pub sound : ((node : ℕ) → plan.failed node ≡ false) → IsUnbroken machines put
     pub read : (node edge : ℕ) → plan.reads node ≡ true → plan.ins node ≡ edge ∷ [] → plan.left node ≡ bytes_then (text_of (put edge)) (left node)
     pub ended : (node edge : ℕ) → plan.reads node ≡ true → plan.ins node ≡ edge ∷ [] → has_end (put edge) ≡ true → IsEnded (left node)
     pub written : (node edge : ℕ) → plan.writes node ≡ true → plan.outs node ≡ edge ∷ [] → taken node ≡ then_bytes (plan.taken node) (text_of (took edge))

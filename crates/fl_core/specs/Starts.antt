@@ -1,7 +1,7 @@
 -- What a graph's nodes have in its network, before anything has moved (own): their ports, and machines at their beginning.
 use Rattle.std.specs.Prelude.{◌≡◌, ℕ, List, length, slice_get, Some}
-use Rattle.fl_graph.specs.Net.{Cell}
-use Rattle.fl_graph.specs.Runs.{State}
+use Rattle.fl_graph.specs.declared.graphs.Cell.{Cell}
+use Rattle.fl_graph.specs.Machines.{State}
 use Rattle.fl_graph.specs.declared.kinds.NodeKind.{NodeKind}
 use Rattle.fl_classes.specs.Flow.{is_source}
 use Rattle.fl_classes.specs.Nodes.{Begins}
@@ -19,7 +19,7 @@ pub record HasPorts (cells : List (Cell NodeKind)) (node : ℕ) (cell : Cell Nod
 -- the machine of this node stands at its beginning
 abbrev pub BeginsAs : State → Cell NodeKind → Type 0
 BeginsAs state cell =
-    Begins (run_kind cell.kind) (run_ins cell.kind (length cell.ins)) (run_outs cell.kind (length cell.outs)) state.takes state.puts state.broken state.due state.selects
+    Begins (run_kind cell.kind) (run_ins cell.kind (length cell.ins)) (run_outs cell.kind (length cell.outs)) state
 
 -- each has what its node is to have
 abbrev pub NodesHave : {Own : Type 0} → (ℕ → Cell NodeKind → Own → Type 0) → List (Cell NodeKind) → List Own → Type 0

@@ -1,9 +1,9 @@
 -- A step of a node's machine in a network (own): which piece went over which edge.
-use Rattle.std.specs.Prelude.{◌≡◌, ℕ, List, [], ◌∷◌, ◌++◌, Bool, true, false, not, ◌||◌, ◌==◌, ◌<◌, if◌then◌else◌, get_or, length, drop, nat_le, Option, Some, None}
+use Rattle.std.specs.Prelude.{◌≡◌, ℕ, List, [], ◌∷◌, ◌++◌, Bool, true, false, not, ◌==◌, ◌<◌, if◌then◌else◌, get_or, length, drop, nat_le, Option, Some, None}
 use Rattle.std.specs.List.{slice_get, list_all}
-use Rattle.fl_graph.specs.Machines.{is_broken, is_mark}
+use Rattle.fl_graph.specs.Machines.{State, is_broken, is_mark}
 use Rattle.fl_graph.specs.Net.{has}
-use Rattle.fl_graph.specs.Runs.{add, State, Run}
+use Rattle.fl_graph.specs.Runs.{add, Run}
 use Rattle.fl_graph.specs.declared.pieces.Act.{Act}
 use Rattle.fl_graph.specs.declared.pieces.Act.TheVariants as act
 use Rattle.fl_graph.specs.declared.pieces.Piece.{Piece}
@@ -11,9 +11,9 @@ use Rattle.fl_graph.specs.declared.pieces.Piece.TheVariants as piece
 use Rattle.fl_core.specs.declared.steps.Progress.{Progress}
 use Rattle.fl_core.specs.declared.steps.Progress.TheVariants as progress
 
--- bytes or an end
+-- no mark: what an edge without blocks carries
 abbrev pub is_plain : Piece → Bool
-is_plain piece = not (is_broken piece || is_mark piece)
+is_plain piece = not (is_mark piece)
 
 -- a piece of bytes has one at least
 abbrev pub has_bytes : Piece → Bool
@@ -26,12 +26,13 @@ abbrev pub is_empty : List Piece → Bool
 is_empty [] = true
 is_empty (piece ∷ pieces) = false
 
--- a machine took the first piece that waits
-pub record TookFirst (was now : State) (port : ℕ) (wire wire' : List Piece) : Type 0 where
+-- a machine took the first piece that waits; where it was refused memory, it has failed
+pub record TookFirst (was now : State) (port : ℕ) (refused : Bool) (wire wire' : List Piece) : Type 0 where
   pub piece : Piece
   pub first : wire ≡ piece ∷ wire'
-  pub runs : (start : State) (taken put : ℕ → List Piece) → Run start was taken put → Run start now (add port piece taken) put
-  pub broken : now.broken ≡ was.broken
+  pub runs : (start : State) (taken put : ℕ → List Piece) (failed : Bool) → (refused ≡ true → failed ≡ true) → Run start was taken put failed
+      → Run start now (add port piece taken) put failed
+  pub sound : refused ≡ false → is_broken piece ≡ false → now.broken ≡ was.broken
 
 -- a machine put a piece behind those that wait
 pub record GaveLast (was now : State) (port : ℕ) (wire wire' : List Piece) : Type 0 where
@@ -39,8 +40,14 @@ pub record GaveLast (was now : State) (port : ℕ) (wire wire' : List Piece) : T
   pub last : wire' ≡ wire ++ piece ∷ []
   pub plain : is_plain piece ≡ true
   pub sized : has_bytes piece ≡ true
-  pub runs : (start : State) (taken put : ℕ → List Piece) → Run start was taken put → Run start now taken (add port piece put)
+  pub runs : (start : State) (taken put : ℕ → List Piece) (failed : Bool) → Run start was taken put failed → Run start now taken (add port piece put) failed
   pub broken : now.broken ≡ was.broken
+  pub sound : was.broken ≡ false → is_broken piece ≡ false
+
+-- a machine was refused memory before a piece moved, and is broken
+pub record Broke (was now : State) : Type 0 where
+  pub runs : (start : State) (taken put : ℕ → List Piece) → Run start was taken put true → Run start now taken put true
+  pub broken : now.broken ≡ true
 
 -- the pieces that wait on an edge, where these wait on all in order
 abbrev pub waiting_on : List (List Piece) → ℕ → List Piece
@@ -99,11 +106,11 @@ pub record WentFrom (edge : ℕ) (wires wires' : List (List Piece)) : Type 0 whe
   pub others : SameBut edge wires wires'
 
 -- a machine took a piece from the edge at one of its ins
-pub record Took (was now : State) (ins : List ℕ) (wires wires' : List (List Piece)) : Type 0 where
+pub record Took (was now : State) (ins : List ℕ) (refused : Bool) (wires wires' : List (List Piece)) : Type 0 where
   pub port : ℕ
   pub edge : ℕ
   pub there : slice_get ins port ≡ Some edge
-  pub moved : TookFirst was now port (waiting_on wires edge) (waiting_on wires' edge)
+  pub moved : TookFirst was now port refused (waiting_on wires edge) (waiting_on wires' edge)
   pub others : SameBut edge wires wires'
 
 -- it put a piece on the edge at one of its outs
@@ -123,13 +130,14 @@ pub record Starves (now : State) (ins : List ℕ) (wires : List (List Piece)) : 
   pub opened : now.takes port ≡ true
   pub none : waiting_on wires edge ≡ []
 
--- all pieces that wait are plain
+-- no mark waits
 abbrev pub ArePlain : List (List Piece) → Type 0
 ArePlain wires = (edge : ℕ) → list_all is_plain (waiting_on wires edge) ≡ true
 
--- the open ports of a machine are ports of the node, and their edges have wires
+-- the open ports of a machine are ports of the node, their edges have wires, and it gives no blocks
 pub record Fits (now : State) (ins outs : List ℕ) (wires : ℕ) : Type 0 where
   pub ins_known : (port : ℕ) → now.takes port ≡ true → port < length ins
   pub outs_known : (port : ℕ) → now.puts port ≡ true → port < length outs
   pub ins_wired : (port : ℕ) → port < length ins → get_or ins port 0 < wires
   pub outs_wired : (port : ℕ) → port < length outs → get_or outs port 0 < wires
+  pub plain : (port : ℕ) → now.numbered_outs port ≡ false

@@ -1,7 +1,6 @@
 -- Networks in which nothing moves any more (own), whatever node has its turn.
 use Rattle.std.specs.Prelude.{◌≡◌, ℕ, List, Bool, true, false, not, slice_get, Option, Some}
-use Rattle.fl_graph.specs.Machines.{MayDo}
-use Rattle.fl_graph.specs.declared.pieces.Act.{Act}
+use Rattle.fl_graph.specs.Machines.{MayDo, State}
 use Rattle.fl_graph.specs.declared.pieces.Piece.{Piece}
 use Rattle.fl_core.specs.Steps.{has_moved, progress_at}
 use Rattle.fl_core.specs.declared.nets.Ports.{Ports}
@@ -16,12 +15,12 @@ is_stuck progress.Starves reads = not reads
 is_stuck progress.Waits reads = true
 is_stuck progress.Ended reads = true
 
-module _ {Machine : Type 0} (takes puts : Machine → ℕ → Bool) (act : Machine → Act) (ports : List Ports) (machines : List Machine) (rooms : List (Option ℕ)) (wires : List (List Piece)) where
+module _ {Machine : Type 0} (state : Machine → State) (ports : List Ports) (machines : List Machine) (rooms : List (Option ℕ)) (wires : List (List Piece)) where
   -- so it is with the machine of a node, which does what it may
   pub record IsStuckAt (node : ℕ) : Type 0 where
     pub moves_none : (machine : Machine) (own : Ports) → slice_get machines node ≡ Some machine → slice_get ports node ≡ Some own
-        → is_stuck (progress_at (act machine) own.ins.items own.outs.items rooms wires) own.reads ≡ true
-    pub may : (machine : Machine) → slice_get machines node ≡ Some machine → MayDo (takes machine) (puts machine) (act machine)
+        → is_stuck (progress_at (state machine).act own.ins.items own.outs.items rooms wires) own.reads ≡ true
+    pub may : (machine : Machine) → slice_get machines node ≡ Some machine → MayDo (state machine) (state machine).act
 
   pub record IsStuck : Type 0 where
     pub each : (node : ℕ) → IsStuckAt node
@@ -29,5 +28,5 @@ module _ {Machine : Type 0} (takes puts : Machine → ℕ → Bool) (act : Machi
   -- no step of any node moves a piece, and each does what it may
   pub record IsStill : Type 0 where
     pub moves_none : (node : ℕ) (machine : Machine) (own : Ports) → slice_get machines node ≡ Some machine → slice_get ports node ≡ Some own
-        → has_moved (progress_at (act machine) own.ins.items own.outs.items rooms wires) ≡ false
-    pub may : (node : ℕ) (machine : Machine) → slice_get machines node ≡ Some machine → MayDo (takes machine) (puts machine) (act machine)
+        → has_moved (progress_at (state machine).act own.ins.items own.outs.items rooms wires) ≡ false
+    pub may : (node : ℕ) (machine : Machine) → slice_get machines node ≡ Some machine → MayDo (state machine) (state machine).act

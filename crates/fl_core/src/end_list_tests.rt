@@ -1,6 +1,6 @@
 //! A small graph over lists of ends.
 use crate::{Ends, Ran, are_run, have_ends, run_in_turn};
-use fl_graph::{From, Graph, Node, NodeKind, StatusRule, To, validate};
+use fl_graph::{From, Graph, Node, NodeKind, Seq, StatusRule, To, validate};
 use ps_fakes::{MemSink, MemSource};
 use ps_world::{Mode, Path};
 use std::alloc::{AllocError, Global};
@@ -13,8 +13,8 @@ type TestEnds = Ends<MemSource, MemSink, MemSource, MemSink>;
 fn node(alloc: Global, kind: NodeKind, ins: &[u32], outs: &[u32]) -> Result<Node, AllocError> {
     Ok(Node {
         kind,
-        ins: Vec::from_slice(alloc, ins)?,
-        outs: Vec::from_slice(alloc, outs)?,
+        ins: Seq::from_vec(Vec::from_slice(alloc, ins)?),
+        outs: Seq::from_vec(Vec::from_slice(alloc, outs)?),
         stage: 0,
     })
 }
@@ -32,7 +32,7 @@ fn two_ways(rt: &(impl Abort + AllocGlobal)) -> Result<Graph, AllocError> {
     let sink = NodeKind::Sink(To::File(written, Mode::Fresh));
     nodes.push(node(alloc, sink, &[1], &[])?)?;
     Ok(Graph {
-        nodes,
+        nodes: Seq::from_vec(nodes),
         status: StatusRule::Fixed(3),
     })
 }
@@ -140,7 +140,7 @@ fn joined(rt: &(impl Abort + AllocGlobal)) -> Result<Graph, AllocError> {
     nodes.push(node(alloc, NodeKind::Cat { close: true }, &[0, 1], &[2])?)?;
     nodes.push(node(alloc, NodeKind::Sink(To::Output), &[2], &[])?)?;
     Ok(Graph {
-        nodes,
+        nodes: Seq::from_vec(nodes),
         status: StatusRule::Fixed(0),
     })
 }

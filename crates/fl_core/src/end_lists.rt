@@ -1,10 +1,9 @@
 //! The engine over lists of ends.
 ghost use Rattle.std.specs.Prelude.{◌≡◌, ℕ, List, true};
 ghost use Rattle.ps_world.specs.Told.{then_bytes, GrewByPrefix};
-ghost use Rattle.fl_graph.specs.Cells.{cells};
 ghost use Rattle.fl_graph.specs.Valid.{Valid};
 ghost use Rattle.fl_classes.specs.Flow.{outcome};
-ghost use Rattle.fl_core.specs.EndLists.{Blames, HasItsEnds, IfDone, KeepsOthers, faults_at, given_back, left_at, taken_at};
+ghost use Rattle.fl_core.specs.EndLists.{Blames, HasItsEnds, IfDone, KeepsOthers, faults_at, given_back, left_at, taken_at, file_nodes, GrewByFiles};
 ghost use Rattle.fl_core.specs.Ends.{HasRead, HasWritten, HasWrittenFronts};
 ghost use Rattle.fl_core.specs.Kinds.{are_run};
 ghost use Rattle.fl_core.specs.Plans.{AreTold};
@@ -44,7 +43,8 @@ pub enum Ran<R, W, I, O> {
 
 /// Runs a graph to its end on this thread, its nodes in turn, and gives the ends back in their order.
 ///
-/// Done comes where each node has stopped: each sink's end has grown by its text of the graph's flow, each source's end is read to its
+/// Done comes where each node has stopped: the output and each file's writer have grown by their texts of the graph's outcome, and so each
+/// sink's end by its text of the graph's flow, each source's end is read to its
 /// end, and the status is the graph's. A fault is that of the one end that failed. After a fault and after Memory each sink's end has grown
 /// by a front of its text. `validate`, `are_run` and `have_ends` are the tests of what the caller owes.
 pub fn run_in_turn<R: Source, W: Sink, I: Source, O: Sink>(
@@ -52,23 +52,26 @@ pub fn run_in_turn<R: Source, W: Sink, I: Source, O: Sink>(
     graph: &Graph,
     ends: Ends<R, W, I, O>,
 ) -> Ran<R, W, I, O>
-    requires valid { Valid (cells graph.now.nodes.items) graph.now.status }
-    requires kinds { are_run (cells graph.now.nodes.items) ≡ true }
-    requires ends { HasItsEnds (cells graph.now.nodes.items) ends }
-    ensures written { IfDone result (λ _. HasWritten (cells graph.now.nodes.items) (left_at R.left I.left (cells graph.now.nodes.items) ends)
-        (taken_at W.taken O.taken (cells graph.now.nodes.items) ends) (taken_at W.taken O.taken (cells graph.now.nodes.items) (given_back result))) }
-    ensures output { IfDone result (λ _. (sources : List (List ℕ)) → AreTold sources (cells graph.now.nodes.items) (left_at R.left I.left (cells graph.now.nodes.items) ends) →
+    requires valid { Valid graph.now.nodes graph.now.status }
+    requires kinds { are_run graph.now.nodes ≡ true }
+    requires ends { HasItsEnds graph.now.nodes ends }
+    ensures written { IfDone result (λ _. HasWritten graph.now.nodes (left_at R.left I.left graph.now.nodes ends)
+        (taken_at W.taken O.taken graph.now.nodes ends) (taken_at W.taken O.taken graph.now.nodes (given_back result))) }
+    ensures output { IfDone result (λ _. (sources : List (List ℕ)) → AreTold sources graph.now.nodes (left_at R.left I.left graph.now.nodes ends) →
         O.taken (given_back result).out ≡ then_bytes (O.taken ends.out) (outcome graph.now sources).output) }
-    ensures read { IfDone result (λ _. HasRead (cells graph.now.nodes.items) (left_at R.left I.left (cells graph.now.nodes.items) (given_back result))) }
-    ensures status { IfDone result (λ status. (sources : List (List ℕ)) → AreTold sources (cells graph.now.nodes.items) (left_at R.left I.left (cells graph.now.nodes.items) ends) →
+    ensures files { IfDone result (λ _. (sources : List (List ℕ)) → AreTold sources graph.now.nodes (left_at R.left I.left graph.now.nodes ends) →
+        GrewByFiles (taken_at W.taken O.taken graph.now.nodes ends) (taken_at W.taken O.taken graph.now.nodes (given_back result))
+        (file_nodes 0 graph.now.nodes) (outcome graph.now sources).files) }
+    ensures read { IfDone result (λ _. HasRead graph.now.nodes (left_at R.left I.left graph.now.nodes (given_back result))) }
+    ensures status { IfDone result (λ status. (sources : List (List ℕ)) → AreTold sources graph.now.nodes (left_at R.left I.left graph.now.nodes ends) →
         status ≡ (outcome graph.now sources).status) }
-    ensures front { HasWrittenFronts (cells graph.now.nodes.items) (left_at R.left I.left (cells graph.now.nodes.items) ends)
-        (taken_at W.taken O.taken (cells graph.now.nodes.items) ends) (taken_at W.taken O.taken (cells graph.now.nodes.items) (given_back result)) }
-    ensures part { (sources : List (List ℕ)) → AreTold sources (cells graph.now.nodes.items) (left_at R.left I.left (cells graph.now.nodes.items) ends) →
+    ensures front { HasWrittenFronts graph.now.nodes (left_at R.left I.left graph.now.nodes ends)
+        (taken_at W.taken O.taken graph.now.nodes ends) (taken_at W.taken O.taken graph.now.nodes (given_back result)) }
+    ensures part { (sources : List (List ℕ)) → AreTold sources graph.now.nodes (left_at R.left I.left graph.now.nodes ends) →
         GrewByPrefix (O.taken ends.out) (O.taken (given_back result).out) (outcome graph.now sources).output }
-    ensures cause { Blames (faults_at R.faults W.faults I.faults O.faults (cells graph.now.nodes.items) ends)
-        (faults_at R.faults W.faults I.faults O.faults (cells graph.now.nodes.items) (given_back result)) result }
-    ensures kept { KeepsOthers (cells graph.now.nodes.items) ends (given_back result) }
+    ensures cause { Blames (faults_at R.faults W.faults I.faults O.faults graph.now.nodes ends)
+        (faults_at R.faults W.faults I.faults O.faults graph.now.nodes (given_back result)) result }
+    ensures kept { KeepsOthers graph.now.nodes ends (given_back result) }
 {
     let roles = match roles_of(alloc, graph, &ends) {
         Ok(roles) => roles,

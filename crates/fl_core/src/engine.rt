@@ -1,8 +1,7 @@
 //! The engine of one thread.
 ghost use Rattle.std.specs.Prelude.{◌≡◌, ◌<◌, ◌≤◌, ℕ, List, true, length, slice_get, Some, IfOk};
 ghost use Rattle.ps_world.specs.Counts.{Rose};
-ghost use Rattle.fl_graph.specs.Cells.{cells};
-ghost use Rattle.fl_graph.specs.Net.{Cell};
+ghost use Rattle.fl_graph.specs.declared.graphs.Cell.{Cell};
 ghost use Rattle.fl_graph.specs.Valid.{Valid};
 ghost use Rattle.fl_graph.specs.declared.kinds.NodeKind.{NodeKind};
 ghost use Rattle.fl_graph.specs.declared.pieces.TheConstants.{MAX_PIECE};
@@ -35,15 +34,15 @@ pub enum Ending {
 /// end, and the status is the graph's. A node's end that fails ends the run at once, so no other has failed then. After a fault and after
 /// Memory each sink's end has grown by a front of its text. A graph of 2^32 nodes or more wants memory.
 pub fn run_over_ends<E: NodeEnds>(alloc: Global, graph: &Graph, ends: &mut E) -> Ending
-    requires valid { Valid (cells graph.now.nodes.items) graph.now.status }
-    requires kinds { are_run (cells graph.now.nodes.items) ≡ true }
-    requires reads { (node : ℕ) (cell : Cell NodeKind) → slice_get (cells graph.now.nodes.items) node ≡ Some cell → is_source cell.kind ≡ true → E.reads ends.old node ≡ true }
-    requires writes { (node : ℕ) (cell : Cell NodeKind) → slice_get (cells graph.now.nodes.items) node ≡ Some cell → is_sink cell.kind ≡ true → E.writes ends.old node ≡ true }
-    ensures written { OnDone result (λ _. HasWritten (cells graph.now.nodes.items) (E.left ends.old) (E.taken ends.old) (E.taken ends.new)) }
-    ensures read { OnDone result (λ _. HasRead (cells graph.now.nodes.items) (E.left ends.new)) }
-    ensures status { OnDone result (λ status. (sources : List (List ℕ)) → AreTold sources (cells graph.now.nodes.items) (E.left ends.old) →
+    requires valid { Valid graph.now.nodes graph.now.status }
+    requires kinds { are_run graph.now.nodes ≡ true }
+    requires reads { (node : ℕ) (cell : Cell NodeKind) → slice_get graph.now.nodes node ≡ Some cell → is_source cell.kind ≡ true → E.reads ends.old node ≡ true }
+    requires writes { (node : ℕ) (cell : Cell NodeKind) → slice_get graph.now.nodes node ≡ Some cell → is_sink cell.kind ≡ true → E.writes ends.old node ≡ true }
+    ensures written { OnDone result (λ _. HasWritten graph.now.nodes (E.left ends.old) (E.taken ends.old) (E.taken ends.new)) }
+    ensures read { OnDone result (λ _. HasRead graph.now.nodes (E.left ends.new)) }
+    ensures status { OnDone result (λ status. (sources : List (List ℕ)) → AreTold sources graph.now.nodes (E.left ends.old) →
         status ≡ (outcome graph.now sources).status) }
-    ensures front { HasWrittenFronts (cells graph.now.nodes.items) (E.left ends.old) (E.taken ends.old) (E.taken ends.new) }
+    ensures front { HasWrittenFronts graph.now.nodes (E.left ends.old) (E.taken ends.old) (E.taken ends.new) }
     ensures fault { (node : ℕ) → result ≡ Ending.Fault node → Rose (E.faults ends.old node) (E.faults ends.new node) }
     ensures others { (node : ℕ) → (result ≡ Ending.Fault node → ⊥) → E.faults ends.new node ≡ E.faults ends.old node }
     ensures later { (node : ℕ) → E.faults ends.old node ≤ E.faults ends.new node }

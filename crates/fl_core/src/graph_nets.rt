@@ -1,8 +1,7 @@
 //! Networks of graphs.
 ghost use Rattle.std.specs.Prelude.{◌≡◌, ◌<◌, ◌+◌, ◌^◌, ◌∷◌, [], ℕ, true, if◌then◌else◌, length, None, IfOk};
 ghost use Rattle.std.specs.List.{list_all};
-ghost use Rattle.fl_graph.specs.Cells.{cell, cells};
-ghost use Rattle.fl_graph.specs.Kinds.{has_its_ports, reads_one_input};
+ghost use Rattle.fl_graph.specs.Kinds.{has_its_ports, reads_one_input, runs_what_is_built};
 ghost use Rattle.fl_graph.specs.Net.{gives};
 ghost use Rattle.fl_graph.specs.Valid.{Valid};
 ghost use Rattle.fl_classes.specs.Flow.{is_source as is_source_lem};
@@ -27,16 +26,10 @@ pub(crate) const ROOM: u32 = 8;
 /// of its own, so what comes at a later one may not hold up its giver, on which an earlier one may wait; and what goes to the outside is
 /// held up by no node. On Memory nothing is left; it is also the answer where edges and nodes together are too many for numbers of 32 bits.
 pub fn net_of(alloc: Global, graph: &Graph, cap: Option<u32>) -> Result<Net<NodeMachine>, Memory>
-    requires valid { Valid (cells graph.now.nodes.items) graph.now.status }
-    requires kinds { are_run (cells graph.now.nodes.items) ≡ true }
-    ensures net { IfOk result (λ net. IsNetOf (λ machine. record {
-      takes = ⟦<NodeMachine as Machine>⟧.takes machine;
-      puts = ⟦<NodeMachine as Machine>⟧.puts machine;
-      broken = ⟦<NodeMachine as Machine>⟧.broken machine;
-      due = ⟦<NodeMachine as Machine>⟧.due machine;
-      selects = ⟦<NodeMachine as Machine>⟧.selects machine;
-    }) (cells graph.now.nodes.items) net.ports.items net.machines.items net.wires.items) }
-    ensures rooms { IfOk result (λ net. HasRooms (cells graph.now.nodes.items) cap net.rooms.items) }
+    requires valid { Valid graph.now.nodes graph.now.status }
+    requires kinds { are_run graph.now.nodes ≡ true }
+    ensures net { IfOk result (λ net. IsNetOf ⟦<NodeMachine as Machine>⟧.state graph.now.nodes net.ports.items net.machines.items net.wires.items) }
+    ensures rooms { IfOk result (λ net. HasRooms graph.now.nodes cap net.rooms.items) }
     ensures few { IfOk result (λ net. length net.machines.items < 2 ^ 32) }
 {
     let nodes = graph.nodes.as_slice();
@@ -56,7 +49,7 @@ pub fn net_of(alloc: Global, graph: &Graph, cap: Option<u32>) -> Result<Net<Node
 
 /// The number of edges, which is that of outs.
 pub(crate) fn edge_count(nodes: &[Node]) -> Result<usize, Memory>
-    ensures { IfOk result (λ count. count ≡ length (gives (cells nodes.now))) }
+    ensures { IfOk result (λ count. count ≡ length (gives nodes.now)) }
 {
     let mut count: usize = 0;
     for node in nodes {
@@ -81,10 +74,10 @@ fn wire_count(nodes: &[Node], edges: usize) -> Result<usize, Memory>
 
 /// The ports of all nodes.
 fn ports_of(alloc: Global, nodes: &[Node], edges: usize) -> Result<Vec<Ports>, Memory>
-    requires counted { edges ≡ length (gives (cells nodes.now)) }
+    requires counted { edges ≡ length (gives nodes.now) }
     requires few { edges + length nodes.now < 2 ^ 32 }
     ensures all { IfOk result (λ ports. length ports.items ≡ length nodes.now) }
-    ensures each { IfOk result (λ ports. NodesHave (HasPorts (cells nodes.now)) (cells nodes.now) ports.items) }
+    ensures each { IfOk result (λ ports. NodesHave (HasPorts nodes.now) nodes.now ports.items) }
 {
     let mut ports = Vec::new(alloc);
     for node in 0..nodes.len() {
@@ -95,8 +88,8 @@ fn ports_of(alloc: Global, nodes: &[Node], edges: usize) -> Result<Vec<Ports>, M
 
 /// The ports of a node, whose edge from outside or to the outside is this one where it is an end.
 fn ports_of_node(alloc: Global, node: &Node, outer: u32) -> Result<Ports, Memory>
-    ensures ins { IfOk result (λ own. own.ins.items ≡ (if is_source_lem node.now.kind then outer ∷ [] else node.now.ins.items)) }
-    ensures outs { IfOk result (λ own. own.outs.items ≡ (if is_sink_lem node.now.kind then outer ∷ [] else node.now.outs.items)) }
+    ensures ins { IfOk result (λ own. own.ins.items ≡ (if is_source_lem node.now.kind then outer ∷ [] else node.now.ins)) }
+    ensures outs { IfOk result (λ own. own.outs.items ≡ (if is_sink_lem node.now.kind then outer ∷ [] else node.now.outs)) }
     ensures reads { IfOk result (λ own. own.reads ≡ is_source_lem node.now.kind) }
     ensures writes { IfOk result (λ own. own.writes ≡ is_sink_lem node.now.kind) }
 {
@@ -145,17 +138,12 @@ fn is_sink(kind: &NodeKind) -> bool
 
 /// The machines of all nodes, at their beginning.
 fn machines_of(alloc: Global, nodes: &[Node]) -> Result<Vec<NodeMachine>, Memory>
-    requires ports { list_all has_its_ports (cells nodes.now) ≡ true }
-    requires inputs { list_all (λ cell. reads_one_input cell.kind) (cells nodes.now) ≡ true }
-    requires kinds { are_run (cells nodes.now) ≡ true }
+    requires ports { list_all has_its_ports nodes.now ≡ true }
+    requires inputs { list_all (λ cell. reads_one_input cell.kind) nodes.now ≡ true }
+    requires built { list_all (λ cell. runs_what_is_built cell.kind) nodes.now ≡ true }
+    requires kinds { are_run nodes.now ≡ true }
     ensures all { IfOk result (λ machines. length machines.items ≡ length nodes.now) }
-    ensures each { IfOk result (λ machines. NodesHave (λ node cell machine. BeginsAs (record {
-      takes = ⟦<NodeMachine as Machine>⟧.takes machine;
-      puts = ⟦<NodeMachine as Machine>⟧.puts machine;
-      broken = ⟦<NodeMachine as Machine>⟧.broken machine;
-      due = ⟦<NodeMachine as Machine>⟧.due machine;
-      selects = ⟦<NodeMachine as Machine>⟧.selects machine;
-    }) cell) (cells nodes.now) machines.items) }
+    ensures each { IfOk result (λ machines. NodesHave (λ node cell machine. BeginsAs (⟦<NodeMachine as Machine>⟧.state machine) cell) nodes.now machines.items) }
 {
     let mut machines = Vec::new(alloc);
     for node in 0..nodes.len() {
@@ -166,16 +154,11 @@ fn machines_of(alloc: Global, nodes: &[Node]) -> Result<Vec<NodeMachine>, Memory
 
 /// The machine of a node, at its beginning.
 fn machine_of(alloc: Global, node: &Node) -> Result<NodeMachine, Memory>
-    requires ports { has_its_ports (cell node.now) ≡ true }
+    requires ports { has_its_ports node.now ≡ true }
     requires inputs { reads_one_input node.now.kind ≡ true }
+    requires built { runs_what_is_built node.now.kind ≡ true }
     requires kind { is_run node.now.kind ≡ true }
-    ensures { IfOk result (λ machine. BeginsAs (record {
-      takes = ⟦<NodeMachine as Machine>⟧.takes machine;
-      puts = ⟦<NodeMachine as Machine>⟧.puts machine;
-      broken = ⟦<NodeMachine as Machine>⟧.broken machine;
-      due = ⟦<NodeMachine as Machine>⟧.due machine;
-      selects = ⟦<NodeMachine as Machine>⟧.selects machine;
-    }) (cell node.now)) }
+    ensures { IfOk result (λ machine. BeginsAs (⟦<NodeMachine as Machine>⟧.state machine) node.now) }
 {
     let ins = port_count(node.ins.as_slice())?;
     let outs = port_count(node.outs.as_slice())?;
@@ -212,7 +195,7 @@ fn rooms_of(
     cap: Option<u32>,
 ) -> Result<Vec<Option<u32>>, Memory>
     ensures all { IfOk result (λ rooms. length rooms.items ≡ edges) }
-    ensures each { IfOk result (λ rooms. (edge : ℕ) → edge < edges → room_on rooms.items edge ≡ room_of (cells nodes.now) cap edge) }
+    ensures each { IfOk result (λ rooms. (edge : ℕ) → edge < edges → room_on rooms.items edge ≡ room_of nodes.now cap edge) }
 {
     let mut rooms = unbounded(alloc, edges)?;
     for node in nodes {

@@ -1,6 +1,5 @@
 //! Networks over texts that are there from the beginning.
 ghost use Rattle.std.specs.Prelude.{◌≡◌, ◌<◌, ◌≤◌, ◌+◌, ◌^◌, [], ℕ, true, false, length, IfOk, IfSome, OnOk};
-ghost use Rattle.fl_graph.specs.Cells.{cells};
 ghost use Rattle.fl_graph.specs.Net.{gives};
 ghost use Rattle.fl_graph.specs.Valid.{Valid};
 ghost use Rattle.fl_classes.specs.Flow.{is_source as is_source_lem};
@@ -29,24 +28,12 @@ impl Net<NodeMachine> {
         inputs: Vec<(u32, Vec<u8>)>,
         cap: Option<u32>,
     ) -> Result<Net<NodeMachine>, Memory>
-        requires valid { Valid (cells graph.now.nodes.items) graph.now.status }
-        requires kinds { are_run (cells graph.now.nodes.items) ≡ true }
+        requires valid { Valid graph.now.nodes graph.now.status }
+        requires kinds { are_run graph.now.nodes ≡ true }
         requires some { IfSome cap (λ room. 1 ≤ room) }
-        ensures begins { IfOk result (λ net. BeginsOver (λ machine. record {
-          takes = ⟦<NodeMachine as Machine>⟧.takes machine;
-          puts = ⟦<NodeMachine as Machine>⟧.puts machine;
-          broken = ⟦<NodeMachine as Machine>⟧.broken machine;
-          due = ⟦<NodeMachine as Machine>⟧.due machine;
-          selects = ⟦<NodeMachine as Machine>⟧.selects machine;
-        }) (cells graph.now.nodes.items) (input_of_lem inputs.items) net.ports.items net.machines.items net.wires.items) }
-        ensures runs { IfOk result (λ net. RunsOver (λ machine. record {
-          takes = ⟦<NodeMachine as Machine>⟧.takes machine;
-          puts = ⟦<NodeMachine as Machine>⟧.puts machine;
-          broken = ⟦<NodeMachine as Machine>⟧.broken machine;
-          due = ⟦<NodeMachine as Machine>⟧.due machine;
-          selects = ⟦<NodeMachine as Machine>⟧.selects machine;
-        }) (cells graph.now.nodes.items) (input_of_lem inputs.items) 0 net.ports.items net.machines.items net.wires.items) }
-        ensures rooms { IfOk result (λ net. HasRooms (cells graph.now.nodes.items) cap net.rooms.items) }
+        ensures begins { IfOk result (λ net. BeginsOver ⟦<NodeMachine as Machine>⟧.state graph.now.nodes (input_of_lem inputs.items) net.ports.items net.machines.items net.wires.items) }
+        ensures runs { IfOk result (λ net. RunsOver ⟦<NodeMachine as Machine>⟧.state graph.now.nodes (input_of_lem inputs.items) 0 (λ _. false) net.ports.items net.machines.items net.wires.items) }
+        ensures rooms { IfOk result (λ net. HasRooms graph.now.nodes cap net.rooms.items) }
         ensures few { IfOk result (λ net. length net.machines.items < 2 ^ 32) }
     {
         let mut net = net_of(alloc, graph, cap)?;
@@ -71,12 +58,12 @@ fn load(
     edges: usize,
     inputs: &[(u32, Vec<u8>)],
 ) -> Result<(), Memory>
-    requires counted { edges ≡ length (gives (cells nodes.now)) }
+    requires counted { edges ≡ length (gives nodes.now) }
     requires wired { length wires.old ≡ edges + length nodes.now }
     requires few { length nodes.now < 2 ^ 32 }
     requires none { (edge : ℕ) → waiting_on wires.old edge ≡ [] }
     ensures width { length wires.new ≡ length wires.old }
-    ensures loaded { OnOk result (IsLoaded (cells nodes.now) (input_of_lem inputs.now) wires.new) }
+    ensures loaded { OnOk result (IsLoaded nodes.now (input_of_lem inputs.now) wires.new) }
 {
     for node in 0..nodes.len() {
         let text = input_of(inputs, node as u32);

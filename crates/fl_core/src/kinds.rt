@@ -1,6 +1,5 @@
 //! Which nodes the engine runs.
 ghost use Rattle.std.specs.Prelude.{◌≡◌};
-ghost use Rattle.fl_graph.specs.Cells.{cells};
 ghost use Rattle.fl_core.specs.Kinds.{are_run as are_run_lem, is_run as is_run_lem};
 
 use fl_graph::{Node, NodeKind};
@@ -8,7 +7,7 @@ use ut_args::Inv;
 
 /// Whether the engine runs each of these nodes.
 pub fn are_run(nodes: &[Node]) -> bool
-    ensures { result ≡ are_run_lem (cells nodes.now) }
+    ensures { result ≡ are_run_lem nodes.now }
 {
     for node in nodes {
         if !is_run(&node.kind) {

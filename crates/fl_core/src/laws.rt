@@ -1,19 +1,20 @@
 //! What the pieces on a graph's edges carry, in laws: each is the contract of a function that does nothing.
 #![tactic(auto, using(crate::proofs::LawLemmas::core_laws))]
 
-ghost use Rattle.std.specs.Prelude.{◌≡◌, ◌<◌, ◌≤◌, ℕ, List, Option, length, map, slice_get, IfSome, Some, true, false};
+ghost use Rattle.std.specs.Prelude.{◌≡◌, ◌<◌, ◌≤◌, ℕ, Bool, List, Option, length, map, slice_get, IfSome, Some, true, false};
 ghost use Rattle.std.specs.List.{flat_map};
-ghost use Rattle.fl_graph.specs.Cells.{cells};
-ghost use Rattle.fl_graph.specs.Net.{Cell, gives};
+ghost use Rattle.fl_graph.specs.Net.{gives};
+ghost use Rattle.fl_graph.specs.declared.graphs.Cell.{Cell};
 ghost use Rattle.ps_lines.specs.Texts.{BeginsWith};
-ghost use Rattle.fl_graph.specs.Runs.{State, text_of, has_end, completed};
+ghost use Rattle.fl_graph.specs.Machines.{State};
+ghost use Rattle.fl_graph.specs.Runs.{text_of, has_broken, has_end, completed};
 ghost use Rattle.fl_graph.specs.Valid.{Valid};
 ghost use Rattle.fl_graph.specs.declared.kinds.NodeKind.{NodeKind};
 ghost use Rattle.fl_graph.specs.declared.pieces.Piece.{Piece};
 ghost use Rattle.fl_classes.specs.Flow.{flow, only, writes, writes_of, selections, selects};
 ghost use Rattle.fl_core.specs.Inputs.{RunsOver};
 ghost use Rattle.fl_core.specs.Kinds.{is_sink};
-ghost use Rattle.fl_core.specs.Laws.{Carries, NetKeeps};
+ghost use Rattle.fl_core.specs.Laws.{Carries, NetKeeps, NetRan};
 ghost use Rattle.fl_core.specs.Moves.{most_moves};
 ghost use Rattle.fl_core.specs.Plans.{outer_edge, AreTold, HasRooms, IsPlanOf};
 ghost use Rattle.fl_core.specs.Runs.{Goes};
@@ -29,78 +30,87 @@ use fl_graph::{Act, Graph, Machine};
 /// `taken` and `put` are the pieces of each edge in order. A node that is broken puts its brokenness, which carries no text: then the
 /// front is all that is said.
 pub fn edges_carry_the_flow(graph: &Graph)
-    requires { Valid (cells graph.now.nodes.items) graph.now.status }
-    ensures carries { (sources : List (List ℕ)) (taken put : ℕ → List Piece) → NetKeeps sources (cells graph.now.nodes.items) taken put →
-        (edge : ℕ) → edge < length (gives (cells graph.now.nodes.items)) → Carries (put edge) (flow (cells graph.now.nodes.items) sources edge) }
-    ensures taken { (sources : List (List ℕ)) (taken put : ℕ → List Piece) → NetKeeps sources (cells graph.now.nodes.items) taken put →
-        (edge : ℕ) → edge < length (gives (cells graph.now.nodes.items)) → BeginsWith (flow (cells graph.now.nodes.items) sources edge) (text_of (taken edge)) }
-    ensures ended { (sources : List (List ℕ)) (taken put : ℕ → List Piece) → NetKeeps sources (cells graph.now.nodes.items) taken put →
-        (edge : ℕ) → edge < length (gives (cells graph.now.nodes.items)) → has_end (taken edge) ≡ true →
-        flow (cells graph.now.nodes.items) sources edge ≡ text_of (taken edge) }
-    ensures completed { (sources : List (List ℕ)) (taken put : ℕ → List Piece) → NetKeeps sources (cells graph.now.nodes.items) taken put →
-        (edge : ℕ) → edge < length (gives (cells graph.now.nodes.items)) → has_end (taken edge) ≡ true →
-        (rest : List ℕ) → completed (taken edge) rest ≡ flow (cells graph.now.nodes.items) sources edge }
+    requires { Valid graph.now.nodes graph.now.status }
+    ensures carries { (sources : List (List ℕ)) (taken put : ℕ → List Piece) → NetKeeps sources graph.now.nodes taken put →
+        (edge : ℕ) → edge < length (gives graph.now.nodes) → Carries (put edge) (flow graph.now.nodes sources edge) }
+    ensures taken { (sources : List (List ℕ)) (taken put : ℕ → List Piece) → NetKeeps sources graph.now.nodes taken put →
+        (edge : ℕ) → edge < length (gives graph.now.nodes) → BeginsWith (flow graph.now.nodes sources edge) (text_of (taken edge)) }
+    ensures ended { (sources : List (List ℕ)) (taken put : ℕ → List Piece) → NetKeeps sources graph.now.nodes taken put →
+        (edge : ℕ) → edge < length (gives graph.now.nodes) → has_end (taken edge) ≡ true →
+        flow graph.now.nodes sources edge ≡ text_of (taken edge) }
+    ensures completed { (sources : List (List ℕ)) (taken put : ℕ → List Piece) → NetKeeps sources graph.now.nodes taken put →
+        (edge : ℕ) → edge < length (gives graph.now.nodes) → has_end (taken edge) ≡ true →
+        (rest : List ℕ) → completed (taken edge) rest ≡ flow graph.now.nodes sources edge }
+{}
+
+/// Where each node of a valid graph has run to its stop, in whatever order the nodes did, and what was given on each edge is what was taken
+/// from it: each edge carries a front of its flow, and all of it where no Broken stands on it; and none stands on any edge where no node has
+/// failed.
+pub fn net_ran(graph: &Graph)
+    requires { Valid graph.now.nodes graph.now.status }
+    ensures front { (sources : List (List ℕ)) (pieces : ℕ → List Piece) (failed : ℕ → Bool) → NetRan sources graph.now.nodes pieces failed →
+        (edge : ℕ) → edge < length (gives graph.now.nodes) → BeginsWith (flow graph.now.nodes sources edge) (text_of (pieces edge)) }
+    ensures whole { (sources : List (List ℕ)) (pieces : ℕ → List Piece) (failed : ℕ → Bool) → NetRan sources graph.now.nodes pieces failed →
+        (edge : ℕ) → edge < length (gives graph.now.nodes) → has_broken (pieces edge) ≡ false → flow graph.now.nodes sources edge ≡ text_of (pieces edge) }
+    ensures unbroken { (sources : List (List ℕ)) (pieces : ℕ → List Piece) (failed : ℕ → Bool) → NetRan sources graph.now.nodes pieces failed →
+        ((node : ℕ) → failed node ≡ false) → (edge : ℕ) → edge < length (gives graph.now.nodes) → has_broken (pieces edge) ≡ false }
 {}
 
 /// What a valid graph leaves is said of its flow: each node writes, and tells whether it selects, what its kind does with the texts of
 /// its ins, in the order of the nodes.
 pub fn what_a_graph_leaves_is_of_the_flow(graph: &Graph)
-    requires { Valid (cells graph.now.nodes.items) graph.now.status }
-    ensures writes { (sources : List (List ℕ)) → writes (cells graph.now.nodes.items) sources ≡
-        flat_map (λ cell. writes_of cell.kind (map (flow (cells graph.now.nodes.items) sources) cell.ins)) (cells graph.now.nodes.items) }
-    ensures selections { (sources : List (List ℕ)) → selections (cells graph.now.nodes.items) sources ≡
-        map (λ cell. selects cell.kind (map (flow (cells graph.now.nodes.items) sources) cell.ins)) (cells graph.now.nodes.items) }
+    requires { Valid graph.now.nodes graph.now.status }
+    ensures writes { (sources : List (List ℕ)) → writes graph.now.nodes sources ≡
+        flat_map (λ cell. writes_of cell.kind (map (flow graph.now.nodes sources) cell.ins)) graph.now.nodes }
+    ensures selections { (sources : List (List ℕ)) → selections graph.now.nodes sources ≡
+        map (λ cell. selects cell.kind (map (flow graph.now.nodes sources) cell.ins)) graph.now.nodes }
 {}
 
 /// In a network over texts that are there from the beginning, what waits for the outside behind a sink is of the flow at any time: a front
-/// of its text, all of it where its end waits too, and all of it once each machine has stopped.
+/// of its text, all of it where its end waits too, and all of it once each machine has stopped, where none has failed.
 pub fn what_waits_for_the_outside_is_of_the_flow<M: Machine>(graph: &Graph, net: &Net<M>)
-    requires { Valid (cells graph.now.nodes.items) graph.now.status }
-    ensures carries { let state : M → State = λ machine. record { takes = M.takes machine; puts = M.puts machine; broken = M.broken machine; due = M.due machine; selects = M.selects machine } in
-        (inputs : ℕ → List ℕ) (moves : ℕ) → RunsOver state (cells graph.now.nodes.items) inputs moves net.now.ports.items net.now.machines.items net.now.wires.items →
-        (sources : List (List ℕ)) → AreTold sources (cells graph.now.nodes.items) (λ node. Some (inputs node)) →
-        (node : ℕ) (cell : Cell NodeKind) → slice_get (cells graph.now.nodes.items) node ≡ Some cell → is_sink cell.kind ≡ true →
-        Carries (waiting_on net.now.wires.items (outer_edge (cells graph.now.nodes.items) node)) (only (map (flow (cells graph.now.nodes.items) sources) cell.ins)) }
-    ensures whole { let state : M → State = λ machine. record { takes = M.takes machine; puts = M.puts machine; broken = M.broken machine; due = M.due machine; selects = M.selects machine } in
-        (inputs : ℕ → List ℕ) (moves : ℕ) → RunsOver state (cells graph.now.nodes.items) inputs moves net.now.ports.items net.now.machines.items net.now.wires.items →
-        ((number : ℕ) (machine : M) → slice_get net.now.machines.items number ≡ Some machine → ((port : ℕ) → M.takes machine port ≡ false) × ((port : ℕ) → M.puts machine port ≡ false)) →
-        (sources : List (List ℕ)) → AreTold sources (cells graph.now.nodes.items) (λ node. Some (inputs node)) →
-        (node : ℕ) (cell : Cell NodeKind) → slice_get (cells graph.now.nodes.items) node ≡ Some cell → is_sink cell.kind ≡ true →
-        only (map (flow (cells graph.now.nodes.items) sources) cell.ins) ≡ text_of (waiting_on net.now.wires.items (outer_edge (cells graph.now.nodes.items) node)) }
+    requires { Valid graph.now.nodes graph.now.status }
+    ensures carries { (inputs : ℕ → List ℕ) (moves : ℕ) (failed : ℕ → Bool) → RunsOver M.state graph.now.nodes inputs moves failed net.now.ports.items net.now.machines.items net.now.wires.items →
+        (sources : List (List ℕ)) → AreTold sources graph.now.nodes (λ node. Some (inputs node)) →
+        (node : ℕ) (cell : Cell NodeKind) → slice_get graph.now.nodes node ≡ Some cell → is_sink cell.kind ≡ true →
+        Carries (waiting_on net.now.wires.items (outer_edge graph.now.nodes node)) (only (map (flow graph.now.nodes sources) cell.ins)) }
+    ensures whole { (inputs : ℕ → List ℕ) (moves : ℕ) (failed : ℕ → Bool) → RunsOver M.state graph.now.nodes inputs moves failed net.now.ports.items net.now.machines.items net.now.wires.items →
+        ((number : ℕ) → failed number ≡ false) →
+        ((number : ℕ) (machine : M) → slice_get net.now.machines.items number ≡ Some machine → ((port : ℕ) → (M.state machine).takes port ≡ false) × ((port : ℕ) → (M.state machine).puts port ≡ false)) →
+        (sources : List (List ℕ)) → AreTold sources graph.now.nodes (λ node. Some (inputs node)) →
+        (node : ℕ) (cell : Cell NodeKind) → slice_get graph.now.nodes node ≡ Some cell → is_sink cell.kind ≡ true →
+        only (map (flow graph.now.nodes sources) cell.ins) ≡ text_of (waiting_on net.now.wires.items (outer_edge graph.now.nodes node)) }
 {}
 
 /// A network of a valid graph is never stuck, in whatever order its nodes had their turns: where no node can move a piece, and none starves for what
 /// it could read from outside, each machine has stopped. Edges into nodes of many ins have no bound, and the others room for one piece or more.
 pub fn a_network_is_never_stuck<M: Machine>(graph: &Graph, net: &Net<M>)
-    requires { Valid (cells graph.now.nodes.items) graph.now.status }
-    ensures { let state : M → State = λ machine. record { takes = M.takes machine; puts = M.puts machine; broken = M.broken machine; due = M.due machine; selects = M.selects machine } in
-        (left taken : ℕ → Option (List ℕ)) (goes : Goes state net.now.ports.items net.now.machines.items net.now.wires.items left taken) →
-        IsPlanOf (cells graph.now.nodes.items) goes.plan →
-        length net.now.ports.items ≡ length (cells graph.now.nodes.items) → length net.now.machines.items ≡ length (cells graph.now.nodes.items) →
-        (cap : Option ℕ) → HasRooms (cells graph.now.nodes.items) cap net.now.rooms.items → IfSome cap (λ room. 1 ≤ room) →
-        IsStuck (λ machine. M.takes machine) (λ machine. M.puts machine) (λ machine. M.act machine) net.now.ports.items net.now.machines.items net.now.rooms.items net.now.wires.items →
-        (node : ℕ) (machine : M) → slice_get net.now.machines.items node ≡ Some machine → M.act machine ≡ Act.Stop }
+    requires { Valid graph.now.nodes graph.now.status }
+    ensures { (left taken : ℕ → Option (List ℕ)) (goes : Goes M.state net.now.ports.items net.now.machines.items net.now.wires.items left taken) →
+        IsPlanOf graph.now.nodes goes.plan →
+        length net.now.ports.items ≡ length graph.now.nodes → length net.now.machines.items ≡ length graph.now.nodes →
+        (cap : Option ℕ) → HasRooms graph.now.nodes cap net.now.rooms.items → IfSome cap (λ room. 1 ≤ room) →
+        IsStuck M.state net.now.ports.items net.now.machines.items net.now.rooms.items net.now.wires.items →
+        (node : ℕ) (machine : M) → slice_get net.now.machines.items node ≡ Some machine → (M.state machine).act ≡ Act.Stop }
 {}
 
 /// A network over texts that are there from the beginning is never stuck, whatever steps it has made: where no node's step moves a piece, each
 /// machine has stopped.
 pub fn a_network_over_texts_is_never_stuck<M: Machine>(graph: &Graph, net: &Net<M>)
-    requires { Valid (cells graph.now.nodes.items) graph.now.status }
-    ensures { let state : M → State = λ machine. record { takes = M.takes machine; puts = M.puts machine; broken = M.broken machine; due = M.due machine; selects = M.selects machine } in
-        (inputs : ℕ → List ℕ) (moves : ℕ) → RunsOver state (cells graph.now.nodes.items) inputs moves net.now.ports.items net.now.machines.items net.now.wires.items →
-        length net.now.ports.items ≡ length (cells graph.now.nodes.items) →
-        (cap : Option ℕ) → HasRooms (cells graph.now.nodes.items) cap net.now.rooms.items → IfSome cap (λ room. 1 ≤ room) →
-        IsStill (λ machine. M.takes machine) (λ machine. M.puts machine) (λ machine. M.act machine) net.now.ports.items net.now.machines.items net.now.rooms.items net.now.wires.items →
-        (node : ℕ) (machine : M) → slice_get net.now.machines.items node ≡ Some machine → M.act machine ≡ Act.Stop }
+    requires { Valid graph.now.nodes graph.now.status }
+    ensures { (inputs : ℕ → List ℕ) (moves : ℕ) (failed : ℕ → Bool) → RunsOver M.state graph.now.nodes inputs moves failed net.now.ports.items net.now.machines.items net.now.wires.items →
+        length net.now.ports.items ≡ length graph.now.nodes →
+        (cap : Option ℕ) → HasRooms graph.now.nodes cap net.now.rooms.items → IfSome cap (λ room. 1 ≤ room) →
+        IsStill M.state net.now.ports.items net.now.machines.items net.now.rooms.items net.now.wires.items →
+        (node : ℕ) (machine : M) → slice_get net.now.machines.items node ≡ Some machine → (M.state machine).act ≡ Act.Stop }
 {}
 
 /// A run over texts that are there from the beginning makes few moves, in whatever order its nodes have their turns: over an edge go no more
 /// pieces than its flow has bytes, and an end. Each is put by one step and taken by another, but for those that came from outside, which are
 /// only taken, and those for the outside, which are only put.
 pub fn a_run_makes_few_moves<M: Machine>(graph: &Graph, net: &Net<M>)
-    requires { Valid (cells graph.now.nodes.items) graph.now.status }
-    ensures { let state : M → State = λ machine. record { takes = M.takes machine; puts = M.puts machine; broken = M.broken machine; due = M.due machine; selects = M.selects machine } in
-        (inputs : ℕ → List ℕ) (moves : ℕ) → RunsOver state (cells graph.now.nodes.items) inputs moves net.now.ports.items net.now.machines.items net.now.wires.items →
-        (sources : List (List ℕ)) → AreTold sources (cells graph.now.nodes.items) (λ node. Some (inputs node)) →
-        moves ≤ most_moves (cells graph.now.nodes.items) sources }
+    requires { Valid graph.now.nodes graph.now.status }
+    ensures { (inputs : ℕ → List ℕ) (moves : ℕ) (failed : ℕ → Bool) → RunsOver M.state graph.now.nodes inputs moves failed net.now.ports.items net.now.machines.items net.now.wires.items →
+        (sources : List (List ℕ)) → AreTold sources graph.now.nodes (λ node. Some (inputs node)) →
+        moves ≤ most_moves graph.now.nodes sources }
 {}

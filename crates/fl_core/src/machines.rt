@@ -1,6 +1,6 @@
 //! The machine of any node.
 ghost use Rattle.std.specs.Prelude.{◌≡◌, true, false, IfOk};
-ghost use Rattle.fl_graph.specs.Kinds.{may_have, reads_one_input};
+ghost use Rattle.fl_graph.specs.Kinds.{may_have, reads_one_input, runs_what_is_built};
 ghost use Rattle.fl_classes.specs.Nodes.{Begins};
 ghost use Rattle.fl_core.specs.Kinds.{is_run, run_kind, run_ins, run_outs};
 
@@ -31,9 +31,9 @@ pub fn node_machine(
     requires known { is_run kind.now ≡ true }
     requires ports { may_have kind.now ins outs ≡ true }
     requires inputs { reads_one_input kind.now ≡ true }
+    requires built { runs_what_is_built kind.now ≡ true }
     ensures { IfOk result (λ machine. Begins (run_kind kind.now) (run_ins kind.now ins) (run_outs kind.now outs)
-        (⟦<NodeMachine as Machine>⟧.takes machine) (⟦<NodeMachine as Machine>⟧.puts machine)
-        (⟦<NodeMachine as Machine>⟧.broken machine) (⟦<NodeMachine as Machine>⟧.due machine) (⟦<NodeMachine as Machine>⟧.selects machine)) }
+        (⟦<NodeMachine as Machine>⟧.state machine)) }
 {
     match kind {
         NodeKind::Source(_) | NodeKind::Sink(_) => hand_on(alloc),
@@ -53,8 +53,7 @@ pub fn node_machine(
 /// The machine that hands on what comes.
 fn hand_on(alloc: Global) -> Result<NodeMachine, Memory>
     ensures { IfOk result (λ machine. Begins (NodeKind.Cat false) 1 1
-        (⟦<NodeMachine as Machine>⟧.takes machine) (⟦<NodeMachine as Machine>⟧.puts machine)
-        (⟦<NodeMachine as Machine>⟧.broken machine) (⟦<NodeMachine as Machine>⟧.due machine) (⟦<NodeMachine as Machine>⟧.selects machine)) }
+        (⟦<NodeMachine as Machine>⟧.state machine)) }
 {
     match joint(alloc, &NodeKind::Cat { close: false }, 1, 1) {
         Ok(joint) => Ok(NodeMachine::Joint(joint)),
@@ -65,34 +64,9 @@ fn hand_on(alloc: Global) -> Result<NodeMachine, Memory>
 impl Machine for NodeMachine {
     ghost use Rattle.fl_core.specs.declared.machines.NodeMachine.TheVariants as variant;
 
-    ghost act = { λ node. elim node [
-      | variant.Util machine ↦ ⟦<UtilMachine as Machine>⟧.act machine
-      | variant.Joint machine ↦ ⟦<Joint as Machine>⟧.act machine
-    ] };
-
-    ghost takes = { λ node port. elim node [
-      | variant.Util machine ↦ ⟦<UtilMachine as Machine>⟧.takes machine port
-      | variant.Joint machine ↦ ⟦<Joint as Machine>⟧.takes machine port
-    ] };
-
-    ghost puts = { λ node port. elim node [
-      | variant.Util machine ↦ ⟦<UtilMachine as Machine>⟧.puts machine port
-      | variant.Joint machine ↦ ⟦<Joint as Machine>⟧.puts machine port
-    ] };
-
-    ghost broken = { λ node. elim node [
-      | variant.Util machine ↦ ⟦<UtilMachine as Machine>⟧.broken machine
-      | variant.Joint machine ↦ ⟦<Joint as Machine>⟧.broken machine
-    ] };
-
-    ghost due = { λ node texts port. elim node [
-      | variant.Util machine ↦ ⟦<UtilMachine as Machine>⟧.due machine texts port
-      | variant.Joint machine ↦ ⟦<Joint as Machine>⟧.due machine texts port
-    ] };
-
-    ghost selects = { λ node texts. elim node [
-      | variant.Util machine ↦ ⟦<UtilMachine as Machine>⟧.selects machine texts
-      | variant.Joint machine ↦ ⟦<Joint as Machine>⟧.selects machine texts
+    ghost state = { λ node. elim node [
+      | variant.Util machine ↦ ⟦<UtilMachine as Machine>⟧.state machine
+      | variant.Joint machine ↦ ⟦<Joint as Machine>⟧.state machine
     ] };
 
     fn next(&self) -> Act {
@@ -113,6 +87,13 @@ impl Machine for NodeMachine {
         match self {
             NodeMachine::Util(machine) => machine.put(),
             NodeMachine::Joint(machine) => machine.put(),
+        }
+    }
+
+    fn break_off(&mut self) {
+        match self {
+            NodeMachine::Util(machine) => machine.break_off(),
+            NodeMachine::Joint(machine) => machine.break_off(),
         }
     }
 

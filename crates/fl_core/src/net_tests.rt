@@ -1,12 +1,11 @@
 //! The network of a small graph.
 ghost use Rattle.std.specs.Prelude.{◌≡◌, ◌<◌, ◌^◌, true, length, IfOk};
-ghost use Rattle.fl_graph.specs.Cells.{cells};
 ghost use Rattle.fl_graph.specs.Valid.{Valid};
 ghost use Rattle.fl_core.specs.Inputs.{CanStep};
 ghost use Rattle.fl_core.specs.Kinds.{are_run as are_run_lem};
 
 use crate::{Net, NodeMachine, are_run, net_of};
-use fl_graph::{From, Graph, Machine, Node, NodeKind, Piece, StatusRule, To, validate};
+use fl_graph::{From, Graph, Machine, Node, NodeKind, Piece, Seq, StatusRule, To, validate};
 use ps_lines::Memory;
 use std::alloc::{AllocError, Global};
 use std::test::Fail;
@@ -15,8 +14,8 @@ use std::test::Fail;
 fn node(alloc: Global, kind: NodeKind, ins: &[u32], outs: &[u32]) -> Result<Node, AllocError> {
     Ok(Node {
         kind,
-        ins: Vec::from_slice(alloc, ins)?,
-        outs: Vec::from_slice(alloc, outs)?,
+        ins: Seq::from_vec(Vec::from_slice(alloc, ins)?),
+        outs: Seq::from_vec(Vec::from_slice(alloc, outs)?),
         stage: 0,
     })
 }
@@ -31,7 +30,7 @@ fn split_and_joined(alloc: Global) -> Result<Graph, AllocError> {
     nodes.push(node(alloc, NodeKind::Cat { close: false }, &[3, 4], &[5])?)?;
     nodes.push(node(alloc, NodeKind::Sink(To::Output), &[5], &[])?)?;
     Ok(Graph {
-        nodes,
+        nodes: Seq::from_vec(nodes),
         status: StatusRule::Fixed(0),
     })
 }
@@ -53,21 +52,9 @@ fn edges_into_nodes_of_many_ins_have_no_bound(rt: HostRuntime) -> Result<(), Fai
 /// One step of each node, in order; answers whether a piece has moved.
 fn step_each(net: &mut Net<NodeMachine>) -> Result<bool, Memory>
     requires few { length net.old.machines.items < 2 ^ 32 }
-    requires ready { CanStep (λ machine. record {
-      takes = ⟦<NodeMachine as Machine>⟧.takes machine;
-      puts = ⟦<NodeMachine as Machine>⟧.puts machine;
-      broken = ⟦<NodeMachine as Machine>⟧.broken machine;
-      due = ⟦<NodeMachine as Machine>⟧.due machine;
-      selects = ⟦<NodeMachine as Machine>⟧.selects machine;
-    }) net.old.ports.items net.old.machines.items net.old.wires.items }
+    requires ready { CanStep ⟦<NodeMachine as Machine>⟧.state net.old.ports.items net.old.machines.items net.old.wires.items }
     ensures same { IfOk result (λ _. length net.new.machines.items ≡ length net.old.machines.items) }
-    ensures ready { IfOk result (λ _. CanStep (λ machine. record {
-      takes = ⟦<NodeMachine as Machine>⟧.takes machine;
-      puts = ⟦<NodeMachine as Machine>⟧.puts machine;
-      broken = ⟦<NodeMachine as Machine>⟧.broken machine;
-      due = ⟦<NodeMachine as Machine>⟧.due machine;
-      selects = ⟦<NodeMachine as Machine>⟧.selects machine;
-    }) net.new.ports.items net.new.machines.items net.new.wires.items) }
+    ensures ready { IfOk result (λ _. CanStep ⟦<NodeMachine as Machine>⟧.state net.new.ports.items net.new.machines.items net.new.wires.items) }
 {
     let mut moved = false;
     for node in 0..net.machines.len() as u32 {
@@ -81,8 +68,8 @@ fn step_each(net: &mut Net<NodeMachine>) -> Result<bool, Memory>
 
 /// The network of a graph over a text of its first node, once no step moves a piece, or after 100 steps of each node.
 fn run_over(alloc: Global, graph: &Graph, text: &[u8]) -> Result<Net<NodeMachine>, Memory>
-    requires valid { Valid (cells graph.now.nodes.items) graph.now.status }
-    requires kinds { are_run_lem (cells graph.now.nodes.items) ≡ true }
+    requires valid { Valid graph.now.nodes graph.now.status }
+    requires kinds { are_run_lem graph.now.nodes ≡ true }
 {
     let mut inputs = Vec::new(alloc);
     inputs.push((0, Vec::from_slice(alloc, text)?))?;

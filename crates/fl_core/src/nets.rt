@@ -9,7 +9,7 @@ use crate::ends::NodeEnds;
 use crate::outside::{Halt, read_piece, write_piece};
 use crate::steps::{Progress, step};
 use crate::wires::Wire;
-use fl_graph::{MAX_PIECE, Machine};
+use fl_graph::{MAX_PIECE, Machine, break_machine};
 use ps_lines::Memory;
 use std::alloc::Global;
 
@@ -38,46 +38,46 @@ pub struct Net<M: Machine> {
 }
 
 impl<M: Machine> Net<M> {
-    ghost use Rattle.std.specs.Prelude.{ℕ, suc, if◌then◌else◌, List, Option};
-    ghost use Rattle.fl_graph.specs.Machines.{MayDo};
-    ghost use Rattle.fl_graph.specs.Net.{Cell};
-    ghost use Rattle.fl_graph.specs.Runs.{State};
+    ghost use Rattle.std.specs.Prelude.{ℕ, suc, if◌then◌else◌, Bool, List, Option};
+    ghost use Rattle.fl_graph.specs.Machines.{is_take, MayDo};
+    ghost use Rattle.fl_graph.specs.declared.graphs.Cell.{Cell};
     ghost use Rattle.fl_graph.specs.declared.kinds.NodeKind.{NodeKind};
-    ghost use Rattle.fl_core.specs.Inputs.{RunsOver};
+    ghost use Rattle.fl_core.specs.Inputs.{marked, RunsOver};
     ghost use Rattle.fl_core.specs.Steps.{has_moved, progress_at, ArePlain, CameTo, Fits, GaveTo, Starves, TookFrom, WentFrom};
     ghost use Rattle.fl_core.specs.Stuck.{is_stuck, IsStuck, IsStuckAt};
     ghost use Rattle.fl_core.specs.declared.nets.Ports.{Ports as Port};
 
     /// Does what the machine of a node does next, where it can: it starves, waits or has ended exactly where `progress_at` says so, and then
-    /// nothing changes. Memory comes only where a piece was to move, and no step follows it.
+    /// nothing changes. Memory comes only where a piece was to move: the node is broken then, and no piece that was to be put is lost. A step
+    /// may be asked for at any time, also of a node that is broken.
     pub fn step(&mut self, node: u32) -> Result<Progress, Memory>
         requires node { (node < length self.old.machines.items) × (node < length self.old.ports.items) }
-        requires whole { (machine : M) → slice_get self.old.machines.items node ≡ Some machine → M.broken machine ≡ false }
         requires plain { ArePlain self.old.wires.items }
-        requires fits { let state : M → State = λ machine. record { takes = M.takes machine; puts = M.puts machine; broken = M.broken machine; due = M.due machine; selects = M.selects machine } in
-            (machine : M) (own : Port) → slice_get self.old.machines.items node ≡ Some machine → slice_get self.old.ports.items node ≡ Some own →
-            Fits (state machine) own.ins.items own.outs.items (length self.old.wires.items) }
-        ensures leads { let state : M → State = λ machine. record { takes = M.takes machine; puts = M.puts machine; broken = M.broken machine; due = M.due machine; selects = M.selects machine } in
-            IfOk result (λ _. (left taken : ℕ → Option (List ℕ)) →
-            Leads state self.old.ports.items self.old.machines.items self.new.machines.items self.old.wires.items self.new.wires.items left left taken taken) }
-        ensures starves { let state : M → State = λ machine. record { takes = M.takes machine; puts = M.puts machine; broken = M.broken machine; due = M.due machine; selects = M.selects machine } in
-            result ≡ Ok Progress.Starves → (machine : M) (own : Port) → slice_get self.new.machines.items node ≡ Some machine → slice_get self.new.ports.items node ≡ Some own →
-            Starves (state machine) own.ins.items self.new.wires.items }
-        ensures over { let state : M → State = λ machine. record { takes = M.takes machine; puts = M.puts machine; broken = M.broken machine; due = M.due machine; selects = M.selects machine } in
-            IfOk result (λ step. (cells : List (Cell NodeKind)) (inputs : ℕ → List ℕ) (moves : ℕ) →
-            RunsOver state cells inputs moves self.old.ports.items self.old.machines.items self.old.wires.items →
-            RunsOver state cells inputs (if has_moved step then suc moves else moves) self.new.ports.items self.new.machines.items self.new.wires.items) }
+        requires fits { (machine : M) (own : Port) → slice_get self.old.machines.items node ≡ Some machine → slice_get self.old.ports.items node ≡ Some own →
+            Fits (M.state machine) own.ins.items own.outs.items (length self.old.wires.items) }
+        ensures leads { IfOk result (λ _. (left taken : ℕ → Option (List ℕ)) →
+            Leads M.state self.old.ports.items self.old.machines.items self.new.machines.items self.old.wires.items self.new.wires.items left left taken taken) }
+        ensures starves { result ≡ Ok Progress.Starves → (machine : M) (own : Port) → slice_get self.new.machines.items node ≡ Some machine → slice_get self.new.ports.items node ≡ Some own →
+            Starves (M.state machine) own.ins.items self.new.wires.items }
+        ensures over { IfOk result (λ step. (cells : List (Cell NodeKind)) (inputs : ℕ → List ℕ) (moves : ℕ) (failed : ℕ → Bool) →
+            RunsOver M.state cells inputs moves failed self.old.ports.items self.old.machines.items self.old.wires.items →
+            RunsOver M.state cells inputs (if has_moved step then suc moves else moves) failed self.new.ports.items self.new.machines.items self.new.wires.items) }
+        ensures over_refused { OnErr result ((machine : M) → slice_get self.old.machines.items node ≡ Some machine →
+            (cells : List (Cell NodeKind)) (inputs : ℕ → List ℕ) (moves : ℕ) (failed : ℕ → Bool) →
+            RunsOver M.state cells inputs moves failed self.old.ports.items self.old.machines.items self.old.wires.items →
+            RunsOver M.state cells inputs (if is_take (M.state machine).act then suc moves else moves) (marked node failed) self.new.ports.items self.new.machines.items self.new.wires.items) }
+        ensures broken { OnErr result ((machine : M) → slice_get self.new.machines.items node ≡ Some machine → (M.state machine).broken ≡ true) }
         ensures shut { result ≡ Ok Progress.Ended → (machine : M) → slice_get self.new.machines.items node ≡ Some machine →
-            ((port : ℕ) → M.takes machine port ≡ false) × ((port : ℕ) → M.puts machine port ≡ false) }
+            ((port : ℕ) → (M.state machine).takes port ≡ false) × ((port : ℕ) → (M.state machine).puts port ≡ false) }
         ensures answer { IfOk result (λ step. (machine : M) (own : Port) → slice_get self.old.machines.items node ≡ Some machine → slice_get self.old.ports.items node ≡ Some own →
-            step ≡ progress_at (M.act machine) own.ins.items own.outs.items self.old.rooms.items self.old.wires.items) }
-        ensures may { (machine : M) → slice_get self.old.machines.items node ≡ Some machine → MayDo (M.takes machine) (M.puts machine) (M.act machine) }
+            step ≡ progress_at (M.state machine).act own.ins.items own.outs.items self.old.rooms.items self.old.wires.items) }
+        ensures may { (machine : M) → slice_get self.old.machines.items node ≡ Some machine → MayDo (M.state machine) (M.state machine).act }
         ensures took { result ≡ Ok Progress.Took → (own : Port) → slice_get self.old.ports.items node ≡ Some own →
             TookFrom own.ins.items self.old.wires.items self.new.wires.items }
         ensures gave { result ≡ Ok Progress.Gave → (own : Port) → slice_get self.old.ports.items node ≡ Some own →
             GaveTo own.outs.items self.old.wires.items self.new.wires.items }
         ensures memory { OnErr result ((machine : M) (own : Port) → slice_get self.old.machines.items node ≡ Some machine → slice_get self.old.ports.items node ≡ Some own →
-            has_moved (progress_at (M.act machine) own.ins.items own.outs.items self.old.rooms.items self.old.wires.items) ≡ true) }
+            has_moved (progress_at (M.state machine).act own.ins.items own.outs.items self.old.rooms.items self.old.wires.items) ≡ true) }
         ensures same { IfOk result (λ step. has_moved step ≡ false → (self.new.machines.items ≡ self.old.machines.items) × (self.new.wires.items ≡ self.old.wires.items)) }
         ensures ports { self.new.ports ≡ self.old.ports }
         ensures machines { length self.new.machines.items ≡ length self.old.machines.items }
@@ -94,6 +94,22 @@ impl<M: Machine> Net<M> {
         )
     }
 
+    /// Breaks the machine of a node off, as where what the node reads or writes outside has failed: whatever comes, it puts no byte more, ends
+    /// its outs by `Broken` and takes its ins to their ends.
+    pub fn break_off(&mut self, node: u32)
+        requires node { (node < length self.old.machines.items) × (node < length self.old.ports.items) }
+        ensures over { (cells : List (Cell NodeKind)) (inputs : ℕ → List ℕ) (moves : ℕ) (failed : ℕ → Bool) →
+            RunsOver M.state cells inputs moves failed self.old.ports.items self.old.machines.items self.old.wires.items →
+            RunsOver M.state cells inputs moves (marked node failed) self.new.ports.items self.new.machines.items self.new.wires.items }
+        ensures broken { (machine : M) → slice_get self.new.machines.items node ≡ Some machine → (M.state machine).broken ≡ true }
+        ensures ports { self.new.ports ≡ self.old.ports }
+        ensures machines { length self.new.machines.items ≡ length self.old.machines.items }
+        ensures wires { self.new.wires ≡ self.old.wires }
+        ensures rooms { self.new.rooms ≡ self.old.rooms }
+    {
+        break_machine(&mut self.machines[node as usize]);
+    }
+
     /// Reads a piece for a node whose in comes from outside, and puts it there. On a halt the piece is dropped.
     fn read<E: NodeEnds>(
         &mut self,
@@ -106,13 +122,11 @@ impl<M: Machine> Net<M> {
         requires port { (own : Port) → slice_get self.old.ports.items node ≡ Some own → (0 < length own.ins.items) × (get_or own.ins.items 0 0 < length self.old.wires.items) }
         requires reads { E.reads ends.old node ≡ true }
         requires room { (0 < length buffer.old) × (length buffer.old ≤ MAX_PIECE) }
-        ensures leads { let state : M → State = λ machine. record { takes = M.takes machine; puts = M.puts machine; broken = M.broken machine; due = M.due machine; selects = M.selects machine } in
-            OnOk result ((own : Port) (machine : M) → slice_get self.old.ports.items node ≡ Some own → slice_get self.old.machines.items node ≡ Some machine → own.reads ≡ true →
-            Starves (state machine) own.ins.items self.old.wires.items →
-            Leads state self.old.ports.items self.old.machines.items self.new.machines.items self.old.wires.items self.new.wires.items
+        ensures leads { OnOk result ((own : Port) (machine : M) → slice_get self.old.ports.items node ≡ Some own → slice_get self.old.machines.items node ≡ Some machine → own.reads ≡ true →
+            Starves (M.state machine) own.ins.items self.old.wires.items →
+            Leads M.state self.old.ports.items self.old.machines.items self.new.machines.items self.old.wires.items self.new.wires.items
             (E.left ends.old) (E.left ends.new) (E.taken ends.old) (E.taken ends.new)) }
-        ensures halts { let state : M → State = λ machine. record { takes = M.takes machine; puts = M.puts machine; broken = M.broken machine; due = M.due machine; selects = M.selects machine } in
-            OnErr result (Halts state self.old.ports.items self.old.machines.items self.old.wires.items (E.left ends.old) (E.taken ends.old) (E.taken ends.new)) }
+        ensures halts { OnErr result (Halts M.state self.old.ports.items self.old.machines.items self.old.wires.items (E.left ends.old) (E.taken ends.old) (E.taken ends.new)) }
         ensures came { OnOk result ((own : Port) → slice_get self.old.ports.items node ≡ Some own →
             CameTo (get_or own.ins.items 0 0) self.old.wires.items self.new.wires.items) }
         ensures ports { self.new.ports ≡ self.old.ports }
@@ -141,13 +155,11 @@ impl<M: Machine> Net<M> {
         requires node { node < length self.old.ports.items }
         requires port { (own : Port) → slice_get self.old.ports.items node ≡ Some own → (0 < length own.outs.items) × (get_or own.outs.items 0 0 < length self.old.wires.items) }
         requires writes { E.writes ends.old node ≡ true }
-        ensures leads { let state : M → State = λ machine. record { takes = M.takes machine; puts = M.puts machine; broken = M.broken machine; due = M.due machine; selects = M.selects machine } in
-            OnOk result ((own : Port) → slice_get self.old.ports.items node ≡ Some own → own.writes ≡ true →
-            Leads state self.old.ports.items self.old.machines.items self.new.machines.items self.old.wires.items self.new.wires.items
+        ensures leads { OnOk result ((own : Port) → slice_get self.old.ports.items node ≡ Some own → own.writes ≡ true →
+            Leads M.state self.old.ports.items self.old.machines.items self.new.machines.items self.old.wires.items self.new.wires.items
             (E.left ends.old) (E.left ends.new) (E.taken ends.old) (E.taken ends.new)) }
-        ensures halts { let state : M → State = λ machine. record { takes = M.takes machine; puts = M.puts machine; broken = M.broken machine; due = M.due machine; selects = M.selects machine } in
-            OnErr result ((own : Port) → slice_get self.old.ports.items node ≡ Some own → own.writes ≡ true →
-            Halts state self.old.ports.items self.old.machines.items self.old.wires.items (E.left ends.old) (E.taken ends.old) (E.taken ends.new)) }
+        ensures halts { OnErr result ((own : Port) → slice_get self.old.ports.items node ≡ Some own → own.writes ≡ true →
+            Halts M.state self.old.ports.items self.old.machines.items self.old.wires.items (E.left ends.old) (E.taken ends.old) (E.taken ends.new)) }
         ensures went { OnOk result ((own : Port) → slice_get self.old.ports.items node ≡ Some own →
             WentFrom (get_or own.outs.items 0 0) self.old.wires.items self.new.wires.items) }
         ensures ports { self.new.ports ≡ self.old.ports }
@@ -175,20 +187,17 @@ impl<M: Machine> Net<M> {
         buffer: &mut [u8],
     ) -> Result<bool, Halt>
         requires node { (node < length self.old.machines.items) × (node < length self.old.ports.items) }
-        requires goes { let state : M → State = λ machine. record { takes = M.takes machine; puts = M.puts machine; broken = M.broken machine; due = M.due machine; selects = M.selects machine } in
-            Goes state self.old.ports.items self.old.machines.items self.old.wires.items (E.left ends.old) (E.taken ends.old) }
+        requires goes { Goes M.state self.old.ports.items self.old.machines.items self.old.wires.items (E.left ends.old) (E.taken ends.old) }
         requires ends { HasEnds self.old.ports.items (E.reads ends.old) (E.writes ends.old) }
         requires room { (0 < length buffer.old) × (length buffer.old ≤ MAX_PIECE) }
-        ensures leads { let state : M → State = λ machine. record { takes = M.takes machine; puts = M.puts machine; broken = M.broken machine; due = M.due machine; selects = M.selects machine } in
-            OnOk result (Leads state self.old.ports.items self.old.machines.items self.new.machines.items self.old.wires.items self.new.wires.items
+        ensures leads { OnOk result (Leads M.state self.old.ports.items self.old.machines.items self.new.machines.items self.old.wires.items self.new.wires.items
             (E.left ends.old) (E.left ends.new) (E.taken ends.old) (E.taken ends.new)) }
-        ensures halts { let state : M → State = λ machine. record { takes = M.takes machine; puts = M.puts machine; broken = M.broken machine; due = M.due machine; selects = M.selects machine } in
-            OnErr result (Halts state self.old.ports.items self.old.machines.items self.old.wires.items (E.left ends.old) (E.taken ends.old) (E.taken ends.new)) }
+        ensures halts { OnErr result (Halts M.state self.old.ports.items self.old.machines.items self.old.wires.items (E.left ends.old) (E.taken ends.old) (E.taken ends.new)) }
         ensures same { result ≡ Ok false → (self.new.machines.items ≡ self.old.machines.items) × (self.new.wires.items ≡ self.old.wires.items) × (ends.new ≡ ends.old) }
         ensures drained { OnOk result (AreDrained self.old.ports.items self.old.wires.items → AreDrained self.new.ports.items self.new.wires.items) }
         ensures answer { IfOk result (λ moved. (machine : M) (own : Port) → slice_get self.old.machines.items node ≡ Some machine → slice_get self.old.ports.items node ≡ Some own →
-            moved ≡ not (is_stuck (progress_at (M.act machine) own.ins.items own.outs.items self.old.rooms.items self.old.wires.items) own.reads)) }
-        ensures stuck { result ≡ Ok false → IsStuckAt (λ machine. M.takes machine) (λ machine. M.puts machine) (λ machine. M.act machine) self.old.ports.items self.old.machines.items self.old.rooms.items self.old.wires.items node }
+            moved ≡ not (is_stuck (progress_at (M.state machine).act own.ins.items own.outs.items self.old.rooms.items self.old.wires.items) own.reads)) }
+        ensures stuck { result ≡ Ok false → IsStuckAt M.state self.old.ports.items self.old.machines.items self.old.rooms.items self.old.wires.items node }
         ensures ports { self.new.ports ≡ self.old.ports }
         ensures machines { length self.new.machines.items ≡ length self.old.machines.items }
         ensures wires { length self.new.wires.items ≡ length self.old.wires.items }
@@ -228,19 +237,16 @@ impl<M: Machine> Net<M> {
         buffer: &mut [u8],
     ) -> Result<bool, Halt>
         requires node { node < length self.old.machines.items }
-        requires way { let state : M → State = λ machine. record { takes = M.takes machine; puts = M.puts machine; broken = M.broken machine; due = M.due machine; selects = M.selects machine } in
-            IsUnderWay state (record { ports = self.old.ports.items; machines = self.old.machines.items; wires = self.old.wires.items; left = E.left ends.old; taken = E.taken ends.old; reads = E.reads ends.old; writes = E.writes ends.old; faults = E.faults ends.old }) }
+        requires way { IsUnderWay M.state (record { ports = self.old.ports.items; machines = self.old.machines.items; wires = self.old.wires.items; left = E.left ends.old; taken = E.taken ends.old; reads = E.reads ends.old; writes = E.writes ends.old; faults = E.faults ends.old }) }
         requires room { (0 < length buffer.old) × (length buffer.old ≤ MAX_PIECE) }
-        ensures ok { let state : M → State = λ machine. record { takes = M.takes machine; puts = M.puts machine; broken = M.broken machine; due = M.due machine; selects = M.selects machine } in
-            OnOk result (Advances state (record { ports = self.old.ports.items; machines = self.old.machines.items; wires = self.old.wires.items; left = E.left ends.old; taken = E.taken ends.old; reads = E.reads ends.old; writes = E.writes ends.old; faults = E.faults ends.old })
+        ensures ok { OnOk result (Advances M.state (record { ports = self.old.ports.items; machines = self.old.machines.items; wires = self.old.wires.items; left = E.left ends.old; taken = E.taken ends.old; reads = E.reads ends.old; writes = E.writes ends.old; faults = E.faults ends.old })
             (record { ports = self.new.ports.items; machines = self.new.machines.items; wires = self.new.wires.items; left = E.left ends.new; taken = E.taken ends.new; reads = E.reads ends.new; writes = E.writes ends.new; faults = E.faults ends.new })) }
-        ensures err { let state : M → State = λ machine. record { takes = M.takes machine; puts = M.puts machine; broken = M.broken machine; due = M.due machine; selects = M.selects machine } in
-            OnErr result (HaltsFrom state (record { ports = self.old.ports.items; machines = self.old.machines.items; wires = self.old.wires.items; left = E.left ends.old; taken = E.taken ends.old; reads = E.reads ends.old; writes = E.writes ends.old; faults = E.faults ends.old }) (E.taken ends.new)) }
+        ensures err { OnErr result (HaltsFrom M.state (record { ports = self.old.ports.items; machines = self.old.machines.items; wires = self.old.wires.items; left = E.left ends.old; taken = E.taken ends.old; reads = E.reads ends.old; writes = E.writes ends.old; faults = E.faults ends.old }) (E.taken ends.new)) }
         ensures rooms { self.new.rooms ≡ self.old.rooms }
         ensures same { result ≡ Ok false → (self.new.machines.items ≡ self.old.machines.items) × (self.new.wires.items ≡ self.old.wires.items) × (ends.new ≡ ends.old) }
         ensures answer { IfOk result (λ moved. (machine : M) (own : Port) → slice_get self.old.machines.items node ≡ Some machine → slice_get self.old.ports.items node ≡ Some own →
-            moved ≡ not (is_stuck (progress_at (M.act machine) own.ins.items own.outs.items self.old.rooms.items self.old.wires.items) own.reads)) }
-        ensures stuck { result ≡ Ok false → IsStuckAt (λ machine. M.takes machine) (λ machine. M.puts machine) (λ machine. M.act machine) self.old.ports.items self.old.machines.items self.old.rooms.items self.old.wires.items node }
+            moved ≡ not (is_stuck (progress_at (M.state machine).act own.ins.items own.outs.items self.old.rooms.items self.old.wires.items) own.reads)) }
+        ensures stuck { result ≡ Ok false → IsStuckAt M.state self.old.ports.items self.old.machines.items self.old.rooms.items self.old.wires.items node }
         ensures buffer { length buffer.new ≡ length buffer.old }
         ensures borrows { E.borrows ends.new ≡ E.borrows ends.old }
         ensures cause { Causes (E.faults ends.old) (E.faults ends.new) result }
@@ -268,18 +274,15 @@ impl<M: Machine> Net<M> {
         buffer: &mut [u8],
     ) -> Result<bool, Halt>
         requires few { length self.old.machines.items < 2 ^ 32 }
-        requires way { let state : M → State = λ machine. record { takes = M.takes machine; puts = M.puts machine; broken = M.broken machine; due = M.due machine; selects = M.selects machine } in
-            IsUnderWay state (record { ports = self.old.ports.items; machines = self.old.machines.items; wires = self.old.wires.items; left = E.left ends.old; taken = E.taken ends.old; reads = E.reads ends.old; writes = E.writes ends.old; faults = E.faults ends.old }) }
+        requires way { IsUnderWay M.state (record { ports = self.old.ports.items; machines = self.old.machines.items; wires = self.old.wires.items; left = E.left ends.old; taken = E.taken ends.old; reads = E.reads ends.old; writes = E.writes ends.old; faults = E.faults ends.old }) }
         requires room { (0 < length buffer.old) × (length buffer.old ≤ MAX_PIECE) }
-        ensures ok { let state : M → State = λ machine. record { takes = M.takes machine; puts = M.puts machine; broken = M.broken machine; due = M.due machine; selects = M.selects machine } in
-            OnOk result (Advances state (record { ports = self.old.ports.items; machines = self.old.machines.items; wires = self.old.wires.items; left = E.left ends.old; taken = E.taken ends.old; reads = E.reads ends.old; writes = E.writes ends.old; faults = E.faults ends.old })
+        ensures ok { OnOk result (Advances M.state (record { ports = self.old.ports.items; machines = self.old.machines.items; wires = self.old.wires.items; left = E.left ends.old; taken = E.taken ends.old; reads = E.reads ends.old; writes = E.writes ends.old; faults = E.faults ends.old })
             (record { ports = self.new.ports.items; machines = self.new.machines.items; wires = self.new.wires.items; left = E.left ends.new; taken = E.taken ends.new; reads = E.reads ends.new; writes = E.writes ends.new; faults = E.faults ends.new })) }
-        ensures err { let state : M → State = λ machine. record { takes = M.takes machine; puts = M.puts machine; broken = M.broken machine; due = M.due machine; selects = M.selects machine } in
-            OnErr result (HaltsFrom state (record { ports = self.old.ports.items; machines = self.old.machines.items; wires = self.old.wires.items; left = E.left ends.old; taken = E.taken ends.old; reads = E.reads ends.old; writes = E.writes ends.old; faults = E.faults ends.old }) (E.taken ends.new)) }
+        ensures err { OnErr result (HaltsFrom M.state (record { ports = self.old.ports.items; machines = self.old.machines.items; wires = self.old.wires.items; left = E.left ends.old; taken = E.taken ends.old; reads = E.reads ends.old; writes = E.writes ends.old; faults = E.faults ends.old }) (E.taken ends.new)) }
         ensures rooms { self.new.rooms ≡ self.old.rooms }
         ensures same { result ≡ Ok false → (self.new.machines.items ≡ self.old.machines.items) × (self.new.wires.items ≡ self.old.wires.items) × (ends.new ≡ ends.old) }
-        ensures stuck { result ≡ Ok false → IsStuck (λ machine. M.takes machine) (λ machine. M.puts machine) (λ machine. M.act machine) self.old.ports.items self.old.machines.items self.old.rooms.items self.old.wires.items }
-        ensures moved { result ≡ Ok true → IsStuck (λ machine. M.takes machine) (λ machine. M.puts machine) (λ machine. M.act machine) self.old.ports.items self.old.machines.items self.old.rooms.items self.old.wires.items → ⊥ }
+        ensures stuck { result ≡ Ok false → IsStuck M.state self.old.ports.items self.old.machines.items self.old.rooms.items self.old.wires.items }
+        ensures moved { result ≡ Ok true → IsStuck M.state self.old.ports.items self.old.machines.items self.old.rooms.items self.old.wires.items → ⊥ }
         ensures buffer { length buffer.new ≡ length buffer.old }
         ensures borrows { E.borrows ends.new ≡ E.borrows ends.old }
         ensures cause { Causes (E.faults ends.old) (E.faults ends.new) result }
@@ -302,15 +305,12 @@ impl<M: Machine> Net<M> {
         buffer: &mut [u8],
     ) -> Result<(), Halt>
         requires few { length self.old.machines.items < 2 ^ 32 }
-        requires way { let state : M → State = λ machine. record { takes = M.takes machine; puts = M.puts machine; broken = M.broken machine; due = M.due machine; selects = M.selects machine } in
-            IsUnderWay state (record { ports = self.old.ports.items; machines = self.old.machines.items; wires = self.old.wires.items; left = E.left ends.old; taken = E.taken ends.old; reads = E.reads ends.old; writes = E.writes ends.old; faults = E.faults ends.old }) }
+        requires way { IsUnderWay M.state (record { ports = self.old.ports.items; machines = self.old.machines.items; wires = self.old.wires.items; left = E.left ends.old; taken = E.taken ends.old; reads = E.reads ends.old; writes = E.writes ends.old; faults = E.faults ends.old }) }
         requires room { (0 < length buffer.old) × (length buffer.old ≤ MAX_PIECE) }
-        ensures ok { let state : M → State = λ machine. record { takes = M.takes machine; puts = M.puts machine; broken = M.broken machine; due = M.due machine; selects = M.selects machine } in
-            OnOk result (Advances state (record { ports = self.old.ports.items; machines = self.old.machines.items; wires = self.old.wires.items; left = E.left ends.old; taken = E.taken ends.old; reads = E.reads ends.old; writes = E.writes ends.old; faults = E.faults ends.old })
+        ensures ok { OnOk result (Advances M.state (record { ports = self.old.ports.items; machines = self.old.machines.items; wires = self.old.wires.items; left = E.left ends.old; taken = E.taken ends.old; reads = E.reads ends.old; writes = E.writes ends.old; faults = E.faults ends.old })
             (record { ports = self.new.ports.items; machines = self.new.machines.items; wires = self.new.wires.items; left = E.left ends.new; taken = E.taken ends.new; reads = E.reads ends.new; writes = E.writes ends.new; faults = E.faults ends.new })) }
-        ensures err { let state : M → State = λ machine. record { takes = M.takes machine; puts = M.puts machine; broken = M.broken machine; due = M.due machine; selects = M.selects machine } in
-            OnErr result (HaltsFrom state (record { ports = self.old.ports.items; machines = self.old.machines.items; wires = self.old.wires.items; left = E.left ends.old; taken = E.taken ends.old; reads = E.reads ends.old; writes = E.writes ends.old; faults = E.faults ends.old }) (E.taken ends.new)) }
-        ensures stuck { OnOk result (IsStuck (λ machine. M.takes machine) (λ machine. M.puts machine) (λ machine. M.act machine) self.new.ports.items self.new.machines.items self.new.rooms.items self.new.wires.items) }
+        ensures err { OnErr result (HaltsFrom M.state (record { ports = self.old.ports.items; machines = self.old.machines.items; wires = self.old.wires.items; left = E.left ends.old; taken = E.taken ends.old; reads = E.reads ends.old; writes = E.writes ends.old; faults = E.faults ends.old }) (E.taken ends.new)) }
+        ensures stuck { OnOk result (IsStuck M.state self.new.ports.items self.new.machines.items self.new.rooms.items self.new.wires.items) }
         ensures rooms { self.new.rooms ≡ self.old.rooms }
         ensures buffer { length buffer.new ≡ length buffer.old }
         ensures borrows { E.borrows ends.new ≡ E.borrows ends.old }

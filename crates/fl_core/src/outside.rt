@@ -1,6 +1,7 @@
 //! Pieces from the outside and to it.
 ghost use Rattle.std.specs.Prelude.{◌≡◌, ◌==◌, ◌<◌, ◌≤◌, ℕ, [], ◌∷◌, true, false, length, IfOk, OnOk, OnErr};
 ghost use Rattle.ps_world.specs.Told.{bytes_then, then_bytes, GrewByPrefix, IsEnded};
+ghost use Rattle.fl_graph.specs.Machines.{is_broken, is_mark};
 ghost use Rattle.fl_graph.specs.Runs.{is_end, text_of};
 ghost use Rattle.fl_graph.specs.declared.pieces.TheConstants.{MAX_PIECE};
 ghost use Rattle.fl_core.specs.Causes.{Causes};
@@ -41,6 +42,7 @@ pub(crate) fn read_piece<E: NodeEnds>(
     requires reads { E.reads ends.old node ≡ true }
     requires room { (0 < length buffer.old) × (length buffer.old ≤ MAX_PIECE) }
     ensures plain { IfOk result (λ piece. is_plain piece ≡ true) }
+    ensures whole { IfOk result (λ piece. is_broken piece ≡ false) }
     ensures sized { IfOk result (λ piece. has_bytes piece ≡ true) }
     ensures bytes { IfOk result (λ piece. E.left ends.old node ≡ bytes_then (text_of (piece ∷ [])) (E.left ends.new node)) }
     ensures ended { IfOk result (λ piece. is_end piece ≡ true → IsEnded (E.left ends.new node)) }
@@ -64,10 +66,10 @@ pub(crate) fn read_piece<E: NodeEnds>(
     }
 }
 
-/// Writes a piece to a sink's end: its bytes, where it has some. On an error the end has taken a front of them.
+/// Writes a piece to a sink's end: its bytes, where it has some; no mark comes there. On an error the end has taken a front of them.
 pub(crate) fn write_piece<E: NodeEnds>(node: u32, ends: &mut E, piece: &Piece) -> Result<(), Halt>
     requires writes { E.writes ends.old node ≡ true }
-    ensures ok { OnOk result (E.taken ends.new node ≡ then_bytes (E.taken ends.old node) (text_of (piece.now ∷ []))) }
+    ensures ok { OnOk result (is_mark piece.now ≡ false → E.taken ends.new node ≡ then_bytes (E.taken ends.old node) (text_of (piece.now ∷ []))) }
     ensures err { OnErr result (GrewByPrefix (E.taken ends.old node) (E.taken ends.new node) (text_of (piece.now ∷ []))) }
     ensures taken { (other : ℕ) → (other == node) ≡ false → E.taken ends.new other ≡ E.taken ends.old other }
     ensures left { (other : ℕ) → E.left ends.new other ≡ E.left ends.old other }

@@ -1,12 +1,11 @@
 //! Which end each node has.
 ghost use Rattle.std.specs.Prelude.{◌≡◌, ◌==◌, true, IfOk};
 ghost use Rattle.std.specs.List.{position};
-ghost use Rattle.fl_graph.specs.Cells.{cells};
 ghost use Rattle.fl_core.specs.EndLists.{HasItsEnds, numbers_of, place_of as place_of_lem};
 ghost use Rattle.fl_core.specs.Roles.{HasRoles, needs_no_more, role_at as role_at_lem, role_of as role_of_lem};
 
 use crate::end_lists::Ends;
-use fl_graph::{From, Graph, NodeKind, To};
+use fl_graph::{From, Graph, Node, NodeKind, To};
 use ps_lines::Memory;
 use std::alloc::Global;
 
@@ -24,11 +23,19 @@ pub(crate) enum Role {
 
 /// Whether each node that reads or writes has an end.
 pub fn have_ends<R, W, I, O>(graph: &Graph, ends: &Ends<R, W, I, O>) -> bool
-    ensures yes { result ≡ true → HasItsEnds (cells graph.now.nodes.items) ends.now }
-    ensures no { HasItsEnds (cells graph.now.nodes.items) ends.now → result ≡ true }
+    ensures yes { result ≡ true → HasItsEnds graph.now.nodes ends.now }
+    ensures no { HasItsEnds graph.now.nodes ends.now → result ≡ true }
 {
-    for node in 0..graph.nodes.len() {
-        if !has_end(&graph.nodes[node].kind, node, ends) {
+    each_has_end(graph.nodes.as_slice(), ends)
+}
+
+/// Whether each of these nodes that reads or writes has an end.
+fn each_has_end<R, W, I, O>(nodes: &[Node], ends: &Ends<R, W, I, O>) -> bool
+    ensures yes { result ≡ true → HasItsEnds nodes.now ends.now }
+    ensures no { HasItsEnds nodes.now ends.now → result ≡ true }
+{
+    for node in 0..nodes.len() {
+        if !has_end(&nodes[node].kind, node, ends) {
             return false;
         }
     }
@@ -46,17 +53,28 @@ fn has_end<R, W, I, O>(kind: &NodeKind, node: usize, ends: &Ends<R, W, I, O>) ->
     }
 }
 
-/// The roles of all nodes.
+/// The roles of all nodes of a graph.
 pub(crate) fn roles_of<R, W, I, O>(
     alloc: Global,
     graph: &Graph,
     ends: &Ends<R, W, I, O>,
 ) -> Result<Vec<Role>, Memory>
-    ensures { IfOk result (λ roles. HasRoles (cells graph.now.nodes.items) ends.now roles.items) }
+    ensures { IfOk result (λ roles. HasRoles graph.now.nodes ends.now roles.items) }
+{
+    roles_of_nodes(alloc, graph.nodes.as_slice(), ends)
+}
+
+/// The roles of these nodes.
+fn roles_of_nodes<R, W, I, O>(
+    alloc: Global,
+    nodes: &[Node],
+    ends: &Ends<R, W, I, O>,
+) -> Result<Vec<Role>, Memory>
+    ensures { IfOk result (λ roles. HasRoles nodes.now ends.now roles.items) }
 {
     let mut roles = Vec::new(alloc);
-    for node in 0..graph.nodes.len() {
-        roles.push(role_of(&graph.nodes[node].kind, node, ends))?;
+    for node in 0..nodes.len() {
+        roles.push(role_of(&nodes[node].kind, node, ends))?;
     }
     Ok(roles)
 }

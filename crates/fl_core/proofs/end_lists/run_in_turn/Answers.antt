@@ -1,12 +1,12 @@
 use Rattle.std.proofs.Common.{◌≡◌, List, ℕ, [], sym}
 use Rattle.ps_world.specs.Told.{then_bytes, GrewByPrefix}
 use Rattle.ps_world.proofs.ToldLemmas.{grew_by_nothing, then_bytes-nil}
-use Rattle.fl_graph.specs.Cells.{cells}
 use Rattle.fl_classes.specs.Flow.{outcome}
 use Rattle.fl_core.specs.EndLists.{faults_by, left_by, taken_by}
 use Rattle.fl_core.specs.Ends.{HasRead, HasWritten, HasWrittenFronts}
 use Rattle.fl_core.specs.Plans.{AreTold}
 use Rattle.fl_core.proofs.EndListLemmas.{are_apart, blames_node, blames_none, keeps, moved, reads_all, writes_all}
+use Rattle.fl_core.proofs.FileLemmas.{files_grew}
 use Rattle.fl_core.proofs.OutputLemmas.{output_grows}
 use Rattle.fl_core.proofs.end_lists.run_in_turn.Goals as goal
 
@@ -28,7 +28,7 @@ run_over_ends-ending-requires-clause-writes g c = writes_all _ c.args.ends _ c.i
 pub returns-in-Done-clause-written : goal.returns-in-Done-clause-written
 returns-in-Done-clause-written g c =
     moved _ c.args.ends _ c.in-Ok.ensures _ c.run_over_ends-ending.new.ends.ends c.run_over_ends-ending.ensures.borrows
-    (λ old new. HasWritten (cells c.args.graph.now.nodes.items) (λ node. left_by g.R.Source.left g.I.Source.left (old node))
+    (λ old new. HasWritten c.args.graph.now.nodes (λ node. left_by g.R.Source.left g.I.Source.left (old node))
     (λ node. taken_by g.W.Sink.taken g.O.Sink.taken (old node)) (λ node. taken_by g.W.Sink.taken g.O.Sink.taken (new node)))
     c.in-Done.ensures.written
 
@@ -41,21 +41,25 @@ returns-in-Done-clause-output g c = λ sources told.
     output_grows (λ old new text. new ≡ then_bytes old text) (λ told. sym (then_bytes-nil told)) c.args.graph.now c.requires.valid c.args.ends c.run_over_ends-ending.new.ends.ends
     (returns-in-Done-clause-kept g c) g.W.Sink.taken g.O.Sink.taken sources (returns-in-Done-clause-written g c sources told)
 
+pub returns-in-Done-clause-files : goal.returns-in-Done-clause-files
+returns-in-Done-clause-files g c = λ sources told.
+    files_grew c.args.graph.now c.requires.valid c.requires.kinds sources _ _ (returns-in-Done-clause-written g c sources told)
+
 pub returns-in-Done-clause-read : goal.returns-in-Done-clause-read
 returns-in-Done-clause-read g c =
     moved _ c.args.ends _ c.in-Ok.ensures _ c.run_over_ends-ending.new.ends.ends c.run_over_ends-ending.ensures.borrows
-    (λ old new. HasRead (cells c.args.graph.now.nodes.items) (λ node. left_by g.R.Source.left g.I.Source.left (new node))) c.in-Done.ensures.read
+    (λ old new. HasRead c.args.graph.now.nodes (λ node. left_by g.R.Source.left g.I.Source.left (new node))) c.in-Done.ensures.read
 
 pub returns-in-Done-clause-status : goal.returns-in-Done-clause-status
 returns-in-Done-clause-status g c =
     moved _ c.args.ends _ c.in-Ok.ensures _ c.run_over_ends-ending.new.ends.ends c.run_over_ends-ending.ensures.borrows
-    (λ old new. (sources : List (List ℕ)) → AreTold sources (cells c.args.graph.now.nodes.items) (λ node. left_by g.R.Source.left g.I.Source.left (old node))
+    (λ old new. (sources : List (List ℕ)) → AreTold sources c.args.graph.now.nodes (λ node. left_by g.R.Source.left g.I.Source.left (old node))
     → c.in-Done.status ≡ (outcome c.args.graph.now sources).status) c.in-Done.ensures.status
 
 pub returns-in-Done-clause-front : goal.returns-in-Done-clause-front
 returns-in-Done-clause-front g c =
     moved _ c.args.ends _ c.in-Ok.ensures _ c.run_over_ends-ending.new.ends.ends c.run_over_ends-ending.ensures.borrows
-    (λ old new. HasWrittenFronts (cells c.args.graph.now.nodes.items) (λ node. left_by g.R.Source.left g.I.Source.left (old node))
+    (λ old new. HasWrittenFronts c.args.graph.now.nodes (λ node. left_by g.R.Source.left g.I.Source.left (old node))
     (λ node. taken_by g.W.Sink.taken g.O.Sink.taken (old node)) (λ node. taken_by g.W.Sink.taken g.O.Sink.taken (new node)))
     c.run_over_ends-ending.ensures.front
 
@@ -73,7 +77,7 @@ returns-in-Done-clause-cause g c =
 pub returns-in-Fault-clause-front : goal.returns-in-Fault-clause-front
 returns-in-Fault-clause-front g c =
     moved _ c.args.ends _ c.in-Ok.ensures _ c.run_over_ends-ending.new.ends.ends c.run_over_ends-ending.ensures.borrows
-    (λ old new. HasWrittenFronts (cells c.args.graph.now.nodes.items) (λ node. left_by g.R.Source.left g.I.Source.left (old node))
+    (λ old new. HasWrittenFronts c.args.graph.now.nodes (λ node. left_by g.R.Source.left g.I.Source.left (old node))
     (λ node. taken_by g.W.Sink.taken g.O.Sink.taken (old node)) (λ node. taken_by g.W.Sink.taken g.O.Sink.taken (new node)))
     c.run_over_ends-ending.ensures.front
 
@@ -96,7 +100,7 @@ returns-in-Fault-clause-cause g c =
 pub returns-clause-front : goal.returns-clause-front
 returns-clause-front g c =
     moved _ c.args.ends _ c.in-Ok.ensures _ c.run_over_ends-ending.new.ends.ends c.run_over_ends-ending.ensures.borrows
-    (λ old new. HasWrittenFronts (cells c.args.graph.now.nodes.items) (λ node. left_by g.R.Source.left g.I.Source.left (old node))
+    (λ old new. HasWrittenFronts c.args.graph.now.nodes (λ node. left_by g.R.Source.left g.I.Source.left (old node))
     (λ node. taken_by g.W.Sink.taken g.O.Sink.taken (old node)) (λ node. taken_by g.W.Sink.taken g.O.Sink.taken (new node)))
     c.run_over_ends-ending.ensures.front
 

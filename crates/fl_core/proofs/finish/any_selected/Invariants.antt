@@ -4,6 +4,6 @@ use Rattle.fl_core.proofs.finish.any_selected.Given as goal
 
 abbrev pub invariant-loop-node : goal.invariant-loop-node
 invariant-loop-node g l =
-    (told : List Bool) → ((node : ℕ) (machine : _) → slice_get l.fn.machines node ≡ Some machine → get_or told node false ≡ g.M.Machine.selects machine (λ _. []))
+    (told : List Bool) → ((node : ℕ) (machine : _) → slice_get l.fn.machines node ≡ Some machine → get_or told node false ≡ (g.M.Machine.state machine).selects (λ _. []))
     → length told ≡ length l.fn.machines
     → list_any (λ node. get_or told node false) l.fn.nodes ≡ list_any (λ node. get_or told node false) (drop l.node-index l.nodes)

@@ -1,5 +1,5 @@
 use Rattle.std.proofs.Common.{rules}
-use Rattle.fl_graph.specs.Kinds.{has_its_ports, reads_one_input}
+use Rattle.fl_graph.specs.Kinds.{has_its_ports, reads_one_input, runs_what_is_built}
 use Rattle.fl_core.specs.Kinds.{is_run}
 use Rattle.fl_core.proofs.GraphNetLemmas.{begins_here, node_holds, nodes_more}
 use Rattle.fl_core.proofs.graph_nets.machines_of.Goals as goal
@@ -9,6 +9,9 @@ machine_of-requires-clause-ports c = node_holds has_its_ports c.args.nodes.now c
 
 pub machine_of-requires-clause-inputs : goal.machine_of-requires-clause-inputs
 machine_of-requires-clause-inputs c = node_holds (λ cell. reads_one_input cell.kind) c.args.nodes.now c.loop-node.node c.index-nodes-node.result c.requires.inputs (search rules) (search rules)
+
+pub machine_of-requires-clause-built : goal.machine_of-requires-clause-built
+machine_of-requires-clause-built c = node_holds (λ cell. runs_what_is_built cell.kind) c.args.nodes.now c.loop-node.node c.index-nodes-node.result c.requires.built (search rules) (search rules)
 
 pub machine_of-requires-clause-kind : goal.machine_of-requires-clause-kind
 machine_of-requires-clause-kind c = node_holds (λ cell. is_run cell.kind) c.args.nodes.now c.loop-node.node c.index-nodes-node.result c.requires.kinds (search rules) (search rules)

@@ -1,8 +1,7 @@
 use Rattle.std.proofs.Common.{◌≡◌, length}
-use Rattle.fl_graph.specs.Cells.{cells}
 use Rattle.fl_core.specs.Starts.{NodesHave}
 use Rattle.fl_core.proofs.GraphNetLemmas.{begins_here}
 use Rattle.fl_core.proofs.graph_nets.machines_of.Given as goal
 
 abbrev pub invariant-loop-node : goal.invariant-loop-node
-invariant-loop-node l = (length l.machines.items ≡ l.node) × NodesHave begins_here (cells l.nodes) l.machines.items
+invariant-loop-node l = (length l.machines.items ≡ l.node) × NodesHave begins_here l.nodes l.machines.items

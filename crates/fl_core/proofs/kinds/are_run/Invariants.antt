@@ -1,7 +1,6 @@
 use Rattle.std.proofs.Common.{◌≡◌, drop}
-use Rattle.fl_graph.specs.Cells.{cells}
 use Rattle.fl_core.specs.Kinds.{are_run}
 use Rattle.fl_core.proofs.kinds.are_run.Given as goal
 
 abbrev pub invariant-loop-node : goal.invariant-loop-node
-invariant-loop-node l = are_run (cells (drop l.node-index l.nodes)) ≡ are_run (cells l.nodes)
+invariant-loop-node l = are_run (drop l.node-index l.nodes) ≡ are_run l.nodes

@@ -3,12 +3,8 @@ use Rattle.std.specs.Global.{Vec}
 use Rattle.fl_core.specs.Steps.{has_moved}
 use Rattle.fl_core.specs.declared.nets.Ports.{Ports}
 use Rattle.fl_core.proofs.GraphNetLemmas.{state_of}
-use Rattle.fl_core.proofs.NetLemmas.{goes_whole, goes_plain, goes_fits}
+use Rattle.fl_core.proofs.NetLemmas.{goes_plain, goes_fits}
 use Rattle.fl_core.proofs.net_tests.step_each.Goals as goal
-
-pub step-requires-clause-whole : goal.step-requires-clause-whole
-step-requires-clause-whole c =
-    goes_whole state_of c.loop-node.net.ports.items c.loop-node.net.machines.items c.loop-node.net.wires.items (λ node. Some []) (λ node. Some []) c.loop-node.invariant.1.over.goes c.loop-node.node
 
 pub step-requires-clause-plain : goal.step-requires-clause-plain
 step-requires-clause-plain c =
@@ -26,7 +22,8 @@ loop-node-preserved c =
         cells = before.cells;
         inputs = before.inputs;
         moves = if has_moved c.in-Ok.progress then suc before.moves else before.moves;
-        over = c.in-Ok.ensures.over before.cells before.inputs before.moves before.over;
+        failed = before.failed;
+        over = c.in-Ok.ensures.over before.cells before.inputs before.moves before.failed before.over;
         all_ports = ap (λ (ports : Vec Ports). length ports.items) c.step.ensures.ports ∙ before.all_ports ∙ sym c.step.ensures.machines;
       },
     )

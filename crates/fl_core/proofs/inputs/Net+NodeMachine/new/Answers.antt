@@ -1,5 +1,4 @@
 use Rattle.std.proofs.Common.{rules}
-use Rattle.fl_graph.specs.Cells.{cells}
 use Rattle.fl_core.specs.Inputs.{input_of}
 use Rattle.fl_core.proofs.GraphNetLemmas.{state_of}
 use Rattle.fl_core.proofs.NetLemmas.{written_back}
@@ -8,8 +7,8 @@ use Rattle.fl_core.proofs.inputs.Net+NodeMachine.new.Goals as goal
 
 pub returns-clause-runs : goal.returns-clause-runs
 returns-clause-runs c =
-    runs_over state_of (cells c.args.graph.now.nodes.items) c.args.graph.now.status c.requires.valid (input_of c.args.inputs.items) c.in_ok-net.net.ports.items c.in_ok-net.net.machines.items _
-    (begins_over state_of c.args.graph.now.nodes.items c.as_slice-nodes.result.now (input_of c.args.inputs.items) c.in_ok-net.net.ports.items c.in_ok-net.net.machines.items
+    runs_over state_of c.args.graph.now.nodes c.args.graph.now.status c.requires.valid (input_of c.args.inputs.items) c.in_ok-net.net.ports.items c.in_ok-net.net.machines.items _
+    (begins_over state_of c.args.graph.now.nodes c.as_slice-nodes.result.now (input_of c.args.inputs.items) c.in_ok-net.net.ports.items c.in_ok-net.net.machines.items
     c.in_ok-net.net.wires.items _ c.load.new.wires
-    c.in_ok-net.ensures.net c.as_slice-nodes.ensures.value (search rules) (search rules)
+    c.in_ok-net.ensures.net c.as_slice-nodes.ensures (search rules) (search rules)
     (written_back c.in_ok-net.net.wires.items c.load.new.wires c.in_ok-net.net.wires.len (search rules) (search rules)))

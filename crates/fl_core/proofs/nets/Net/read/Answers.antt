@@ -20,7 +20,7 @@ returns-in-Ok-push-clause-leads g c =
     at_found
     within
     c.index_mut-wire.result.now c.push.new.self c.in-Ok.piece edge_is (wire_at c.args.self.now.wires.items c.index-edge.result.now c.index_mut-wire.result.now within c.index_mut-wire.ensures.value) c.in-Ok-push.ensures.ok
-    c.in-Ok.ensures.plain c.in-Ok.ensures.sized c.in-Ok.ensures.bytes c.in-Ok.ensures.ended c.read_piece.ensures.left c.read_piece.ensures.taken
+    c.in-Ok.ensures.plain c.in-Ok.ensures.whole c.in-Ok.ensures.sized c.in-Ok.ensures.bytes c.in-Ok.ensures.ended c.read_piece.ensures.left c.read_piece.ensures.taken
 
 pub returns-in-Err-push-clause-halts : goal.returns-in-Err-push-clause-halts
 returns-in-Err-push-clause-halts g c =

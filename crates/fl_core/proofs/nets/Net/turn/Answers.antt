@@ -10,17 +10,17 @@ use Rattle.fl_core.proofs.nets.Net.turn.Goals as goal
 
 pub step-requires-clause-fits : goal.step-requires-clause-fits
 step-requires-clause-fits g c =
-    goes_fits (λ machine. record { takes = g.M.Machine.takes machine; puts = g.M.Machine.puts machine; broken = g.M.Machine.broken machine; due = g.M.Machine.due machine; selects = g.M.Machine.selects machine })
+    goes_fits g.M.Machine.state
     c.args.self.now.ports.items c.args.self.now.machines.items c.args.self.now.wires.items (g.E.NodeEnds.left c.args.ends.now) (g.E.NodeEnds.taken c.args.ends.now) c.requires.goes c.args.node
 
 pub returns-in-Err-clause-halts : goal.returns-in-Err-clause-halts
 returns-in-Err-clause-halts g c =
-    step_halts (λ machine. record { takes = g.M.Machine.takes machine; puts = g.M.Machine.puts machine; broken = g.M.Machine.broken machine; due = g.M.Machine.due machine; selects = g.M.Machine.selects machine })
+    step_halts g.M.Machine.state
     c.args.self.now.ports.items c.args.self.now.machines.items c.args.self.now.wires.items (g.E.NodeEnds.left c.args.ends.now) (g.E.NodeEnds.taken c.args.ends.now)
 
 pub read-requires-clause-reads : goal.read-requires-clause-reads
 read-requires-clause-reads g c =
-    turn_reads (λ machine. record { takes = g.M.Machine.takes machine; puts = g.M.Machine.puts machine; broken = g.M.Machine.broken machine; due = g.M.Machine.due machine; selects = g.M.Machine.selects machine })
+    turn_reads g.M.Machine.state
     c.args.self.now.ports.items c.step.new.self.ports.items (ap (λ (it : Vec Ports). it.items) c.step.ensures.ports)
     c.args.self.now.machines.items c.step.new.self.machines.items c.args.self.now.wires.items c.step.new.self.wires.items
     (g.E.NodeEnds.left c.args.ends.now) (g.E.NodeEnds.taken c.args.ends.now) c.args.node c.requires.node.1 c.step.ensures.wires
@@ -28,7 +28,7 @@ read-requires-clause-reads g c =
 
 pub write-requires-clause-writes : goal.write-requires-clause-writes
 write-requires-clause-writes g c =
-    turn_writes (λ machine. record { takes = g.M.Machine.takes machine; puts = g.M.Machine.puts machine; broken = g.M.Machine.broken machine; due = g.M.Machine.due machine; selects = g.M.Machine.selects machine })
+    turn_writes g.M.Machine.state
     c.args.self.now.ports.items c.step.new.self.ports.items (ap (λ (it : Vec Ports). it.items) c.step.ensures.ports)
     c.args.self.now.machines.items c.step.new.self.machines.items c.args.self.now.wires.items c.step.new.self.wires.items
     (g.E.NodeEnds.left c.args.ends.now) (g.E.NodeEnds.taken c.args.ends.now) c.args.node c.requires.node.1 c.step.ensures.wires
@@ -36,7 +36,7 @@ write-requires-clause-writes g c =
 
 pub returns-in-Ok-read-clause-leads : goal.returns-in-Ok-read-clause-leads
 returns-in-Ok-read-clause-leads g c =
-    turn_read_leads (λ machine. record { takes = g.M.Machine.takes machine; puts = g.M.Machine.puts machine; broken = g.M.Machine.broken machine; due = g.M.Machine.due machine; selects = g.M.Machine.selects machine })
+    turn_read_leads g.M.Machine.state
     c.args.self.now.ports.items c.step.new.self.ports.items (ap (λ (it : Vec Ports). it.items) c.step.ensures.ports)
     c.args.self.now.machines.items c.step.new.self.machines.items c.args.self.now.wires.items c.step.new.self.wires.items
     (g.E.NodeEnds.left c.args.ends.now) (g.E.NodeEnds.taken c.args.ends.now) c.args.node c.requires.node.1 c.step.ensures.wires
@@ -46,7 +46,7 @@ returns-in-Ok-read-clause-leads g c =
 
 pub returns-in-Err-read-clause-halts : goal.returns-in-Err-read-clause-halts
 returns-in-Err-read-clause-halts g c =
-    turn_halts (λ machine. record { takes = g.M.Machine.takes machine; puts = g.M.Machine.puts machine; broken = g.M.Machine.broken machine; due = g.M.Machine.due machine; selects = g.M.Machine.selects machine })
+    turn_halts g.M.Machine.state
     c.args.self.now.ports.items c.step.new.self.ports.items (ap (λ (it : Vec Ports). it.items) c.step.ensures.ports)
     c.args.self.now.machines.items c.step.new.self.machines.items c.args.self.now.wires.items c.step.new.self.wires.items
     (g.E.NodeEnds.left c.args.ends.now) (g.E.NodeEnds.taken c.args.ends.now) c.args.node c.requires.node.1 c.step.ensures.wires
@@ -55,7 +55,7 @@ returns-in-Err-read-clause-halts g c =
 
 pub returns-in-Ok-write-clause-leads : goal.returns-in-Ok-write-clause-leads
 returns-in-Ok-write-clause-leads g c =
-    turn_write_leads (λ machine. record { takes = g.M.Machine.takes machine; puts = g.M.Machine.puts machine; broken = g.M.Machine.broken machine; due = g.M.Machine.due machine; selects = g.M.Machine.selects machine })
+    turn_write_leads g.M.Machine.state
     c.args.self.now.ports.items c.step.new.self.ports.items (ap (λ (it : Vec Ports). it.items) c.step.ensures.ports)
     c.args.self.now.machines.items c.step.new.self.machines.items c.args.self.now.wires.items c.step.new.self.wires.items
     (g.E.NodeEnds.left c.args.ends.now) (g.E.NodeEnds.taken c.args.ends.now) c.args.node c.requires.node.1 c.step.ensures.wires
@@ -64,7 +64,7 @@ returns-in-Ok-write-clause-leads g c =
 
 pub returns-in-Err-write-clause-halts : goal.returns-in-Err-write-clause-halts
 returns-in-Err-write-clause-halts g c =
-    turn_write_halts (λ machine. record { takes = g.M.Machine.takes machine; puts = g.M.Machine.puts machine; broken = g.M.Machine.broken machine; due = g.M.Machine.due machine; selects = g.M.Machine.selects machine })
+    turn_write_halts g.M.Machine.state
     c.args.self.now.ports.items c.step.new.self.ports.items (ap (λ (it : Vec Ports). it.items) c.step.ensures.ports)
     c.args.self.now.machines.items c.step.new.self.machines.items c.args.self.now.wires.items c.step.new.self.wires.items
     (g.E.NodeEnds.left c.args.ends.now) (g.E.NodeEnds.taken c.args.ends.now) c.args.node c.requires.node.1 c.step.ensures.wires
@@ -76,7 +76,7 @@ returns-in-Took-clause-leads g c = c.in-Ok.ensures.leads (g.E.NodeEnds.left c.ar
 
 pub returns-in-Ok-read-clause-drained : goal.returns-in-Ok-read-clause-drained
 returns-in-Ok-read-clause-drained g c =
-    read_drained (λ machine. record { takes = g.M.Machine.takes machine; puts = g.M.Machine.puts machine; broken = g.M.Machine.broken machine; due = g.M.Machine.due machine; selects = g.M.Machine.selects machine })
+    read_drained g.M.Machine.state
     c.args.self.now.ports.items c.step.new.self.ports.items c.read.new.self.ports.items (ap (λ (it : Vec Ports). it.items) c.step.ensures.ports) (ap (λ (it : Vec Ports). it.items) c.read.ensures.ports)
     c.args.self.now.machines.items c.args.self.now.wires.items c.step.new.self.wires.items c.read.new.self.wires.items
     (g.E.NodeEnds.left c.args.ends.now) (g.E.NodeEnds.taken c.args.ends.now) c.requires.goes c.args.node c.requires.node.1
@@ -84,7 +84,7 @@ returns-in-Ok-read-clause-drained g c =
 
 pub returns-in-Ok-write-clause-drained : goal.returns-in-Ok-write-clause-drained
 returns-in-Ok-write-clause-drained g c =
-    write_drained (λ machine. record { takes = g.M.Machine.takes machine; puts = g.M.Machine.puts machine; broken = g.M.Machine.broken machine; due = g.M.Machine.due machine; selects = g.M.Machine.selects machine })
+    write_drained g.M.Machine.state
     c.args.self.now.ports.items c.step.new.self.ports.items c.write.new.self.ports.items (ap (λ (it : Vec Ports). it.items) c.step.ensures.ports) (ap (λ (it : Vec Ports). it.items) c.write.ensures.ports)
     c.args.self.now.machines.items c.args.self.now.wires.items c.step.new.self.wires.items c.write.new.self.wires.items
     (g.E.NodeEnds.left c.args.ends.now) (g.E.NodeEnds.taken c.args.ends.now) c.requires.goes c.args.node c.requires.node.1
@@ -92,7 +92,7 @@ returns-in-Ok-write-clause-drained g c =
 
 pub returns-in-Took-clause-drained : goal.returns-in-Took-clause-drained
 returns-in-Took-clause-drained g c =
-    step_drained (λ machine. record { takes = g.M.Machine.takes machine; puts = g.M.Machine.puts machine; broken = g.M.Machine.broken machine; due = g.M.Machine.due machine; selects = g.M.Machine.selects machine })
+    step_drained g.M.Machine.state
     c.args.self.now.ports.items c.step.new.self.ports.items c.step.new.self.ports.items (ap (λ (it : Vec Ports). it.items) c.step.ensures.ports) refl
     c.args.self.now.machines.items c.args.self.now.wires.items c.step.new.self.wires.items c.step.new.self.wires.items
     (g.E.NodeEnds.left c.args.ends.now) (g.E.NodeEnds.taken c.args.ends.now) c.requires.goes c.args.node c.requires.node.1 c.in-Ok.progress
@@ -101,7 +101,7 @@ returns-in-Took-clause-drained g c =
 
 pub returns-in-Gave-2-clause-drained : goal.returns-in-Gave-2-clause-drained
 returns-in-Gave-2-clause-drained g c =
-    step_drained (λ machine. record { takes = g.M.Machine.takes machine; puts = g.M.Machine.puts machine; broken = g.M.Machine.broken machine; due = g.M.Machine.due machine; selects = g.M.Machine.selects machine })
+    step_drained g.M.Machine.state
     c.args.self.now.ports.items c.step.new.self.ports.items c.step.new.self.ports.items (ap (λ (it : Vec Ports). it.items) c.step.ensures.ports) refl
     c.args.self.now.machines.items c.args.self.now.wires.items c.step.new.self.wires.items c.step.new.self.wires.items
     (g.E.NodeEnds.left c.args.ends.now) (g.E.NodeEnds.taken c.args.ends.now) c.requires.goes c.args.node c.requires.node.1 c.in-Ok.progress

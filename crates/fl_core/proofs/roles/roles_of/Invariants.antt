@@ -1,9 +1,0 @@
-use Rattle.std.proofs.Common.{◌≡◌, length}
-use Rattle.fl_graph.specs.Cells.{cells}
-use Rattle.fl_core.specs.EndLists.{numbers_of}
-use Rattle.fl_core.specs.Roles.{role_of}
-use Rattle.fl_core.specs.Starts.{NodesHave}
-use Rattle.fl_core.proofs.roles.roles_of.Given as goal
-
-abbrev pub invariant-loop-node : goal.invariant-loop-node
-invariant-loop-node g l = (length l.roles.items ≡ l.node) × NodesHave (λ node cell it. it ≡ role_of cell.kind node (numbers_of l.ends.readers.items) (numbers_of l.ends.writers.items)) (cells l.graph.nodes.items) l.roles.items

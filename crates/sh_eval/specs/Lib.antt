@@ -1,0 +1,16 @@
+pub mod Shells
+pub mod States
+pub mod Newlines
+pub mod Lines
+pub mod Commands
+pub mod Targets
+pub mod Redirections
+pub mod Utilities
+pub mod Expanding
+pub mod Builtins
+pub mod Asking
+pub mod Simple
+pub mod Meaning
+pub mod Growth
+pub mod Contract
+pub mod Table

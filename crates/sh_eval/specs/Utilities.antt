@@ -1,0 +1,214 @@
+-- The utilities of the table, as a shell runs them (XCU 2.9.1, and each utility's page): their operands are looked up, what can't be read
+-- is told, and the output for what can be read is written. What a utility writes for its inputs is its own matter, and given here.
+use Rattle.std.specs.Prelude.{ℕ, List, [], ◌∷◌, ◌++◌, Bool, true, false, not, ◌&&◌, ◌||◌, nat_eq, codes, map, take, length, ◌-◌, if◌then◌else◌}
+use Rattle.std.specs.List.{list_any, flat_map}
+use Rattle.std.specs.Cmp.Lexicographic.{pointwise}
+use Rattle.ps_world.specs.Paths.{Components}
+use Rattle.ps_world.specs.Files.{bytes_at}
+use Rattle.ps_world.specs.declared.places.Place.{Place}
+use Rattle.ps_world.specs.declared.places.Place.TheVariants as place
+use Rattle.ut_args.specs.Inputs.{files_by, operands_by}
+use Rattle.ut_args.specs.declared.commands.Command.{Command}
+use Rattle.ut_args.specs.declared.commands.Command.TheVariants as command
+use Rattle.ut_args.specs.declared.commands.Report.{Report}
+use Rattle.ut_args.specs.declared.commands.Report.TheVariants as report
+use Rattle.sh_eval.specs.declared.streams.To.TheVariants as to
+use Rattle.sh_eval.specs.States.{World, State, Means, on, in_world, leaves, puts, tells, to_read, reads_to, write}
+use Rattle.sh_eval.specs.Lines.{diagnostic, no_such_file, is_a_directory}
+use Rattle.sh_eval.specs.Redirections.{Use, named_by, file_begun}
+
+-- an input: what a utility calls it, and its text
+pub record Input : Type 0 where
+  pub label : List ℕ
+  pub text : List ℕ
+
+-- what an operand gives: an input, nothing, or a line of why there is none
+pub data Given : Type 0 where
+  input : Input → Given
+  nothing : Given
+  complaint : List ℕ → Given
+
+-- the patterns of an invocation are read, or have their first fault: one that is bad usage, or a back-reference of this pattern
+pub data Patterns : Type 0 where
+  read : Patterns
+  wrong : Patterns
+  refers_back : List ℕ → Patterns
+
+-- words that call a utility, and what they ask it to do
+pub record Called : Type 0 where
+  pub words : List (List ℕ)
+  pub command : Command
+
+-- what the page of each of the eleven utilities says: whether it is built, what becomes of its patterns, and for its inputs what it writes and
+-- whether it selects a line
+pub record Pages : Type 0 where
+  pub is_built : Command → Bool
+  pub patterns : Command → Patterns
+  pub output : Command → List Input → List ℕ
+  pub selects : Command → List Input → Bool
+
+-- the files are appended to (XCU tee)
+abbrev pub appends : Command → Bool
+appends (command.Tee args) = args.appends
+appends other = false
+
+-- nothing is told of an operand that has no input (XCU grep)
+abbrev pub is_silent : Command → Bool
+is_silent (command.Grep args) = args.silent
+is_silent other = false
+
+-- nothing at all is done where an operand has no input (own)
+abbrev pub needs_all : Command → Bool
+needs_all (command.Sort args) = true
+needs_all (command.Paste args) = true
+needs_all (command.Tail args) = true
+needs_all (command.Uniq args) = true
+needs_all other = false
+
+-- the lines of the standard input are dealt to all `-`, and so no `-` but the first is an input of its own (XCU paste)
+abbrev pub deals : Command → Bool
+deals (command.Paste args) = not args.serial
+deals other = false
+
+-- the status, by whether an operand has no input, and whether a line is selected (XCU grep, sort)
+abbrev pub writes_nothing : Report → Bool
+writes_nothing report.Nothing = true
+writes_nothing report.Lines = false
+writes_nothing report.Count = false
+writes_nothing report.Path = false
+
+abbrev pub status_of : Command → Bool → Bool → ℕ
+status_of (command.Grep args) lacks true = if lacks && not (writes_nothing args.report) then 2 else 0
+status_of (command.Grep args) lacks false = if lacks then 2 else 1
+status_of (command.Sort args) lacks selected = if lacks then 2 else 0
+status_of other lacks selected = if lacks then 1 else 0
+
+-- the words with the empty text, which names nothing, in place of the operands that have no input. The operands are the last words
+abbrev pub words_without : (List ℕ → Bool) → Called → List (List ℕ)
+words_without is_lacking called =
+    take (length called.words - length (operands_by called.command)) called.words
+    ++ map (λ operand. if is_lacking operand then [] else operand) (operands_by called.command)
+
+-- the name of the standard input
+abbrev pub is_dash : List ℕ → Bool
+is_dash operand = pointwise nat_eq operand (codes "-")
+
+abbrev pub file_input : State → List ℕ → List ℕ → Place → Given
+file_input state name operand place.Missing = complaint (diagnostic name operand no_such_file)
+file_input state name operand (place.Makeable path) = complaint (diagnostic name operand no_such_file)
+file_input state name operand (place.Dir path) = complaint (diagnostic name operand is_a_directory)
+file_input state name operand (place.File path) = input (record { label = operand; text = bytes_at state.world.files path })
+file_input state name operand place.Null = input (record { label = operand; text = [] })
+
+-- the standard input, which the first `-` takes to its end: the next ones are empty, or none at all where its lines are dealt to all
+abbrev pub standard_input : State → Given
+standard_input state = input (record { label = codes "-"; text = to_read state })
+
+abbrev pub standard_again : Bool → Given
+standard_again deals = if deals then nothing else input (record { label = codes "-"; text = [] })
+
+-- what the operands give, from the left
+abbrev pub given_from : State → Bool → List ℕ → Bool → List (List ℕ) → List Given
+given_from state deals name is_taken [] = []
+given_from state deals name is_taken (operand ∷ operands) =
+    if is_dash operand then (if is_taken then standard_again deals else standard_input state) ∷ given_from state deals name true operands
+    else file_input state name operand (named_by state operand) ∷ given_from state deals name is_taken operands
+
+abbrev pub given_to : State → Bool → List ℕ → List (List ℕ) → List Given
+given_to state deals name [] = standard_input state ∷ []
+given_to state deals name (operand ∷ operands) = given_from state deals name false (operand ∷ operands)
+
+abbrev pub inputs_in : List Given → List Input
+inputs_in [] = []
+inputs_in (input text ∷ rest) = text ∷ inputs_in rest
+inputs_in (nothing ∷ rest) = inputs_in rest
+inputs_in (complaint line ∷ rest) = inputs_in rest
+
+abbrev pub complaints_in : List Given → List (List ℕ)
+complaints_in [] = []
+complaints_in (input text ∷ rest) = complaints_in rest
+complaints_in (nothing ∷ rest) = complaints_in rest
+complaints_in (complaint line ∷ rest) = line ∷ complaints_in rest
+
+-- the standard input is read: there is no operand, or a `-` among them
+abbrev pub reads_standard : List (List ℕ) → Bool
+reads_standard [] = true
+reads_standard (operand ∷ operands) = list_any is_dash (operand ∷ operands)
+
+-- an operand that has no input
+abbrev pub is_readable : Place → Bool
+is_readable place.Missing = false
+is_readable (place.Makeable path) = false
+is_readable (place.Dir path) = false
+is_readable (place.File path) = true
+is_readable place.Null = true
+
+abbrev pub has_none : State → List ℕ → Bool
+has_none state operand = not (is_dash operand || is_readable (named_by state operand))
+
+-- what a command uses: its inputs, and the files that it writes
+abbrev pub read_use : State → List ℕ → List Use
+read_use state operand = if is_dash operand then [] else record { text = operand; place = named_by state operand; writes = false } ∷ []
+
+abbrev pub written_use : State → List ℕ → Use
+written_use state text = record { text = text; place = named_by state text; writes = true }
+
+-- FILES THAT A UTILITY WRITES (XCU tee): those that can be made are begun, and the others told
+pub record Made : Type 0 where
+  pub world : World
+  pub paths : List Components
+  pub complaints : List ℕ
+  pub is_whole : Bool
+
+abbrev pub with_file : Bool → Components → Made → Made
+with_file anew path made = record made { world = file_begun anew path made.world; paths = made.paths ++ path ∷ [] }
+
+abbrev pub without_file : List ℕ → Made → Made
+without_file line made = record made { complaints = made.complaints ++ line; is_whole = false }
+
+abbrev pub make_file : Bool → List ℕ → List ℕ → Place → Made → Made
+make_file anew name text place.Missing made = without_file (diagnostic name text no_such_file) made
+make_file anew name text (place.Makeable path) made = with_file anew path made
+make_file anew name text (place.Dir path) made = without_file (diagnostic name text is_a_directory) made
+make_file anew name text (place.File path) made = with_file anew path made
+make_file anew name text place.Null made = made
+
+abbrev pub make_files : State → Bool → List ℕ → List (List ℕ) → Made → Made
+make_files state anew name [] made = made
+make_files state anew name (text ∷ texts) made = make_files state anew name texts (make_file anew name text (named_by state text) made)
+
+abbrev pub write_files : List Components → List ℕ → State → State
+write_files [] text state = state
+write_files (path ∷ paths) text state = write_files paths text (write (to.File path) text state)
+
+-- the utility ran, by these words
+abbrev pub noted_run : List (List ℕ) → World → World
+noted_run words world = record world { ran = world.ran ++ words ∷ [] }
+
+module _ (pages : Pages) where
+  abbrev pub uses_by_operands : Called → State → List Use
+  uses_by_operands called state = flat_map (read_use state) (operands_by called.command) ++ map (written_use state) (files_by called.command)
+
+  abbrev pub texts_joined : List Input → List ℕ
+  texts_joined inputs = flat_map (λ it. it.text) inputs
+
+  -- the complaints are told, the inputs taken, and the output written
+  abbrev pub writes_out : List ℕ → Called → List Given → Made → Means
+  writes_out name called given made state =
+      let inputs = inputs_in given in
+      let told = tells (if is_silent called.command then made.complaints else flat_map (λ line. line) (complaints_in given) ++ made.complaints) (in_world (λ world. made.world) state) in
+      let taken = if reads_standard (operands_by called.command) then reads_to [] told else told in
+      let written = write_files made.paths (texts_joined inputs) (puts (pages.output called.command inputs) taken) in
+      on (leaves (status_of called.command (not made.is_whole || list_any (has_none state) (operands_by called.command)) (pages.selects called.command inputs)) (in_world (noted_run (words_without (has_none state) called)) written))
+
+  -- some do nothing at all where an operand has no input, but to tell of it (own)
+  abbrev pub does_nothing : List ℕ → Called → List Given → Means
+  does_nothing name called given state =
+      on (leaves (status_of called.command true false) (tells (flat_map (λ line. line) (complaints_in given)) state))
+
+  abbrev pub runs_utility : List ℕ → Called → Means
+  runs_utility name called state =
+      if needs_all called.command && list_any (has_none state) (operands_by called.command)
+      then does_nothing name called (given_to state (deals called.command) name (operands_by called.command)) state
+      else writes_out name called (given_to state (deals called.command) name (operands_by called.command))
+      (make_files state (not (appends called.command)) name (files_by called.command) (record { world = state.world; paths = []; complaints = []; is_whole = true })) state

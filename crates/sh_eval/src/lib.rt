@@ -1,0 +1,30 @@
+//! What a script of the profile means (XCU 2.9), and its evaluation.
+//!
+//! `specs/Meaning.antt` gives the meaning of a script by its structure, from a state to how the script goes on and the state then; each
+//! form of command has a definition of its own over meanings (`Commands`, `Simple`, `Redirections`, `Utilities`, `Builtins`).
+//! `specs/States.antt` says what a state is. No graph, no piece, no width and no call of the outside occurs in it.
+//!
+//! `specs/Contract.antt` is the one clause of every function that evaluates: the state that is meant, or where it stopped, output and
+//! errors grown by fronts of what is meant; and why. Lists, pipelines, groups and subshells are evaluated so far; a simple command, a
+//! redirection, `if` and loops want memory. The program doesn't call it yet.
+#![tactic(auto)]
+
+mod flows;
+pub mod laws;
+mod lists;
+mod outcomes;
+mod refusals;
+mod rests;
+mod session;
+mod shell;
+mod streams;
+#[cfg(test)]
+mod tests;
+
+pub use flows::Flow;
+pub use outcomes::{How, Played, Position};
+pub use refusals::Refusal;
+pub use rests::Rest;
+pub use session::{Pipes, Session};
+pub use shell::Shell;
+pub use streams::{From, Held, HeldPaths, Streams, To};

@@ -1,0 +1,77 @@
+//! What a shell keeps for itself.
+ghost use Rattle.std.specs.Prelude.{◌≡◌, [], IfOk};
+ghost use Rattle.std.specs.FinMap as map;
+ghost use Rattle.ps_lines.specs.Texts.{texts_of};
+ghost use Rattle.sh_eval.specs.Shells.{started, inside as inside_lem};
+ghost use Rattle.sh_eval.specs.Commands.{none_substituted};
+
+use ps_lines::{Memory, Text};
+use sh_arith::Env;
+use std::alloc::Global;
+use ut_options::Texts;
+
+/// What a shell keeps for itself (XCU 2.12): a subshell begins with a copy, and what it changes is lost with it.
+#[derive(Debug, Drop)]
+pub struct Shell {
+    /// The variables.
+    pub(crate) variables: Env,
+    /// `$0`.
+    pub(crate) zero: Text,
+    /// The arguments, `$1` first.
+    pub(crate) arguments: Texts,
+    /// `$?`.
+    pub(crate) status: u8,
+    /// How many loops of this shell enclose the command.
+    pub(crate) loops: u64,
+    /// The status of the last body of the innermost loop, 0 where none has run.
+    pub(crate) body_status: u8,
+    /// The texts of the command's substitutions that have run, without the newlines at their ends.
+    pub(crate) substituted: Texts,
+    /// The status of the last of them, 0 where none has run.
+    pub(crate) substitution_status: u8,
+}
+
+impl Shell {
+    /// A shell of these arguments, in which no variable is set. `zero` is `$0`.
+    pub fn new(alloc: Global, zero: &[u8], args: &[Vec<u8>]) -> Result<Shell, Memory>
+        ensures { IfOk result (λ shell. shell ≡ started zero.now (texts_of args.now)) }
+    {
+        let zero = Text::copy_of(alloc, zero)?;
+        let arguments = Texts::copy_of(alloc, args)?;
+        let substituted = Texts::new(alloc);
+        Ok(Shell {
+            variables: Env::new(alloc),
+            zero,
+            arguments,
+            status: 0,
+            loops: 0,
+            body_status: 0,
+            substituted,
+            substitution_status: 0,
+        })
+    }
+
+    /// The shell of a subshell, a stage or a substitution: a copy, in which no loop encloses a command.
+    pub(crate) fn inside(&self, alloc: Global) -> Result<Shell, Memory>
+        ensures { IfOk result (λ shell. shell ≡ inside_lem self.now) }
+    {
+        Ok(Shell {
+            variables: self.variables.copy(alloc)?,
+            zero: Text::copy_of(alloc, self.zero.as_slice())?,
+            arguments: self.arguments.copy()?,
+            status: self.status,
+            loops: 0,
+            body_status: 0,
+            substituted: Texts::new(alloc),
+            substitution_status: 0,
+        })
+    }
+
+    /// Begins a command, which has no substitutions yet.
+    pub(crate) fn begin_command(&mut self, alloc: Global)
+        ensures { self.new ≡ none_substituted self.old }
+    {
+        self.substituted = Texts::new(alloc);
+        self.substitution_status = 0;
+    }
+}

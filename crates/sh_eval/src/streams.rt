@@ -1,0 +1,59 @@
+//! Where a shell's descriptors lead.
+use crate::rests::Rest;
+use ps_world::Path;
+use std::marker::Model;
+
+/// What descriptor 0 reads.
+#[derive(Debug, Drop)]
+pub enum From {
+    /// The standard input of the run.
+    Standard,
+    /// What is left of a text: a file's, or that of the stage before.
+    Kept(Rest),
+}
+
+/// Where what is written to a descriptor goes (XCU 2.7).
+#[derive(Debug, Drop)]
+pub enum To {
+    /// The standard output of the run.
+    Output,
+    /// The standard error of the run.
+    Errors,
+    /// The pipe of this number, from the outermost, which takes in the text for a next stage or a substitution.
+    Pipe(u64),
+    /// The end of a file.
+    File(Path),
+    /// `/dev/null`.
+    Null,
+}
+
+/// A path that an enclosing redirection reads, or writes.
+#[derive(Debug, Drop)]
+pub struct Held {
+    pub path: Path,
+    pub writes: bool,
+}
+
+/// The paths that enclosing redirections hold. Contracts see their list.
+#[derive(Debug, Drop)]
+pub struct HeldPaths {
+    paths: Vec<Held>,
+}
+
+impl Model for HeldPaths {
+    ghost use Rattle.std.specs.Prelude.{List};
+    ghost use Rattle.sh_eval.specs.declared.streams.Held.{Held as HeldPath};
+
+    ghost Value = { List HeldPath };
+
+    ghost view = { λ held. held.paths.items };
+}
+
+/// Where the three descriptors lead, and the paths that enclosing redirections hold.
+#[derive(Debug, Drop)]
+pub struct Streams {
+    pub from: From,
+    pub to: To,
+    pub errors_to: To,
+    pub held: HeldPaths,
+}

@@ -16,16 +16,15 @@ use Rattle.ps_world.specs.Told.{then_bytes, GrewByPrefix}
 use Rattle.ps_world.specs.declared.Place.{Place}
 use Rattle.ps_world.specs.declared.Place.TheVariants as place
 use Rattle.ps_world.proofs.ToldLemmas.{then_bytes-nil, grew_by_nothing}
-use Rattle.ut_args.specs.Commands.{is_pattern, hyphen}
-use Rattle.fl_graph.specs.Cells.{cell, cells}
-use Rattle.fl_graph.specs.Net.{Cell}
+use Rattle.ut_options.specs.Scanning.{hyphen}
+use Rattle.fl_graph.specs.declared.graphs.Cell.{Cell}
 use Rattle.fl_graph.specs.declared.graphs.Graph.{Graph}
 use Rattle.fl_graph.specs.declared.kinds.NodeKind.{NodeKind}
 use Rattle.fl_classes.specs.Flow.{flow, is_source, only}
 use Rattle.fl_core.specs.Kinds.{is_sink}
 use Rattle.fl_core.specs.Plans.{AreTold}
 use Rattle.pash.specs.CatForm.{is_plain_byte, is_plain_word}
-use Rattle.pash.specs.FirstGraph.{source_texts, cat_text}
+use Rattle.pash.specs.FirstGraph.{is_pattern, source_texts, cat_text}
 use Rattle.pash.specs.Cat.{content, complaint}
 use Rattle.pash.specs.FirstRuns.{IsApart, IsFirstGraph, IsLeft}
 use Rattle.pash.specs.Pipeline.{pipeline_output}
@@ -66,20 +65,20 @@ plain_is_pattern (byte ∷ word) plain =
 
 module _ (graph : Graph) (has_file : Bool) (word : List ℕ) (first : IsFirstGraph graph has_file word) where
   -- which nodes read and write
-  pub reads_first : (node : ℕ) (cell : Cell NodeKind) → slice_get (cells graph.nodes.items) node ≡ Some cell → is_source cell.kind ≡ true → ((node == 0) && has_file) ≡ true
+  pub reads_first : (node : ℕ) (cell : Cell NodeKind) → slice_get graph.nodes node ≡ Some cell → is_source cell.kind ≡ true → ((node == 0) && has_file) ≡ true
   reads_first node cell at source =
-      let own = first_source (cells graph.nodes.items) first.file first.ends node cell at source in
+      let own = first_source graph.nodes first.file first.ends node cell at source in
       and_from (node == 0) has_file (eq-eqb node 0 own.0) (sym first.there ∙ own.1)
 
-  module _ (sink : ℕ) (last : sink ≡ length graph.nodes.items - 1) where
-    sink_is : length (cells graph.nodes.items) - 1 ≡ sink
-    sink_is = ap (λ (count : ℕ). count - 1) (length-map graph.nodes.items cell) ∙ sym last
+  module _ (sink : ℕ) (last : sink ≡ length graph.nodes - 1) where
+    sink_is : length graph.nodes - 1 ≡ sink
+    sink_is = sym last
 
-    pub writes_last : (node : ℕ) (cell : Cell NodeKind) → slice_get (cells graph.nodes.items) node ≡ Some cell → is_sink cell.kind ≡ true → (node == sink) ≡ true
-    writes_last node cell at is = eq-eqb node sink (first_sink (cells graph.nodes.items) first.file first.ends node cell at is ∙ sink_is)
+    pub writes_last : (node : ℕ) (cell : Cell NodeKind) → slice_get graph.nodes node ≡ Some cell → is_sink cell.kind ≡ true → (node == sink) ≡ true
+    writes_last node cell at is = eq-eqb node sink (first_sink graph.nodes first.file first.ends node cell at is ∙ sink_is)
 
     pub sink_some : 0 < sink
-    sink_some = subst (λ (count : ℕ). 0 < count) sink_is (sink_there (cells graph.nodes.items) first.file first.ends).1
+    sink_some = subst (λ (count : ℕ). 0 < count) sink_is (sink_there graph.nodes first.file first.ends).1
 
     module _ {R : Type 0} (left_of : R → Option (List ℕ)) (reader : Option R) (same : is_some reader ≡ has_file) (text : List ℕ) (left : IsLeft left_of reader text) where
       -- what the source's end tells
@@ -98,11 +97,11 @@ module _ (graph : Graph) (has_file : Bool) (word : List ℕ) (first : IsFirstGra
           by_file None (Some found) is left = absurd (true≢false is)
           by_file (Some path) reader is left = refl
 
-      told : AreTold (source_texts first.file text) (cells graph.nodes.items) (λ node. if node == 0 then option_and_then left_of reader else None)
-      told = first_told (cells graph.nodes.items) first.file first.ends text (λ node. if node == 0 then option_and_then left_of reader else None) left_here
+      told : AreTold (source_texts first.file text) graph.nodes (λ node. if node == 0 then option_and_then left_of reader else None)
+      told = first_told graph.nodes first.file first.ends text (λ node. if node == 0 then option_and_then left_of reader else None) left_here
 
       -- what the last node takes
-      text_there : only (map (flow (cells graph.nodes.items) (source_texts first.file text)) (first.ends.edge ∷ [])) ≡ pipeline_output word text
+      text_there : only (map (flow graph.nodes (source_texts first.file text)) (first.ends.edge ∷ [])) ≡ pipeline_output word text
       text_there =
           first_only graph first.file first.ends first.valid text (pipeline_output word (cat_text first.file text)) (first.leaves text)
           ∙ ap (pipeline_output word) text_is
@@ -114,28 +113,28 @@ module _ (graph : Graph) (has_file : Bool) (word : List ℕ) (first : IsFirstGra
         here' : (if sink == sink' then taken' else None) ≡ taken'
         here' = rw (eq-eqb sink sink' (sym kept)) refl
 
-        pub all_written : ((sources : List (List ℕ)) → AreTold sources (cells graph.nodes.items) (λ node. if node == 0 then option_and_then left_of reader else None)
-            → (node : ℕ) (cell : Cell NodeKind) → slice_get (cells graph.nodes.items) node ≡ Some cell → is_sink cell.kind ≡ true
-            → (if node == sink' then taken' else None) ≡ then_bytes (if node == sink then taken else None) (only (map (flow (cells graph.nodes.items) sources) cell.ins)))
+        pub all_written : ((sources : List (List ℕ)) → AreTold sources graph.nodes (λ node. if node == 0 then option_and_then left_of reader else None)
+            → (node : ℕ) (cell : Cell NodeKind) → slice_get graph.nodes node ≡ Some cell → is_sink cell.kind ≡ true
+            → (if node == sink' then taken' else None) ≡ then_bytes (if node == sink then taken else None) (only (map (flow graph.nodes sources) cell.ins)))
             → taken' ≡ then_bytes taken (pipeline_output word text)
         all_written written =
-            let there = sink_there (cells graph.nodes.items) first.file first.ends in
+            let there = sink_there graph.nodes first.file first.ends in
             sym here' ∙ subst (λ (node : ℕ). (if node == sink' then taken' else None) ≡ then_bytes (if node == sink then taken else None) (pipeline_output word text)) sink_is
-            (written (source_texts first.file text) told (length (cells graph.nodes.items) - 1) _ there.0 refl
-            ∙ ap (then_bytes (if length (cells graph.nodes.items) - 1 == sink then taken else None)) text_there)
+            (written (source_texts first.file text) told (length graph.nodes - 1) _ there.0 refl
+            ∙ ap (then_bytes (if length graph.nodes - 1 == sink then taken else None)) text_there)
             ∙ ap (λ (it : Option (List ℕ)). then_bytes it (pipeline_output word text)) here
 
-        pub front_written : ((sources : List (List ℕ)) → AreTold sources (cells graph.nodes.items) (λ node. if node == 0 then option_and_then left_of reader else None)
-            → (node : ℕ) (cell : Cell NodeKind) → slice_get (cells graph.nodes.items) node ≡ Some cell → is_sink cell.kind ≡ true
-            → GrewByPrefix (if node == sink then taken else None) (if node == sink' then taken' else None) (only (map (flow (cells graph.nodes.items) sources) cell.ins)))
+        pub front_written : ((sources : List (List ℕ)) → AreTold sources graph.nodes (λ node. if node == 0 then option_and_then left_of reader else None)
+            → (node : ℕ) (cell : Cell NodeKind) → slice_get graph.nodes node ≡ Some cell → is_sink cell.kind ≡ true
+            → GrewByPrefix (if node == sink then taken else None) (if node == sink' then taken' else None) (only (map (flow graph.nodes sources) cell.ins)))
             → GrewByPrefix taken taken' (pipeline_output word text)
         front_written written =
-            let there = sink_there (cells graph.nodes.items) first.file first.ends in
+            let there = sink_there graph.nodes first.file first.ends in
             subst (λ (it : Option (List ℕ)). GrewByPrefix it taken' (pipeline_output word text)) here
             (subst (λ (it : Option (List ℕ)). GrewByPrefix (if sink == sink then taken else None) it (pipeline_output word text)) here'
             (subst (λ (node : ℕ). GrewByPrefix (if node == sink then taken else None) (if node == sink' then taken' else None) (pipeline_output word text)) sink_is
-            (subst (λ (it : List ℕ). GrewByPrefix (if length (cells graph.nodes.items) - 1 == sink then taken else None) (if length (cells graph.nodes.items) - 1 == sink' then taken' else None) it) text_there
-            (written (source_texts first.file text) told (length (cells graph.nodes.items) - 1) _ there.0 refl))))
+            (subst (λ (it : List ℕ). GrewByPrefix (if length graph.nodes - 1 == sink then taken else None) (if length graph.nodes - 1 == sink' then taken' else None) it) text_there
+            (written (source_texts first.file text) told (length graph.nodes - 1) _ there.0 refl))))
 
 -- why a run stops: the count of its reader is node 0's, and that of its output the last node's
 module _ (source source' out out' sink sink' : ℕ) (some : 0 < sink) (kept : sink' ≡ sink) where

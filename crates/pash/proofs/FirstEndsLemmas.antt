@@ -5,8 +5,7 @@ use Rattle.std.specs.List.{list_all, flat_map}
 use Rattle.std.proofs.lemmas.Bool.{true≢false, and_parts}
 use Rattle.std.proofs.lemmas.Grind.{flat_map-append}
 use Rattle.ps_world.specs.Paths.{Components}
-use Rattle.fl_graph.specs.Net.{Cell}
-use Rattle.fl_graph.specs.Cells.{cells}
+use Rattle.fl_graph.specs.declared.graphs.Cell.{Cell}
 use Rattle.fl_graph.specs.Valid.{Valid}
 use Rattle.fl_graph.specs.declared.graphs.Graph.{Graph}
 use Rattle.fl_graph.specs.declared.graphs.StatusRule.{StatusRule}
@@ -173,19 +172,19 @@ module _ (cells : List (Cell NodeKind)) (file : Option Components) (ends : HasFi
   pub first_writes : (status : StatusRule) → Valid cells status → (sources : List (List ℕ)) → writes cells sources ≡ ToOutput (flow cells sources ends.edge) ∷ []
   first_writes status valid sources = writes_of_the_flow cells status valid sources ∙ ends_write (flow cells sources)
 
-module _ (graph : Graph) (file : Option Components) (ends : HasFirstEnds (cells graph.nodes.items) file) (valid : Valid (cells graph.nodes.items) graph.status) where
+module _ (graph : Graph) (file : Option Components) (ends : HasFirstEnds graph.nodes file) (valid : Valid graph.nodes graph.status) where
   -- what the graph leaves at the output is the flow of the sink's edge
-  pub first_output : (sources : List (List ℕ)) → (outcome graph sources).output ≡ flow (cells graph.nodes.items) sources ends.edge
+  pub first_output : (sources : List (List ℕ)) → (outcome graph sources).output ≡ flow graph.nodes sources ends.edge
   first_output sources =
-      let text : List ℕ = flow (cells graph.nodes.items) sources ends.edge in
-      ap (λ (written : List Write). flat_map to_output written) (first_writes (cells graph.nodes.items) file ends graph.status valid sources) ∙ append-nil text
+      let text : List ℕ = flow graph.nodes sources ends.edge in
+      ap (λ (written : List Write). flat_map to_output written) (first_writes graph.nodes file ends graph.status valid sources) ∙ append-nil text
 
   -- so that flow is known where the outcome is
   pub first_flow : (text out : List ℕ) → outcome graph (source_texts file text) ≡ record { output = out; files = []; status = 0 }
-      → flow (cells graph.nodes.items) (source_texts file text) ends.edge ≡ out
+      → flow graph.nodes (source_texts file text) ends.edge ≡ out
   first_flow text out leaves = sym (first_output (source_texts file text)) ∙ ap (λ (left : Outcome). left.output) leaves
 
   -- likewise as the text of the sink's one in
   pub first_only : (text out : List ℕ) → outcome graph (source_texts file text) ≡ record { output = out; files = []; status = 0 }
-      → only (map (flow (cells graph.nodes.items) (source_texts file text)) (ends.edge ∷ [])) ≡ out
+      → only (map (flow graph.nodes (source_texts file text)) (ends.edge ∷ [])) ≡ out
   first_only text out leaves = first_flow text out leaves

@@ -5,15 +5,15 @@ use Rattle.std.proofs.lemmas.Bool.{ne_eqb}
 use Rattle.std.proofs.lemmas.List.FromFn.{length-range_with_len}
 use Rattle.ps_lines.specs.Lines.{is_cutlist}
 use Rattle.ps_world.specs.Paths.{Components}
-use Rattle.ut_args.specs.Commands.{pattern_of}
+use Rattle.ut_args.specs.Built.{is_built_grep, is_built_wc}
 use Rattle.ut_args.specs.declared.invocations.GrepInv.{GrepInv}
 use Rattle.ut_args.specs.declared.invocations.WcInv.{WcInv}
 use Rattle.ut_args.specs.declared.invocations.Inv.{Inv}
 use Rattle.ut_args.specs.declared.invocations.Inv.TheVariants as inv
-use Rattle.ut_grep.specs.Fixed.{selected_lines}
+use Rattle.ut_grep.specs.Fixed.{pattern_of, selected_lines}
 use Rattle.ut_groups.specs.Counting.{line_count}
-use Rattle.fl_graph.specs.Net.{Cell, store, after, run}
-use Rattle.fl_graph.specs.Cells.{cells}
+use Rattle.fl_graph.specs.Net.{store, after, run}
+use Rattle.fl_graph.specs.declared.graphs.Cell.{Cell}
 use Rattle.fl_graph.specs.declared.graphs.Graph.{Graph}
 use Rattle.fl_graph.specs.declared.graphs.StatusRule.{StatusRule}
 use Rattle.fl_graph.specs.declared.graphs.StatusRule.TheVariants as status
@@ -23,7 +23,7 @@ use Rattle.fl_graph.proofs.NetLemmas.{run-append}
 use Rattle.fl_classes.specs.Aggregates.{map_of, aggregate_from, aggregate_of}
 use Rattle.fl_classes.specs.Parts.{slice, part_end, parts_from, parts_of}
 use Rattle.fl_classes.specs.Flow.{Placed, placed, placed_from, equation, no_texts, Write, ToOutput, writes_of, writes, to_output, to_file, selections, status_by, Outcome, outcome}
-use Rattle.fl_classes.proofs.ClassLemmas.{grep-lines, grep-closed, wc-parallel}
+use Rattle.fl_classes.proofs.ClassLemmas.{grep-map, grep-lines, grep-closed, wc-map, wc-parallel}
 use Rattle.fl_classes.proofs.CutLemmas.{over_lines, over_parts, maps-cut}
 use Rattle.fl_classes.proofs.PartLemmas.{parts_of-count, parts-joined, parts-cut}
 use Rattle.pash.specs.Pipeline.{pipeline_output}
@@ -98,47 +98,48 @@ split-writes sources grep wc number joins values =
     ∙ ap (λ (texts : List (List ℕ)). ToOutput (aggregate_of wc texts) ∷ [])
     (counted ∙ ap (map (map_of wc)) (selected ∙ ap (map (map_of grep)) (split ∙ ap (parts_of (values 0)) count)))
 
--- the counts of the parts, added up
-pipeline-parts : (grep : GrepInv) (wc : WcInv) (joins : ℕ) (text : List ℕ)
-    → aggregate_of (inv.Wc wc) (map (map_of (inv.Wc wc)) (map (map_of (inv.Grep grep)) (parts_of text (suc joins)))) ≡ pipeline_output (pattern_of grep.words) text
-pipeline-parts grep wc joins text =
-    let parts : List (List ℕ) = parts_of text (suc joins) in
-    let cut : is_cutlist parts ≡ true = parts-cut text (suc joins) (omega arith) in
-    let selected : concat (map (map_of (inv.Grep grep)) parts) ≡ map_of (inv.Grep grep) text =
-    sym (over_lines (inv.Grep grep) (grep-lines grep) (grep-closed grep).none parts cut) ∙ ap (map_of (inv.Grep grep)) (parts-joined text (suc joins) (omega arith)) in
-    over_parts (inv.Wc wc) (wc-parallel wc) (map_of (inv.Grep grep) (slice text (part_end text (suc joins) 0) (part_end text (suc joins) (0 + 1))))
-    (map (map_of (inv.Grep grep)) (parts_from text (suc joins) (0 + 1) joins)) (maps-cut (inv.Grep grep) (grep-closed grep) parts cut)
-    ∙ ap (map_of (inv.Wc wc)) selected
-    ∙ ap line_count (append-nil (selected_lines (pattern_of grep.words) (text ++ [])))
-    ∙ ap (λ text. line_count (selected_lines (pattern_of grep.words) text)) (append-nil text)
+-- the commands are built
+module _ (grep : GrepInv) (wc : WcInv) (selects : is_built_grep grep.args ≡ true) (counts : is_built_wc wc.args ≡ true) where
+  -- the lines that grep selects of a text, counted
+  counted : (text : List ℕ) → map_of (inv.Wc wc) (map_of (inv.Grep grep) text) ≡ pipeline_output (pattern_of grep.args.patterns) text
+  counted text = wc-map wc counts (map_of (inv.Grep grep) text) ∙ ap line_count (grep-map grep selects text)
 
-pub spread-writes : (file : Option Components) (grep : GrepInv) (wc : WcInv) (joins : ℕ) (text : List ℕ)
-    → writes (spread_of (source_kind file) (inv.Grep grep) (inv.Wc wc) (suc joins) joins) (source_texts file text)
-    ≡ ToOutput (pipeline_output (pattern_of grep.words) (cat_text file text)) ∷ []
-spread-writes None grep wc joins text =
-    split-writes [] (inv.Grep grep) (inv.Wc wc) 0 joins (store (0 ∷ []) ([] ∷ []) no_texts) ∙ ap (λ text. ToOutput text ∷ []) (pipeline-parts grep wc joins [])
-spread-writes (Some path) grep wc joins text =
-    split-writes (text ∷ []) (inv.Grep grep) (inv.Wc wc) (0 + 1) joins (store (0 ∷ []) (text ∷ []) no_texts) ∙ ap (λ text. ToOutput text ∷ []) (pipeline-parts grep wc joins text)
+  -- the counts of the parts, added up
+  pipeline-parts : (joins : ℕ) (text : List ℕ)
+      → aggregate_of (inv.Wc wc) (map (map_of (inv.Wc wc)) (map (map_of (inv.Grep grep)) (parts_of text (suc joins)))) ≡ pipeline_output (pattern_of grep.args.patterns) text
+  pipeline-parts joins text =
+      let parts : List (List ℕ) = parts_of text (suc joins) in
+      let cut : is_cutlist parts ≡ true = parts-cut text (suc joins) (omega arith) in
+      let keeps = grep-closed grep selects in
+      let selected : concat (map (map_of (inv.Grep grep)) parts) ≡ map_of (inv.Grep grep) text =
+      sym (over_lines (inv.Grep grep) (grep-lines grep selects) keeps.none parts cut) ∙ ap (map_of (inv.Grep grep)) (parts-joined text (suc joins) (omega arith)) in
+      over_parts (inv.Wc wc) (wc-parallel wc counts) (map_of (inv.Grep grep) (slice text (part_end text (suc joins) 0) (part_end text (suc joins) (0 + 1))))
+      (map (map_of (inv.Grep grep)) (parts_from text (suc joins) (0 + 1) joins)) (maps-cut (inv.Grep grep) keeps parts cut)
+      ∙ ap (map_of (inv.Wc wc)) selected ∙ counted text
 
--- both stages whole
-pipeline-whole : (grep : GrepInv) (text : List ℕ) → line_count (selected_lines (pattern_of grep.words) (text ++ []) ++ []) ≡ pipeline_output (pattern_of grep.words) text
-pipeline-whole grep text =
-    ap line_count (append-nil (selected_lines (pattern_of grep.words) (text ++ []))) ∙ ap (λ text. line_count (selected_lines (pattern_of grep.words) text)) (append-nil text)
+  pub spread-writes : (file : Option Components) (joins : ℕ) (text : List ℕ)
+      → writes (spread_of (source_kind file) (inv.Grep grep) (inv.Wc wc) (suc joins) joins) (source_texts file text)
+      ≡ ToOutput (pipeline_output (pattern_of grep.args.patterns) (cat_text file text)) ∷ []
+  spread-writes None joins text =
+      split-writes [] (inv.Grep grep) (inv.Wc wc) 0 joins (store (0 ∷ []) ([] ∷ []) no_texts) ∙ ap (λ text. ToOutput text ∷ []) (pipeline-parts joins [])
+  spread-writes (Some path) joins text =
+      split-writes (text ∷ []) (inv.Grep grep) (inv.Wc wc) (0 + 1) joins (store (0 ∷ []) (text ∷ []) no_texts) ∙ ap (λ text. ToOutput text ∷ []) (pipeline-parts joins text)
 
-pub whole-writes : (file : Option Components) (grep : GrepInv) (wc : WcInv) (text : List ℕ)
-    → writes (whole_cells (source_kind file) (inv.Grep grep) (inv.Wc wc)) (source_texts file text) ≡ ToOutput (pipeline_output (pattern_of grep.words) (cat_text file text)) ∷ []
-whole-writes None grep wc text = ap (λ text. ToOutput text ∷ []) (pipeline-whole grep [])
-whole-writes (Some path) grep wc text = ap (λ text. ToOutput text ∷ []) (pipeline-whole grep text)
+  -- both stages whole
+  pub whole-writes : (file : Option Components) (text : List ℕ)
+      → writes (whole_cells (source_kind file) (inv.Grep grep) (inv.Wc wc)) (source_texts file text) ≡ ToOutput (pipeline_output (pattern_of grep.args.patterns) (cat_text file text)) ∷ []
+  whole-writes None text = ap (λ text. ToOutput text ∷ []) (counted [])
+  whole-writes (Some path) text = ap (λ text. ToOutput text ∷ []) (counted text)
 
 -- what a graph leaves that writes one text, to the output
 abbrev left : List Write → ℕ → Outcome
 left written code = record { output = flat_map to_output written; files = flat_map to_file written; status = code }
 
-pub outcome-of : (graph : Graph) (nodes : List (Cell NodeKind)) (sources : List (List ℕ)) (text : List ℕ) → cells graph.nodes.items ≡ nodes → graph.status ≡ status.Fixed 0
+pub outcome-of : (graph : Graph) (nodes : List (Cell NodeKind)) (sources : List (List ℕ)) (text : List ℕ) → graph.nodes ≡ nodes → graph.status ≡ status.Fixed 0
     → writes nodes sources ≡ ToOutput text ∷ [] → outcome graph sources ≡ record { output = text; files = []; status = 0 }
 outcome-of graph nodes sources text are is_fixed written =
     let plain : text ++ [] ≡ text = append-nil text in
     let result : List ℕ → Outcome = λ (output : List ℕ). record { output = output; files = []; status = 0 } in
-    ap (λ (texts : List Write). left texts (status_by graph.status (selections (cells graph.nodes.items) sources))) (ap (λ (cells : List (Cell NodeKind)). writes cells sources) are ∙ written)
-    ∙ ap (λ (rule : StatusRule). left (ToOutput text ∷ []) (status_by rule (selections (cells graph.nodes.items) sources))) is_fixed
+    ap (λ (texts : List Write). left texts (status_by graph.status (selections graph.nodes sources))) (ap (λ (cells : List (Cell NodeKind)). writes cells sources) are ∙ written)
+    ∙ ap (λ (rule : StatusRule). left (ToOutput text ∷ []) (status_by rule (selections graph.nodes sources))) is_fixed
     ∙ ap result plain

@@ -6,14 +6,12 @@ use Rattle.std.proofs.lemmas.Bool.{true≢false, and_from, ne_eqb}
 use Rattle.std.proofs.lemmas.List.Folds.{list_all-append}
 use Rattle.ps_world.specs.Paths.{Components}
 use Rattle.ps_world.specs.Places.{is_null_path}
-use Rattle.ut_args.specs.Commands.{is_cat, is_grep as are_grep, is_wc as are_wc, pattern_of}
 use Rattle.ut_args.specs.Invocations.{words_of}
 use Rattle.ut_args.specs.declared.invocations.GrepInv.{GrepInv}
 use Rattle.ut_args.specs.declared.invocations.WcInv.{WcInv}
 use Rattle.ut_args.specs.declared.invocations.Inv.{Inv}
 use Rattle.ut_args.specs.declared.invocations.Inv.TheVariants as inv
-use Rattle.fl_graph.specs.Net.{Cell}
-use Rattle.fl_graph.specs.Cells.{cells}
+use Rattle.fl_graph.specs.declared.graphs.Cell.{Cell}
 use Rattle.fl_graph.specs.Valid.{Valid}
 use Rattle.fl_graph.specs.declared.graphs.Graph.{Graph}
 use Rattle.fl_graph.specs.declared.graphs.StatusRule.TheVariants as status
@@ -23,18 +21,10 @@ use Rattle.fl_graph.specs.declared.kinds.To.TheVariants as to
 use Rattle.fl_classes.specs.Flow.{outcome, writes, ToOutput}
 use Rattle.fl_core.specs.Kinds.{are_run}
 use Rattle.pash.specs.Pipeline.{pipeline_output}
-use Rattle.pash.specs.FirstGraph.{source_kind, source_texts, cat_text, node, side_by_side, joining, whole_cells, first_cells, grep_words, wc_words, is_whole, is_map, is_aggregate, is_split, runs_its_stage, IsFirstSpread, is_inner, HasFirstEnds}
+use Rattle.pash.specs.FirstGraph.{is_pattern, source_kind, source_texts, cat_text, node, side_by_side, joining, whole_cells, first_cells, grep_words, wc_words, is_whole, is_map, is_aggregate, is_split, runs_its_stage, IsFirstSpread, is_inner, HasFirstEnds}
+use Rattle.pash.proofs.InvocationLemmas.{grep_read, wc_read, grep_inv, wc_inv, grep-is, wc-is, grep-built}
 use Rattle.pash.proofs.FirstValidLemmas.{side-all, spread_of, spread-all, spread-count, spread-valid, spread-run, whole-valid, whole-run}
 use Rattle.pash.proofs.FirstFlowLemmas.{spread-writes, whole-writes, outcome-of}
-
--- the commands are those of their words
-module _ (word : List ℕ) (P : Inv → Inv → Type 0) (each : (grep : GrepInv) (wc : WcInv) → pattern_of grep.words ≡ word → P (inv.Grep grep) (inv.Wc wc)) where
-  known : (grep wc : Inv) → words_of grep ≡ grep_words word → words_of wc ≡ wc_words → P grep wc
-  known (inv.Cat cat) wc first second = absurd (true≢false (sym cat.read ∙ ap is_cat first))
-  known (inv.Wc other) wc first second = absurd (true≢false (sym other.read ∙ ap are_wc first))
-  known (inv.Grep grep) (inv.Cat cat) first second = absurd (true≢false (sym cat.read ∙ ap is_cat second))
-  known (inv.Grep grep) (inv.Grep other) first second = absurd (true≢false (sym other.read ∙ ap are_grep second))
-  known (inv.Grep grep) (inv.Wc wc) first second = each grep wc (ap pattern_of first)
 
 -- the source is in no stage that is counted
 source-test : (test : NodeKind → Bool) (file : Option Components) → test (kind.Text []) ≡ false → ((path : Components) → test (source_kind (Some path)) ≡ false) → test (source_kind file) ≡ false
@@ -152,36 +142,37 @@ wide-cells source grep wc more =
     ap (λ (narrow : Bool). if narrow then whole_cells source grep wc else spread_of source grep wc width (width - 1)) (ne_eqb width 1 (λ same. omega arith))
     ∙ ap (λ (joins : ℕ). spread_of source grep wc width joins) joins
 
-is-first : (file : Option Components) → IfSome file (λ path. is_null_path path ≡ false) → (grep : GrepInv) (wc : WcInv) (width : ℕ) → 1 ≤ width
-    → IsFirst (first_cells (source_kind file) (inv.Grep grep) (inv.Wc wc) width) file (pattern_of grep.words) width
-is-first file plain grep wc zero some = absurd (omega arith)
-is-first file plain grep wc (suc zero) some = record {
-  valid = whole-valid file plain grep wc;
-  run = whole-run file grep wc;
-  stages = whole-stages file grep wc;
-  ends = whole-ends file (inv.Grep grep) (inv.Wc wc);
-  written = whole-writes file grep wc;
+is-first : (file : Option Components) → IfSome file (λ path. is_null_path path ≡ false) → (word : List ℕ) (is : is_pattern word ≡ true) (width : ℕ) → 1 ≤ width
+    → IsFirst (first_cells (source_kind file) (grep_inv word is) wc_inv width) file word width
+is-first file plain word is zero some = absurd (omega arith)
+is-first file plain word is (suc zero) some = record {
+  valid = whole-valid file plain word is;
+  run = whole-run file word is;
+  stages = whole-stages file (grep_read word is) wc_read;
+  ends = whole-ends file (grep_inv word is) wc_inv;
+  written = whole-writes (grep_read word is) wc_read (grep-built word is) refl file;
 }
-is-first file plain grep wc (suc (suc more)) some =
-    subst (λ (nodes : List (Cell NodeKind)). IsFirst nodes file (pattern_of grep.words) (suc (suc more))) (sym (wide-cells (source_kind file) (inv.Grep grep) (inv.Wc wc) more))
+is-first file plain word is (suc (suc more)) some =
+    subst (λ (nodes : List (Cell NodeKind)). IsFirst nodes file word (suc (suc more))) (sym (wide-cells (source_kind file) (grep_inv word is) wc_inv more))
     (record {
-      valid = spread-valid file plain grep wc (suc more);
-      run = spread-run file plain grep wc (suc more);
-      stages = spread-stages file grep wc more;
-      ends = spread-ends file (inv.Grep grep) (inv.Wc wc) (suc (suc more)) (suc more);
-      written = spread-writes file grep wc (suc more);
+      valid = spread-valid file plain word is (suc more);
+      run = spread-run file plain word is (suc more);
+      stages = spread-stages file (grep_read word is) wc_read more;
+      ends = spread-ends file (grep_inv word is) wc_inv (suc (suc more)) (suc more);
+      written = spread-writes (grep_read word is) wc_read (grep-built word is) refl file (suc more);
     })
 
 -- the nodes that the code makes
 module _ (nodes : List (Cell NodeKind)) (source : NodeKind) (grep wc : Inv) (file : Option Components) (word : List ℕ) (width : ℕ)
     (are : nodes ≡ first_cells source grep wc width) (is_source : source ≡ source_kind file) (is_grep : words_of grep ≡ grep_words word) (is_wc : words_of wc ≡ wc_words)
-    (plain : IfSome file (λ path. is_null_path path ≡ false)) (some : 1 ≤ width) where
+    (plain : IfSome file (λ path. is_null_path path ≡ false)) (is : is_pattern word ≡ true) (some : 1 ≤ width) where
   first : IsFirst nodes file word width
   first =
-      subst (λ (nodes : List (Cell NodeKind)). IsFirst nodes file word width) (sym (are ∙ ap (λ (source : NodeKind). first_cells source grep wc width) is_source))
-      (known word (λ grep wc. IsFirst (first_cells (source_kind file) grep wc width) file word width)
-      (λ grep wc is. subst (λ (word : List ℕ). IsFirst (first_cells (source_kind file) (inv.Grep grep) (inv.Wc wc) width) file word width) is (is-first file plain grep wc width some))
-      grep wc is_grep is_wc)
+      subst (λ (nodes : List (Cell NodeKind)). IsFirst nodes file word width)
+      (sym (are ∙ ap (λ (source : NodeKind). first_cells source grep wc width) is_source
+      ∙ ap (λ (grep : Inv). first_cells (source_kind file) grep wc width) (grep-is word is grep is_grep)
+      ∙ ap (λ (wc : Inv). first_cells (source_kind file) (grep_inv word is) wc width) (wc-is wc is_wc)))
+      (is-first file plain word is width some)
 
   pub first-valid : Valid nodes (status.Fixed 0)
   first-valid = first.valid
@@ -195,7 +186,7 @@ module _ (nodes : List (Cell NodeKind)) (source : NodeKind) (grep wc : Inv) (fil
   pub first-ends : HasFirstEnds nodes file
   first-ends = first.ends
 
-  pub first-outcome : (graph : Graph) → cells graph.nodes.items ≡ nodes → graph.status ≡ status.Fixed 0 → (text : List ℕ)
+  pub first-outcome : (graph : Graph) → graph.nodes ≡ nodes → graph.status ≡ status.Fixed 0 → (text : List ℕ)
       → outcome graph (source_texts file text) ≡ record { output = pipeline_output word (cat_text file text); files = []; status = 0 }
   first-outcome graph same is_fixed text = outcome-of graph nodes (source_texts file text) (pipeline_output word (cat_text file text)) same is_fixed (first.written text)
 

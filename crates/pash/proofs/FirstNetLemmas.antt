@@ -3,7 +3,8 @@ use Rattle.std.proofs.Common.{◌≡◌, ℕ, zero, suc, ◌+◌, ◌<◌, ◌�
 use Rattle.std.specs.List.{range_with_len, list_all}
 use Rattle.std.proofs.lemmas.Bool.{true≢false, and_from, ne_eqb, eqb-true, lt-ltb, ltb-true}
 use Rattle.std.proofs.lemmas.Grind.{flat_map-append}
-use Rattle.fl_graph.specs.Net.{Cell, has, count, takes, gives, store, step, after, run}
+use Rattle.fl_graph.specs.Net.{has, count, takes, gives, store, step, after, run}
+use Rattle.fl_graph.specs.declared.graphs.Cell.{Cell}
 use Rattle.fl_graph.specs.Checks.{takes_given, each_after}
 use Rattle.fl_graph.proofs.ListLemmas.{holds-has, all-has}
 use Rattle.pash.specs.FirstGraph.{side_by_side}

@@ -9,14 +9,13 @@ use Rattle.std.proofs.lemmas.List.Sums.{sum_by-cons, sum_by-append}
 use Rattle.std.proofs.lemmas.Grind.{flat_map-append}
 use Rattle.ps_world.specs.Paths.{Components}
 use Rattle.ps_world.specs.Places.{is_null_path}
+use Rattle.ut_args.specs.Built.{is_built_grep}
 use Rattle.ut_args.specs.Invocations.{words_of}
 use Rattle.ut_args.proofs.CommandLemmas.{decided}
-use Rattle.ut_args.specs.declared.invocations.GrepInv.{GrepInv}
-use Rattle.ut_args.specs.declared.invocations.WcInv.{WcInv}
 use Rattle.ut_args.specs.declared.invocations.Inv.{Inv}
-use Rattle.ut_args.specs.declared.invocations.Inv.TheVariants as inv
-use Rattle.fl_graph.specs.Net.{Cell, has, count, takes, gives, step, after, run}
-use Rattle.fl_graph.specs.Kinds.{has_its_ports, is_input, is_output, reads_one_input, has_its_class, runs_a_utility}
+use Rattle.fl_graph.specs.Net.{has, count, takes, gives, step, after, run}
+use Rattle.fl_graph.specs.declared.graphs.Cell.{Cell}
+use Rattle.fl_graph.specs.Kinds.{has_its_ports, is_input, is_output, reads_one_input, has_its_class, runs_what_is_built}
 use Rattle.fl_graph.specs.Makers.{Made, Mapped, makes, absent, is_mapped, same_words, tells_maps, all_hold, joins_maps}
 use Rattle.fl_graph.specs.Paths.{paths_read, paths_written, path_read, path_written, ArePathsApart}
 use Rattle.fl_graph.specs.Valid.{HasEdges, Valid}
@@ -28,7 +27,8 @@ use Rattle.fl_graph.proofs.ListLemmas.{count-append}
 use Rattle.fl_graph.proofs.NetLemmas.{run-append}
 use Rattle.fl_graph.proofs.EdgeLemmas.{leads_on-each}
 use Rattle.fl_core.specs.Kinds.{is_run, are_run}
-use Rattle.pash.specs.FirstGraph.{source_kind, node, side_by_side, joining, whole_cells}
+use Rattle.pash.specs.FirstGraph.{is_pattern, source_kind, node, side_by_side, joining, whole_cells}
+use Rattle.pash.proofs.InvocationLemmas.{grep_args, grep_inv, wc_inv, grep-built}
 use Rattle.pash.proofs.FirstNetLemmas.{range-once, range-agree, IsNumbered, numbered-append, numbered-gives, numbered-order, takes-side, gives-side, side-numbered, side-values}
 
 -- a number that is in a row is below its end
@@ -362,9 +362,9 @@ source-class : (file : Option Components) → has_its_class (source_kind file) �
 source-class None = refl
 source-class (Some path) = refl
 
-source-utility : (file : Option Components) → runs_a_utility (source_kind file) ≡ true
-source-utility None = refl
-source-utility (Some path) = refl
+source-built : (file : Option Components) → runs_what_is_built (source_kind file) ≡ true
+source-built None = refl
+source-built (Some path) = refl
 
 source-joins : (file : Option Components) (made : List Made) → tells_maps (source_kind file) made ≡ true ∷ []
 source-joins None made = refl
@@ -380,64 +380,67 @@ source-paths None plain = record { apart = refl; once = refl; files = refl }
 source-paths (Some path) plain = record { apart = refl; once = refl; files = ap (λ (null : Bool). null || false) plain }
 
 -- both stages spread
-module _ (file : Option Components) (plain : IfSome file (λ path. is_null_path path ≡ false)) (grep : GrepInv) (wc : WcInv) (joins : ℕ) where
-  spread-paths : ArePathsApart (paths_read (spread_of (source_kind file) (inv.Grep grep) (inv.Wc wc) (suc joins) joins)) (paths_written (spread_of (source_kind file) (inv.Grep grep) (inv.Wc wc) (suc joins) joins))
+module _ (file : Option Components) (plain : IfSome file (λ path. is_null_path path ≡ false)) (word : List ℕ) (is : is_pattern word ≡ true) (joins : ℕ) where
+  spread-paths : ArePathsApart (paths_read (spread_of (source_kind file) (grep_inv word is) wc_inv (suc joins) joins)) (paths_written (spread_of (source_kind file) (grep_inv word is) wc_inv (suc joins) joins))
   spread-paths =
-      let reads = spread-found (source_kind file) (inv.Grep grep) (inv.Wc wc) (suc joins) joins (λ (cell : Cell NodeKind). path_read cell.kind) refl (λ taken given. refl) (λ taken given. refl) (λ joined taken given. refl) (λ joined. refl) in
-      let writes = spread-found (source_kind file) (inv.Grep grep) (inv.Wc wc) (suc joins) joins (λ (cell : Cell NodeKind). path_written cell.kind) refl (λ taken given. refl) (λ taken given. refl) (λ joined taken given. refl) (λ joined. refl) in
-      subst (λ (read : List Components). ArePathsApart read (paths_written (spread_of (source_kind file) (inv.Grep grep) (inv.Wc wc) (suc joins) joins))) (sym reads)
+      let reads = spread-found (source_kind file) (grep_inv word is) wc_inv (suc joins) joins (λ (cell : Cell NodeKind). path_read cell.kind) refl (λ taken given. refl) (λ taken given. refl) (λ joined taken given. refl) (λ joined. refl) in
+      let writes = spread-found (source_kind file) (grep_inv word is) wc_inv (suc joins) joins (λ (cell : Cell NodeKind). path_written cell.kind) refl (λ taken given. refl) (λ taken given. refl) (λ joined taken given. refl) (λ joined. refl) in
+      subst (λ (read : List Components). ArePathsApart read (paths_written (spread_of (source_kind file) (grep_inv word is) wc_inv (suc joins) joins))) (sym reads)
       (subst (λ (written : List Components). ArePathsApart (cons_option (path_read (source_kind file)) []) written) (sym writes) (source-paths file plain))
 
-  pub spread-valid : Valid (spread_of (source_kind file) (inv.Grep grep) (inv.Wc wc) (suc joins) joins) (status.Fixed 0)
+  pub spread-valid : Valid (spread_of (source_kind file) (grep_inv word is) wc_inv (suc joins) joins) (status.Fixed 0)
   spread-valid =
       let source = source_kind file in
       let width : ℕ = suc joins in
-      let inputs = spread-count source (inv.Grep grep) (inv.Wc wc) width joins (λ (cell : Cell NodeKind). is_input cell.kind) false false false false false false (source-no-input file) refl (λ taken given. refl) (λ taken given. refl) (λ joined taken given. refl) (λ joined. refl) in
-      let outputs = spread-count source (inv.Grep grep) (inv.Wc wc) width joins (λ (cell : Cell NodeKind). is_output cell.kind) false false false false false true (source-no-output file) refl (λ taken given. refl) (λ taken given. refl) (λ joined taken given. refl) (λ joined. refl) in
+      let inputs = spread-count source (grep_inv word is) wc_inv width joins (λ (cell : Cell NodeKind). is_input cell.kind) false false false false false false (source-no-input file) refl (λ taken given. refl) (λ taken given. refl) (λ joined taken given. refl) (λ joined. refl) in
+      let outputs = spread-count source (grep_inv word is) wc_inv width joins (λ (cell : Cell NodeKind). is_output cell.kind) false false false false false true (source-no-output file) refl (λ taken given. refl) (λ taken given. refl) (λ joined taken given. refl) (λ joined. refl) in
       let split : nat_le 1 (length (range_with_len 1 width)) ≡ true =
       let size = length-range_with_len 1 width in le-leb 1 (length (range_with_len 1 width)) (omega (arith, size)) in
       record {
-        edges = edges-numbered (spread_of source (inv.Grep grep) (inv.Wc wc) width joins) (spread-numbered source (inv.Grep grep) (inv.Wc wc) width joins (omega arith)) (spread-taken source (inv.Grep grep) (inv.Wc wc) joins);
-        ports = spread-all source (inv.Grep grep) (inv.Wc wc) width joins has_its_ports (source-ports file) split (λ taken given. refl) (λ taken given. refl) (λ joined taken given. refl) (λ joined. refl);
+        edges = edges-numbered (spread_of source (grep_inv word is) wc_inv width joins) (spread-numbered source (grep_inv word is) wc_inv width joins (omega arith)) (spread-taken source (grep_inv word is) wc_inv joins);
+        ports = spread-all source (grep_inv word is) wc_inv width joins has_its_ports (source-ports file) split (λ taken given. refl) (λ taken given. refl) (λ joined taken given. refl) (λ joined. refl);
         ends = record { input = omega (arith, inputs); output = omega (arith, outputs) };
-        inputs = spread-all source (inv.Grep grep) (inv.Wc wc) width joins (λ (cell : Cell NodeKind). reads_one_input cell.kind) (source-one-input file) refl (λ taken given. refl) (λ taken given. refl) (λ joined taken given. refl) (λ joined. refl);
-        classes = spread-all source (inv.Grep grep) (inv.Wc wc) width joins (λ (cell : Cell NodeKind). has_its_class cell.kind) (source-class file) refl (λ taken given. refl) (λ taken given. refl) (λ joined taken given. refl) (λ joined. refl);
-        utilities = spread-all source (inv.Grep grep) (inv.Wc wc) width joins (λ (cell : Cell NodeKind). runs_a_utility cell.kind) (source-utility file) refl (λ taken given. refl) (λ taken given. refl) (λ joined taken given. refl) (λ joined. refl);
-        maps = spread-joins source (inv.Grep grep) (inv.Wc wc) joins (source-joins file);
+        inputs = spread-all source (grep_inv word is) wc_inv width joins (λ (cell : Cell NodeKind). reads_one_input cell.kind) (source-one-input file) refl (λ taken given. refl) (λ taken given. refl) (λ joined taken given. refl) (λ joined. refl);
+        classes = spread-all source (grep_inv word is) wc_inv width joins (λ (cell : Cell NodeKind). has_its_class cell.kind) (source-class file) refl (λ taken given. refl) (λ taken given. refl) (λ joined taken given. refl) (λ joined. refl);
+        built = spread-all source (grep_inv word is) wc_inv width joins (λ (cell : Cell NodeKind). runs_what_is_built cell.kind) (source-built file) refl (λ taken given. grep-built word is) (λ taken given. refl) (λ joined taken given. refl) (λ joined. refl);
+        maps = spread-joins source (grep_inv word is) wc_inv joins (source-joins file);
         paths = spread-paths;
         named = refl;
       }
 
-  pub spread-run : are_run (spread_of (source_kind file) (inv.Grep grep) (inv.Wc wc) (suc joins) joins) ≡ true
+  pub spread-run : are_run (spread_of (source_kind file) (grep_inv word is) wc_inv (suc joins) joins) ≡ true
   spread-run =
-      spread-all (source_kind file) (inv.Grep grep) (inv.Wc wc) (suc joins) joins (λ (cell : Cell NodeKind). is_run cell.kind) (source-run file) refl (λ taken given. refl) (λ taken given. refl) (λ joined taken given. refl) (λ joined. refl)
+      spread-all (source_kind file) (grep_inv word is) wc_inv (suc joins) joins (λ (cell : Cell NodeKind). is_run cell.kind) (source-run file) refl (λ taken given. refl) (λ taken given. refl) (λ joined taken given. refl) (λ joined. refl)
 
 -- both stages whole
-pub whole-valid : (file : Option Components) → IfSome file (λ path. is_null_path path ≡ false) → (grep : GrepInv) (wc : WcInv)
-    → Valid (whole_cells (source_kind file) (inv.Grep grep) (inv.Wc wc)) (status.Fixed 0)
-whole-valid None plain grep wc = record {
-  edges = edges-numbered (whole_cells (source_kind None) (inv.Grep grep) (inv.Wc wc)) (refl, refl, (refl, refl, (refl, refl, (refl, refl, tt)))) (λ edge. refl);
+built-first : (built : Bool) → built ≡ true → (built && true) ≡ true
+built-first built is = and_from built true is refl
+
+pub whole-valid : (file : Option Components) → IfSome file (λ path. is_null_path path ≡ false) → (word : List ℕ) (is : is_pattern word ≡ true)
+    → Valid (whole_cells (source_kind file) (grep_inv word is) wc_inv) (status.Fixed 0)
+whole-valid None plain word is = record {
+  edges = edges-numbered (whole_cells (source_kind None) (grep_inv word is) wc_inv) (refl, refl, (refl, refl, (refl, refl, (refl, refl, tt)))) (λ edge. refl);
   ports = refl;
   ends = record { input = omega arith; output = omega arith };
   inputs = refl;
   classes = refl;
-  utilities = refl;
+  built = built-first (is_built_grep (grep_args word)) (grep-built word is);
   maps = refl;
   paths = source-paths None plain;
   named = refl;
 }
-whole-valid (Some path) plain grep wc = record {
-  edges = edges-numbered (whole_cells (source_kind (Some path)) (inv.Grep grep) (inv.Wc wc)) (refl, refl, (refl, refl, (refl, refl, (refl, refl, tt)))) (λ edge. refl);
+whole-valid (Some path) plain word is = record {
+  edges = edges-numbered (whole_cells (source_kind (Some path)) (grep_inv word is) wc_inv) (refl, refl, (refl, refl, (refl, refl, (refl, refl, tt)))) (λ edge. refl);
   ports = refl;
   ends = record { input = omega arith; output = omega arith };
   inputs = refl;
   classes = refl;
-  utilities = refl;
+  built = built-first (is_built_grep (grep_args word)) (grep-built word is);
   maps = refl;
   paths = source-paths (Some path) plain;
   named = refl;
 }
 
-pub whole-run : (file : Option Components) (grep : GrepInv) (wc : WcInv) → are_run (whole_cells (source_kind file) (inv.Grep grep) (inv.Wc wc)) ≡ true
-whole-run None grep wc = refl
-whole-run (Some path) grep wc = refl
+pub whole-run : (file : Option Components) (word : List ℕ) (is : is_pattern word ≡ true) → are_run (whole_cells (source_kind file) (grep_inv word is) wc_inv) ≡ true
+whole-run None word is = refl
+whole-run (Some path) word is = refl

@@ -4,6 +4,7 @@ pub mod StageLemmas
 pub mod CopyLemmas
 pub mod CatLemmas
 pub mod RunLemmas
+pub mod InvocationLemmas
 pub mod FirstNetLemmas
 pub mod FirstValidLemmas
 pub mod FirstFlowLemmas

@@ -1,11 +1,15 @@
 -- The graph of `cat FILE | grep -F WORD | wc -l` at a width (own; PaSh's split, maps and aggregators). Edges are numbered in the order in
 -- which they are given: first the source's, then the split's, those of grep, those of wc, and those of the aggregates.
-use Rattle.std.specs.Prelude.{◌≡◌, ℕ, ◌+◌, ◌-◌, zero, suc, List, [], ◌∷◌, ◌++◌, Bool, true, false, ◌&&◌, ◌||◌, ◌==◌, Option, Some, None, if◌then◌else◌, length, codes}
+use Rattle.std.specs.Prelude.{◌≡◌, ℕ, ◌+◌, ◌-◌, zero, suc, List, [], ◌∷◌, ◌++◌, Bool, true, false, not, ◌&&◌, ◌||◌, ◌==◌, Option, Some, None, Ok, if◌then◌else◌, length, codes}
 use Rattle.std.specs.List.{range_with_len, list_all, count_by}
+use Rattle.ps_lines.specs.Lines.{has_newline, is_empty}
 use Rattle.ps_world.specs.Paths.{Components}
+use Rattle.ut_options.specs.Scanning.{begins_with_hyphen}
+use Rattle.ut_args.specs.Reading.{invocation}
+use Rattle.ut_args.specs.declared.commands.Command.{Command}
 use Rattle.ut_args.specs.declared.invocations.Inv.{Inv}
 use Rattle.ut_args.specs.declared.invocations.Inv.TheVariants as inv
-use Rattle.fl_graph.specs.Net.{Cell}
+use Rattle.fl_graph.specs.declared.graphs.Cell.{Cell}
 use Rattle.fl_graph.specs.Kinds.{is_grep}
 use Rattle.fl_graph.specs.declared.kinds.NodeKind.{NodeKind}
 use Rattle.fl_graph.specs.declared.kinds.NodeKind.TheVariants as kind
@@ -19,6 +23,15 @@ grep_words word = codes "grep" ∷ codes "-F" ∷ word ∷ []
 
 abbrev pub wc_words : List (List ℕ)
 wc_words = codes "wc" ∷ codes "-l" ∷ []
+
+-- the word is one pattern that is no option: not empty, within one line, and with no hyphen first
+abbrev pub is_pattern : List ℕ → Bool
+is_pattern word = not (is_empty word) && (not (has_newline word) && not (begins_with_hyphen word))
+
+-- the words are those of an invocation
+pub record AreInvocation (words : List (List ℕ)) : Type 0 where
+  pub asked : Command
+  pub is : invocation words ≡ Ok asked
 
 -- the source is the file, or the empty text where there is none
 abbrev pub source_kind : Option Components → NodeKind
@@ -74,9 +87,8 @@ is_split kind.Split = true
 is_split other = false
 
 abbrev pub is_wc : Inv → Bool
-is_wc (inv.Cat cat) = false
-is_wc (inv.Grep grep) = false
 is_wc (inv.Wc wc) = true
+is_wc other = false
 
 -- how many nodes of the stage are so
 abbrev pub nodes_of : (NodeKind → Bool) → ℕ → List (Cell NodeKind) → ℕ

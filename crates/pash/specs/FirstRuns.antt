@@ -4,7 +4,6 @@ use Rattle.ps_world.specs.Paths.{Components}
 use Rattle.ps_world.specs.Places.{is_null_path}
 use Rattle.ps_world.specs.declared.Place.{Place}
 use Rattle.ps_world.specs.declared.Place.TheVariants as place
-use Rattle.fl_graph.specs.Cells.{cells}
 use Rattle.fl_graph.specs.Valid.{Valid}
 use Rattle.fl_graph.specs.declared.graphs.Graph.{Graph}
 use Rattle.fl_classes.specs.Flow.{outcome}
@@ -16,9 +15,9 @@ use Rattle.pash.specs.Pipeline.{pipeline_output}
 pub record IsFirstGraph (graph : Graph) (has_file : Bool) (word : List ℕ) : Type 0 where
   pub file : Option Components
   pub there : is_some file ≡ has_file
-  pub valid : Valid (cells graph.nodes.items) graph.status
-  pub kinds : are_run (cells graph.nodes.items) ≡ true
-  pub ends : HasFirstEnds (cells graph.nodes.items) file
+  pub valid : Valid graph.nodes graph.status
+  pub kinds : are_run graph.nodes ≡ true
+  pub ends : HasFirstEnds graph.nodes file
   pub leaves : (text : List ℕ) → outcome graph (source_texts file text) ≡ record { output = pipeline_output word (cat_text file text); files = []; status = 0 }
 
 -- the text that is left of a reader, and none where there is no reader

@@ -1,12 +1,8 @@
 -- The words of a script that is one pipeline of plain commands (XCU 2.9.1, 2.9.2): those of each stage, and of any other script none.
 use Rattle.std.specs.Prelude.{ℕ, List, [], ◌∷◌, Bool, true, false, ◌&&◌, Option, Some, None, map, if◌then◌else◌, nat_eq, length}
-use Rattle.sh_tree.specs.Trees.{WordTree, no_part, part, PartTree, plain, FormTree, ListTree, no_item, item, AndOrTree, and_or, none_joined, joined, PipelineTree, pipeline, CommandTrees, no_command, command, CommandTree, simple, SimpleTree, simple_command, SubTrees, no_sub, sub, ScriptTree, TailTree, WordsTree}
-use Rattle.sh_tree.specs.Views.{word_tree, form_step, part_step, word_step, command_step, and_or_step, list_step, pipeline_step, simple_step, tail_step, words_step}
-use Rattle.sh_tree.specs.declared.commands.Simple.{Simple}
-use Rattle.sh_tree.specs.declared.commands.Command.TheFolds.{fold-Simple}
-use Rattle.sh_tree.specs.declared.words.Part.{Part}
+use Rattle.sh_tree.specs.Trees.{WordTree, no_part, part, PartTree, plain, ListTree, no_item, item, AndOrTree, and_or, none_joined, joined, PipelineTree, pipeline, CommandTrees, no_command, command, CommandTree, simple, SimpleTree, simple_command, SubTrees, no_sub, sub, ScriptTree}
+use Rattle.sh_tree.specs.Views.{word_tree}
 use Rattle.sh_tree.specs.declared.words.Word.{Word}
-use Rattle.sh_tree.specs.declared.words.Form.TheFolds.{fold-Part}
 
 -- the bytes of a part that isn't quoted and is no expansion, and none of any other
 abbrev pub part_bytes : PartTree → List ℕ
@@ -70,13 +66,3 @@ abbrev pub sole : {A : Type 0} → List A → Option A
 sole [] = None
 sole (only ∷ []) = Some only
 sole (first ∷ second ∷ rest) = None
-
--- the tree of a part of a word
-abbrev pub part_tree : Part → PartTree
-part_tree = fold-Part FormTree PartTree WordTree form_step part_step word_step
-
--- the tree of a simple command
-abbrev pub simple_tree : Simple → SimpleTree
-simple_tree =
-    fold-Simple CommandTree AndOrTree ListTree PipelineTree SimpleTree TailTree WordsTree command_step and_or_step list_step
-    pipeline_step simple_step tail_step words_step

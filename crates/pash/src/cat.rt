@@ -2,7 +2,7 @@
 ghost use Rattle.std.specs.Prelude.{◌≡◌, ◌<◌, ℕ, List, [], false, length, map, IfOk, IfSome, IfNone, OnOk, OnErr};
 ghost use Rattle.std.specs.List.{list_all};
 ghost use Rattle.ps_world.specs.Files.{NoWriterOut};
-ghost use Rattle.ps_world.specs.Places.{NamesFileIn};
+ghost use Rattle.ps_world.specs.Places.{StandsIn};
 ghost use Rattle.ps_world.specs.Told.{then_bytes, GrewByPrefix};
 ghost use Rattle.ps_world.specs.TreeState.{OnlyLent};
 ghost use Rattle.pash.specs.Answers.{diagnostic};
@@ -132,7 +132,7 @@ fn read_place<T: Tree, O: Sink, E: Sink>(
     place: &Place,
 ) -> Result<bool, Stop>
     requires whole { IfSome (T.state tree.old).held NoWriterOut }
-    requires file { IfSome (T.state tree.old).held (λ files. NamesFileIn files place.now) }
+    requires file { IfSome (T.state tree.old).held (λ files. StandsIn files place.now) }
     requires room { 0 < length buffer.old }
     ensures read { IfOk result (λ read. read ≡ is_readable place.now) }
     ensures ok { OnOk result (IfSome (T.state tree.old).held (λ files.

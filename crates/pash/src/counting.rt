@@ -1,7 +1,7 @@
 //! `cat FILE | grep -F WORD | wc -l`, through a graph.
 ghost use Rattle.std.specs.Prelude.{◌≡◌, ◌<◌, ℕ, [], true, false, length, IfSome, IfNone, OnOk, OnErr};
 ghost use Rattle.ps_world.specs.Files.{Files, NoWriterOut};
-ghost use Rattle.ps_world.specs.Places.{NamesFileIn, is_null_path};
+ghost use Rattle.ps_world.specs.Places.{StandsIn, is_null_path};
 ghost use Rattle.ps_world.specs.Told.{then_bytes, GrewByPrefix};
 ghost use Rattle.ps_world.specs.TreeState.{OnlyLent};
 ghost use Rattle.pash.specs.Cat.{complaint, content, operand_errors, operand_output};
@@ -56,7 +56,7 @@ fn count_at<T: Tree, O: Sink, E: Sink>(
     place: &Place,
 ) -> Result<(), Stop>
     requires whole { IfSome (T.state tree.old).held NoWriterOut }
-    requires file { IfSome (T.state tree.old).held (λ files. NamesFileIn files place.now) }
+    requires file { IfSome (T.state tree.old).held (λ files. StandsIn files place.now) }
     requires apart { IfSome (T.state tree.old).held (λ files. IsApart place.now) }
     ensures ok { OnOk result (IfSome (T.state tree.old).held (λ files.
         Grew (O.taken out.old) (O.taken out.new) (E.taken err.old) (E.taken err.new)

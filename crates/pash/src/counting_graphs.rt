@@ -168,7 +168,7 @@ fn run_over<R: Source, O: Sink>(
     sink: u32,
 ) -> Result<(), Stop>
     requires first { (word : List ℕ) × IsFirstGraph graph.now (is_some reader.old) word }
-    requires sink { sink ≡ length graph.now.nodes.items - 1 }
+    requires sink { sink ≡ length graph.now.nodes - 1 }
     ensures ok { OnOk result ((word text : List ℕ) → IsFirstGraph graph.now (is_some reader.old) word → IsLeft R.left reader.old text →
         O.taken out.new ≡ then_bytes (O.taken out.old) (pipeline_output word text)) }
     ensures part { (word text : List ℕ) → IsFirstGraph graph.now (is_some reader.old) word → IsLeft R.left reader.old text →
@@ -187,7 +187,7 @@ fn run_ends<R: Source, O: Sink>(
     ends: &mut FirstEnds<'_, '_, R, O>,
 ) -> Result<(), Stop>
     requires first { (word : List ℕ) × IsFirstGraph graph.now (is_some ends.old.reader.now) word }
-    requires sink { ends.old.sink ≡ length graph.now.nodes.items - 1 }
+    requires sink { ends.old.sink ≡ length graph.now.nodes - 1 }
     ensures ok { OnOk result ((word text : List ℕ) → IsFirstGraph graph.now (is_some ends.old.reader.now) word → IsLeft R.left ends.old.reader.now text →
         O.taken ends.new.out.now ≡ then_bytes (O.taken ends.old.out.now) (pipeline_output word text)) }
     ensures part { (word text : List ℕ) → IsFirstGraph graph.now (is_some ends.old.reader.now) word → IsLeft R.left ends.old.reader.now text →

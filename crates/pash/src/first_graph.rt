@@ -4,16 +4,14 @@ ghost use Rattle.std.specs.Option.{option_map};
 ghost use Rattle.std.specs.List.{range_with_len};
 ghost use Rattle.ps_lines.specs.Texts.{texts_of};
 ghost use Rattle.ps_world.specs.Places.{is_null_path};
-ghost use Rattle.ut_args.specs.Commands.{is_known, is_pattern};
 ghost use Rattle.ut_args.specs.Invocations.{words_of};
-ghost use Rattle.fl_graph.specs.Cells.{cells};
 ghost use Rattle.fl_graph.specs.Valid.{Valid};
 ghost use Rattle.fl_classes.specs.Flow.{outcome};
 ghost use Rattle.fl_core.specs.Kinds.{are_run};
 ghost use Rattle.pash.specs.Pipeline.{pipeline_output};
-ghost use Rattle.pash.specs.FirstGraph.{grep_words, wc_words, source_kind, node, side_by_side, joining, whole_cells, spread_cells, first_cells, IsFirstSpread, HasFirstEnds, source_texts, cat_text};
+ghost use Rattle.pash.specs.FirstGraph.{grep_words, wc_words, is_pattern, AreInvocation, source_kind, node, side_by_side, joining, whole_cells, spread_cells, first_cells, IsFirstSpread, HasFirstEnds, source_texts, cat_text};
 
-use fl_graph::{From, Graph, Node, NodeKind, StatusRule, To};
+use fl_graph::{From, Graph, Node, NodeKind, Seq, StatusRule, To};
 use ps_lines::{Memory, Text};
 use ps_world::Path;
 use std::alloc::{AllocError, Global};
@@ -41,19 +39,19 @@ pub fn first_graph(
     requires file { IfSome file (λ path. is_null_path path.now ≡ false) }
     requires word { is_pattern word.now ≡ true }
     requires width { (1 ≤ width) × (width ≤ 16) }
-    ensures valid { IfOk result (λ graph. Valid (cells graph.nodes.items) graph.status) }
-    ensures kinds { IfOk result (λ graph. are_run (cells graph.nodes.items) ≡ true) }
-    ensures spread { IfOk result (λ graph. IsFirstSpread (cells graph.nodes.items) width) }
-    ensures ends { IfOk result (λ graph. HasFirstEnds (cells graph.nodes.items) (option_map (λ path. path.now) file.entry)) }
+    ensures valid { IfOk result (λ graph. Valid graph.nodes graph.status) }
+    ensures kinds { IfOk result (λ graph. are_run graph.nodes ≡ true) }
+    ensures spread { IfOk result (λ graph. IsFirstSpread graph.nodes width) }
+    ensures ends { IfOk result (λ graph. HasFirstEnds graph.nodes (option_map (λ path. path.now) file.entry)) }
     ensures outcome { IfOk result (λ graph. (text : List ℕ) → outcome graph (source_texts (option_map (λ path. path.now) file.entry) text) ≡
         record { output = pipeline_output word.now (cat_text (option_map (λ path. path.now) file.entry) text); files = []; status = 0 }) }
 {
     let source = source_of(alloc, file)?;
     let grep = grep_of(alloc, word)?;
     let wc = wc_of(alloc)?;
-    let nodes = first_nodes(alloc, source, grep, wc, width)?;
+    let nodes = first_nodes(alloc, source, &grep, &wc, width)?;
     Ok(Graph {
-        nodes,
+        nodes: Seq::from_vec(nodes),
         status: StatusRule::Fixed(0),
     })
 }
@@ -69,6 +67,7 @@ fn source_of(alloc: Global, file: Option<&Path>) -> Result<NodeKind, Memory>
 }
 
 /// `grep -F WORD`.
+#[tactic(auto, using(crate::proofs::InvocationLemmas::invocations))]
 fn grep_of(alloc: Global, word: &[u8]) -> Result<Inv, Memory>
     requires { is_pattern word.now ≡ true }
     ensures { IfOk result (λ inv. words_of inv ≡ grep_words word.now) }
@@ -81,6 +80,7 @@ fn grep_of(alloc: Global, word: &[u8]) -> Result<Inv, Memory>
 }
 
 /// `wc -l`.
+#[tactic(auto, using(crate::proofs::InvocationLemmas::invocations))]
 fn wc_of(alloc: Global) -> Result<Inv, Memory>
     ensures { IfOk result (λ inv. words_of inv ≡ wc_words) }
 {
@@ -91,13 +91,15 @@ fn wc_of(alloc: Global) -> Result<Inv, Memory>
 }
 
 /// The invocation of these words.
+#[tactic(auto, using(crate::proofs::InvocationLemmas::invocations))]
 fn invocation_of(alloc: Global, words: &[Vec<u8>]) -> Result<Inv, Memory>
-    requires { is_known (texts_of words.now) ≡ true }
+    requires { AreInvocation (texts_of words.now) }
     ensures { IfOk result (λ inv. words_of inv ≡ texts_of words.now) }
 {
     match read_inv(alloc, words) {
         Ok(inv) => Ok(inv),
         Err(ArgFault::Memory) => Err(Memory),
+        Err(_) => unreachable!(),
     }
 }
 
@@ -105,30 +107,52 @@ fn invocation_of(alloc: Global, words: &[Vec<u8>]) -> Result<Inv, Memory>
 fn first_nodes(
     alloc: Global,
     source: NodeKind,
-    grep: Inv,
-    wc: Inv,
+    grep: &Inv,
+    wc: &Inv,
     width: u32,
 ) -> Result<Vec<Node>, Memory>
     requires { (1 ≤ width) × (width ≤ 16) }
-    ensures { IfOk result (λ nodes. cells nodes.items ≡ first_cells source grep wc width) }
+    ensures { IfOk result (λ nodes. nodes.items ≡ first_cells source grep.now wc.now width) }
 {
     if width == 1 {
         whole_nodes(alloc, source, grep, wc)
     } else {
-        spread_nodes(alloc, source, &grep, &wc, width)
+        spread_nodes(alloc, source, grep, wc, width)
     }
 }
 
 /// The nodes where both stages are whole.
-fn whole_nodes(alloc: Global, source: NodeKind, grep: Inv, wc: Inv) -> Result<Vec<Node>, Memory>
-    ensures { IfOk result (λ nodes. cells nodes.items ≡ whole_cells source grep wc) }
+fn whole_nodes(alloc: Global, source: NodeKind, grep: &Inv, wc: &Inv) -> Result<Vec<Node>, Memory>
+    ensures { IfOk result (λ nodes. nodes.items ≡ whole_cells source grep.now wc.now) }
 {
     let mut nodes = Vec::new(alloc);
     add(alloc, &mut nodes, source, &[], &[0], CAT)?;
-    add(alloc, &mut nodes, NodeKind::Whole(grep), &[0], &[1], GREP)?;
-    add(alloc, &mut nodes, NodeKind::Whole(wc), &[1], &[2], WC)?;
-    add(alloc, &mut nodes, NodeKind::Sink(To::Output), &[2], &[], WC)?;
+    add_whole(alloc, &mut nodes, grep, 0, GREP)?;
+    add_whole(alloc, &mut nodes, wc, 1, WC)?;
+    add_sink(alloc, &mut nodes, 2)?;
     Ok(nodes)
+}
+
+/// Adds a whole of a command, which takes this edge and gives the next.
+fn add_whole(
+    alloc: Global,
+    nodes: &mut Vec<Node>,
+    command: &Inv,
+    taken: u32,
+    stage: u32,
+) -> Result<(), Memory>
+    requires { taken ≤ 1 }
+    ensures { OnOk result (nodes.new.items ≡ nodes.old.items ++ node (NodeKind.Whole command.now) (taken ∷ []) ((taken + 1) ∷ []) stage ∷ []) }
+{
+    let whole = NodeKind::Whole(command.copy()?);
+    add(alloc, nodes, whole, &[taken], &[taken + 1], stage)
+}
+
+/// Adds the sink, which takes this edge.
+fn add_sink(alloc: Global, nodes: &mut Vec<Node>, taken: u32) -> Result<(), Memory>
+    ensures { OnOk result (nodes.new.items ≡ nodes.old.items ++ node (NodeKind.Sink To.Output) (taken ∷ []) [] WC ∷ []) }
+{
+    add(alloc, nodes, NodeKind::Sink(To::Output), &[taken], &[], WC)
 }
 
 /// The nodes where both stages are spread.
@@ -140,7 +164,7 @@ fn spread_nodes(
     width: u32,
 ) -> Result<Vec<Node>, Memory>
     requires { (2 ≤ width) × (width ≤ 16) }
-    ensures { IfOk result (λ nodes. cells nodes.items ≡ spread_cells source grep.now wc.now width) }
+    ensures { IfOk result (λ nodes. nodes.items ≡ spread_cells source grep.now wc.now width) }
 {
     let mut nodes = Vec::new(alloc);
     add(alloc, &mut nodes, source, &[], &[0], CAT)?;
@@ -154,7 +178,7 @@ fn spread_nodes(
 /// Adds the split, to as many parts as the width is.
 fn add_split(alloc: Global, nodes: &mut Vec<Node>, width: u32) -> Result<(), Memory>
     requires { width ≤ 16 }
-    ensures { OnOk result (cells nodes.new.items ≡ cells nodes.old.items ++ node NodeKind.Split (0 ∷ []) (range_with_len 1 width) GREP ∷ []) }
+    ensures { OnOk result (nodes.new.items ≡ nodes.old.items ++ node NodeKind.Split (0 ∷ []) (range_with_len 1 width) GREP ∷ []) }
 {
     let parts = split_edges(alloc, width)?;
     add(alloc, nodes, NodeKind::Split, &[0], parts.as_slice(), GREP)
@@ -178,7 +202,7 @@ fn add_maps(
     width: u32,
 ) -> Result<(), Memory>
     requires { (taken ≤ 17) × (width ≤ 16) }
-    ensures { OnOk result (cells nodes.new.items ≡ cells nodes.old.items ++ side_by_side (NodeKind.Map command.now) stage taken (taken + width) width) }
+    ensures { OnOk result (nodes.new.items ≡ nodes.old.items ++ side_by_side (NodeKind.Map command.now) stage taken (taken + width) width) }
 {
     for part in 0..width {
         let map = NodeKind::Map(command.copy()?);
@@ -203,7 +227,7 @@ fn add_joining(
     width: u32,
 ) -> Result<(), Memory>
     requires { (first ≤ 33) × (1 ≤ width) × (width ≤ 16) }
-    ensures { OnOk result (cells nodes.new.items ≡ cells nodes.old.items ++ joining wc.now first (first + 1) (first + width) (width - 1)) }
+    ensures { OnOk result (nodes.new.items ≡ nodes.old.items ++ joining wc.now first (first + 1) (first + width) (width - 1)) }
 {
     let mut joined = first;
     for part in 0..width - 1 {
@@ -219,7 +243,7 @@ fn add_joining(
         )?;
         joined = given;
     }
-    add(alloc, nodes, NodeKind::Sink(To::Output), &[joined], &[], WC)
+    add_sink(alloc, nodes, joined)
 }
 
 /// Adds a node.
@@ -231,10 +255,10 @@ fn add(
     outs: &[u32],
     stage: u32,
 ) -> Result<(), Memory>
-    ensures { OnOk result (cells nodes.new.items ≡ cells nodes.old.items ++ node kind ins.now outs.now stage ∷ []) }
+    ensures { OnOk result (nodes.new.items ≡ nodes.old.items ++ node kind ins.now outs.now stage ∷ []) }
 {
-    let ins = Vec::from_slice(alloc, ins)?;
-    let outs = Vec::from_slice(alloc, outs)?;
+    let ins = Seq::from_vec(Vec::from_slice(alloc, ins)?);
+    let outs = Seq::from_vec(Vec::from_slice(alloc, outs)?);
     nodes.push(Node {
         kind,
         ins,

@@ -1,7 +1,7 @@
 //! A run of a script, from the words of the command line to its answer.
 ghost use Rattle.std.specs.Prelude.{◌≡◌, ◌≤◌, ℕ, List, [], Option, Some, None, map, IfOk, IfSome, IfNone, OnErr, MatchOption, MatchResult};
 ghost use Rattle.ps_world.specs.Files.{NoWriterOut, IsFileAt, bytes_at};
-ghost use Rattle.ps_world.specs.Places.{NamesFileIn};
+ghost use Rattle.ps_world.specs.Places.{StandsIn};
 ghost use Rattle.ps_world.specs.TreeState.{OnlyLent};
 ghost use Rattle.pash.specs.Words.{command_of, texts};
 ghost use Rattle.pash.specs.declared.command.TheConstants.{MOST_WIDTH};
@@ -283,7 +283,7 @@ fn run_place<T: Tree, O: Sink, E: Sink>(
 ) -> Result<Outcome, Stop>
     requires spread { (1 ≤ width) × (width ≤ MOST_WIDTH) }
     requires whole { IfSome (T.state tree.old).held NoWriterOut }
-    requires file { IfSome (T.state tree.old).held (λ files. NamesFileIn files place) }
+    requires file { IfSome (T.state tree.old).held (λ files. StandsIn files place) }
     ensures why { IfOk result (λ outcome. IsOfScript outcome.why) }
     ensures answer { IfOk result (λ outcome. (reads : Readings) → AreOutcomes reads → IfSome (T.state tree.old).held (λ files.
         Meets (reply_of_file reads files (T.state tree.old).home script.now (file_of place)) outcome.status outcome.why

@@ -1,9 +1,8 @@
 //! The words of a script that is one pipeline of plain commands.
 ghost use Rattle.std.specs.Prelude.{◌≡◌, map};
 ghost use Rattle.std.specs.Option.{option_map};
-ghost use Rattle.sh_tree.specs.Views.{script_tree, list_tree};
-ghost use Rattle.sh_parse.specs.Trees.{and_or_tree, command_tree, pipeline_tree};
-ghost use Rattle.pash.specs.Stages.{part_bytes as part_bytes_lem, part_tree, word_bytes, has_words_alone as has_words_alone_lem, simple_words as simple_words_lem, simple_tree, command_words as command_words_lem, pipeline_stages as pipeline_stages_lem, and_or_stages as and_or_stages_lem, list_stages as list_stages_lem, script_stages as script_stages_lem, sole as sole_lem};
+ghost use Rattle.sh_tree.specs.Views.{script_tree, list_tree, and_or_tree, command_tree, pipeline_tree, simple_tree, part_tree};
+ghost use Rattle.pash.specs.Stages.{part_bytes as part_bytes_lem, word_bytes, has_words_alone as has_words_alone_lem, simple_words as simple_words_lem, command_words as command_words_lem, pipeline_stages as pipeline_stages_lem, and_or_stages as and_or_stages_lem, list_stages as list_stages_lem, script_stages as script_stages_lem, sole as sole_lem};
 
 use sh_tree::{AndOr, Command, List, Part, Pipeline, Script, Simple, Word};
 

@@ -1,5 +1,6 @@
 //! Streams over the pieces of a file, between two looks at the clock.
-ghost use Rattle.std.specs.Prelude.{◌≡◌, [], false};
+ghost use Rattle.std.specs.Prelude.{◌≡◌, [], false, true, IfOk, IfSome};
+ghost use Rattle.ut_args.specs.Built.{is_built_of};
 
 use crate::clock::Timed;
 use ps_lines::Memory;
@@ -8,7 +9,7 @@ use std::io;
 use std::io::{ErrorKind, Read};
 use std::rt::Clock;
 use std::time::Instant;
-use ut_args::{ArgFault, Inv, is_known, read_inv};
+use ut_args::{ArgFault, Inv, is_built, read_inv};
 use ut_grep::Grep;
 use ut_groups::Wc;
 use ut_regex::{Matcher, Regex, compile, read_bre, read_ere};
@@ -126,18 +127,26 @@ pub fn time_wc<R: Read + Drop>(
     }
 }
 
-/// The invocation of these words, if they are one.
-fn read_words(alloc: Global, words: &[&str]) -> io::Result<Option<Inv>> {
+/// The invocation of these words, if they are one that is built.
+fn read_words(alloc: Global, words: &[&str]) -> io::Result<Option<Inv>>
+    ensures { IfOk result (λ read. IfSome read (λ inv. is_built_of inv ≡ true)) }
+{
     let mut texts = Vec::new(alloc);
     for word in words {
         texts.push(Vec::from_slice(alloc, word.as_bytes())?)?;
     }
-    if !is_known(texts.as_slice()) {
+    if texts.is_empty() {
         return Ok(None);
     }
     match read_inv(alloc, texts.as_slice()) {
-        Ok(inv) => Ok(Some(inv)),
+        Ok(inv) => {
+            if is_built(&inv) {
+                return Ok(Some(inv));
+            }
+            Ok(None)
+        }
         Err(ArgFault::Memory) => Err(io::Error::from(ErrorKind::OutOfMemory)),
+        Err(_) => Ok(None),
     }
 }
 

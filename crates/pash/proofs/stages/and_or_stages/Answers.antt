@@ -1,12 +1,11 @@
 use Rattle.std.proofs.Common.{◌≡◌, ◌<◌, map, length, ap, sym, ◌∙◌, rules, arith}
 use Rattle.std.proofs.lemmas.Bool.Decides.{nat_tests}
 use Rattle.sh_tree.specs.Trees.{and_or, none_joined}
-use Rattle.sh_tree.specs.Views.{joined_onto}
+use Rattle.sh_tree.specs.Views.{joined_onto, and_or_tree, pipeline_tree}
 use Rattle.sh_tree.specs.declared.commands.Command.TheViews.{out-AndOr}
 use Rattle.sh_tree.specs.declared.commands.Command.{the_lemmas}
 use Rattle.sh_tree.specs.declared.commands.Join.{Join}
 use Rattle.sh_tree.specs.declared.commands.Pipeline.{Pipeline}
-use Rattle.sh_parse.specs.Trees.{and_or_tree, pipeline_tree}
 use Rattle.pash.specs.Stages.{and_or_stages}
 use Rattle.pash.proofs.StageLemmas.{and_or_stages-more}
 use Rattle.pash.proofs.stages.and_or_stages.Goals as goal

@@ -1,11 +1,11 @@
 use Rattle.std.proofs.Common.{◌≡◌, ℕ, List, map, length, nat_eq, sym, ◌∙◌, rules, arith}
 use Rattle.std.proofs.lemmas.Bool.Decides.{nat_tests}
 use Rattle.sh_tree.specs.Trees.{simple_command, no_sub}
-use Rattle.sh_tree.specs.Views.{word_tree, redir_tree, list_tree, subs_onto}
+use Rattle.sh_tree.specs.Views.{word_tree, redir_tree, list_tree, subs_onto, simple_tree}
 use Rattle.sh_tree.specs.declared.commands.Command.{the_lemmas}
 use Rattle.sh_tree.specs.declared.commands.Command.TheViews.{out-Simple}
 use Rattle.sh_tree.specs.declared.words.Word.{Word}
-use Rattle.pash.specs.Stages.{has_words_alone, simple_tree}
+use Rattle.pash.specs.Stages.{has_words_alone}
 use Rattle.pash.proofs.StageLemmas.{has_words_alone-subs}
 use Rattle.pash.proofs.stages.has_words_alone.Goals as goal
 

@@ -1,9 +1,8 @@
 use Rattle.std.proofs.Common.{◌≡◌, map, ap, sym, ◌∙◌, rules}
 use Rattle.sh_tree.specs.Trees.{pipeline, no_command}
-use Rattle.sh_tree.specs.Views.{commands_onto}
+use Rattle.sh_tree.specs.Views.{commands_onto, command_tree, pipeline_tree}
 use Rattle.sh_tree.specs.declared.commands.Command.{the_lemmas}
 use Rattle.sh_tree.specs.declared.commands.Pipeline.{Pipeline}
-use Rattle.sh_parse.specs.Trees.{command_tree, pipeline_tree}
 use Rattle.pash.specs.Stages.{command_words, pipeline_stages}
 use Rattle.pash.proofs.StageLemmas.{pipeline_stages-plain}
 use Rattle.pash.proofs.stages.pipeline_stages.Goals as goal

@@ -1,9 +1,9 @@
 use Rattle.std.proofs.Common.{◌≡◌, map, ap, sym, ◌∙◌, rules}
 use Rattle.std.proofs.lemmas.Simd.{map-map}
-use Rattle.sh_tree.specs.Views.{word_tree}
+use Rattle.sh_tree.specs.Views.{word_tree, simple_tree}
 use Rattle.sh_tree.specs.declared.commands.Command.{the_lemmas}
 use Rattle.sh_tree.specs.declared.commands.Command.TheViews.{out-Simple}
-use Rattle.pash.specs.Stages.{arguments, plain_bytes, simple_tree, word_bytes}
+use Rattle.pash.specs.Stages.{arguments, plain_bytes, word_bytes}
 use Rattle.pash.proofs.StageLemmas.{simple_words-alone}
 use Rattle.pash.proofs.stages.simple_words.Goals as goal
 

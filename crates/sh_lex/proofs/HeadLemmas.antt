@@ -2,7 +2,7 @@
 use Rattle.std.proofs.Common.{ℕ, Bool, true, false, Option, None, Some, ◌≤◌, List, [], ◌∷◌, if◌then◌else◌, length, arith, rules}
 use Rattle.ps_lines.specs.Bytes.{is_name_byte}
 use Rattle.sh_tree.specs.declared.words.Param.{Param}
-use Rattle.sh_lex.specs.Bytes.{is_digit}
+use Rattle.std.specs.Char.{is_ascii_digit}
 use Rattle.sh_lex.specs.Texts.{unspliced, behind_run}
 use Rattle.sh_lex.specs.Heads.{Head, whole, with_word, no_form, closing_brace, operator_at, colon_at, suffix_at, prefix_at, form_at, placed, parameter_at, measured_at, hash_at, formed_at, brace_head_at, brace_head}
 use Rattle.sh_lex.proofs.Fronts.{length-unspliced, length-behind_run}
@@ -66,7 +66,7 @@ module _ (count : ℕ) where
   parameter-Stays : (byte : ℕ) (rest : List ℕ) → length rest ≤ count → StaysBehind count (parameter_at byte rest)
   parameter-Stays byte rest h =
       let name : length (behind_run is_name_byte rest) ≤ count = omega (arith, length-behind_run is_name_byte rest) in
-      let digits : length (behind_run is_digit rest) ≤ count = omega (arith, length-behind_run is_digit rest) in
+      let digits : length (behind_run is_ascii_digit rest) ≤ count = omega (arith, length-behind_run is_ascii_digit rest) in
       search (StaysBehind-if, is_behind, none_behind, placed-Stays, rules) depth 12
 
   measured-Stays : (found : Option (Param × Bool × List ℕ)) → StaysBehind count found → Stays count (measured_at found)

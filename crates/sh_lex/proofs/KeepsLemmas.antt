@@ -2,7 +2,8 @@
 use Rattle.std.proofs.Common.{◌≡◌, ℕ, Bool, true, false, not, Option, None, Some, ◌+◌, List, [], ◌∷◌, ◌==◌, ◌&&◌, if◌then◌else◌, length, drop, refl, subst, rules}
 use Rattle.sh_lex.specs.Texts.{fronts, unspliced, behind_passing, behind_run, behind_quote, behind_comment, behind_backslash}
 use Rattle.sh_lex.specs.Acts.{Act, goes, enters, ends, offends, Found, nothing, gap, open_parenthesis, close_parenthesis, token, word, offence}
-use Rattle.sh_lex.specs.Bytes.{is_digit, ends_word}
+use Rattle.std.specs.Char.{is_ascii_digit}
+use Rattle.sh_lex.specs.Bytes.{ends_word}
 use Rattle.sh_lex.specs.Numbers.{number_at, after_digit}
 use Rattle.sh_lex.specs.Operators.{and_at, pipe_at, semi_at, less_at, great_at, delimiter, lexeme_at, lexeme}
 use Rattle.sh_lex.specs.Dollars.{opening, substitution, parenthesis, dollar_at, after_dollar, name_at}
@@ -170,7 +171,7 @@ module _ (P : List ℕ → Type 0) (kept : IsKept P) where
   parameter-kept : (byte : ℕ) (rest : List ℕ) → P rest → KeepsFound P (parameter_at byte rest)
   parameter-kept byte rest h =
       let name : P (behind_run is_name_byte rest) = behind_run-kept P kept is_name_byte rest h in
-      let digits : P (behind_run is_digit rest) = behind_run-kept P kept is_digit rest h in
+      let digits : P (behind_run is_ascii_digit rest) = behind_run-kept P kept is_ascii_digit rest h in
       search (KeepsFound-if, placed-kept, name, digits, h, rules)
 
   measured-kept : (found : Option (Param × Bool × List ℕ)) → KeepsFound P found → KeepsHead P (measured_at found)
@@ -330,8 +331,8 @@ module _ (P : List ℕ → Type 0) (kept : IsKept P) where
 
   digit-kept : (digit : ℕ) (rest : List ℕ) → P rest → KeepsBehind P (after_digit digit rest)
   digit-kept digit rest h =
-      number-kept digit (length rest + 1) (length (behind_run is_digit rest) == length rest) (behind_run is_digit rest)
-      (unspliced (behind_run is_digit rest)) (behind_run-kept P kept is_digit rest h)
+      number-kept digit (length rest + 1) (length (behind_run is_ascii_digit rest) == length rest) (behind_run is_ascii_digit rest)
+      (unspliced (behind_run is_ascii_digit rest)) (behind_run-kept P kept is_ascii_digit rest h)
 
   lexeme_at-kept : (front : List ℕ) → P front → KeepsBehind P (lexeme_at front)
   lexeme_at-kept [] h = tt

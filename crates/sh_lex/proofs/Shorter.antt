@@ -1,6 +1,7 @@
 -- A step never gives back more text than it was given.
 use Rattle.std.proofs.Common.{◌≡◌, ℕ, Bool, true, false, not, Option, None, Some, ◌<◌, ◌≤◌, ◌+◌, List, [], ◌∷◌, ◌==◌, ◌&&◌, if◌then◌else◌, length, drop, refl, ap, arith, rules, length-drop}
-use Rattle.sh_lex.specs.Bytes.{is_digit, ends_word}
+use Rattle.std.specs.Char.{is_ascii_digit}
+use Rattle.sh_lex.specs.Bytes.{ends_word}
 use Rattle.sh_lex.specs.Texts.{unspliced, behind_run, behind_quote, behind_comment, behind_backslash}
 use Rattle.sh_lex.specs.Acts.{Act, Found, nothing, gap, open_parenthesis, close_parenthesis, token, word, offence}
 use Rattle.sh_lex.specs.Numbers.{number_at, after_digit}
@@ -216,11 +217,11 @@ module _ (text : List ℕ) (byte : ℕ) (rest : List ℕ) (begins : unspliced te
 
     digit-LeavesLess : LeavesLess text (after_digit byte rest)
     digit-LeavesLess =
-        number-LeavesLess (length rest + 1) (length (behind_run is_digit rest) == length rest) (behind_run is_digit rest)
-        (unspliced (behind_run is_digit rest)) (omega (arith, length-behind_run is_digit rest, rest_shorter))
+        number-LeavesLess (length rest + 1) (length (behind_run is_ascii_digit rest) == length rest) (behind_run is_ascii_digit rest)
+        (unspliced (behind_run is_ascii_digit rest)) (omega (arith, length-behind_run is_ascii_digit rest, rest_shorter))
 
     other-LeavesLess : LeavesLess text
-        (if byte == 35 then gap (behind_comment rest) else if is_digit byte then after_digit byte rest else word)
+        (if byte == 35 then gap (behind_comment rest) else if is_ascii_digit byte then after_digit byte rest else word)
     other-LeavesLess =
         let comment : length (behind_comment rest) < length text = omega (arith, length-behind_comment rest, rest_shorter) in
         let digit : LeavesLess text (after_digit byte rest) = digit-LeavesLess in
@@ -230,7 +231,7 @@ module _ (text : List ℕ) (byte : ℕ) (rest : List ℕ) (begins : unspliced te
   front-LeavesLess : LeavesLess text (lexeme_at (byte ∷ rest))
   front-LeavesLess =
       LeavesLess-if text (ends_word byte) (delimiter byte rest)
-      (if byte == 35 then gap (behind_comment rest) else if is_digit byte then after_digit byte rest else word)
+      (if byte == 35 then gap (behind_comment rest) else if is_ascii_digit byte then after_digit byte rest else word)
       (λ _. delimiter-LeavesLess) other-LeavesLess
 
 found_at : (text front : List ℕ) → unspliced text ≡ front → LeavesLess text (lexeme_at front)

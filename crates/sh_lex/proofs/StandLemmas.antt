@@ -1,7 +1,8 @@
 -- The tokens of a text stand in it, each the longest at its place, with blanks, comments and removed backslash-newlines between them.
 use Rattle.std.proofs.Common.{◌≡◌, ◌+◌, ◌-◌, ◌==◌, ◌||◌, ◌&&◌, ℕ, Bool, true, false, None, Some, Option, List, [], ◌∷◌, ◌++◌, if◌then◌else◌, length, Result, Ok, Err, refl, sym, ◌∙◌, ap, subst, append_assoc, arith, rules}
 use Rattle.std.proofs.lemmas.Bool.Decides.{nat_tests}
-use Rattle.sh_lex.specs.Bytes.{is_blank, is_digit, ends_word}
+use Rattle.std.specs.Char.{is_ascii_digit}
+use Rattle.sh_lex.specs.Bytes.{is_blank, ends_word}
 use Rattle.sh_lex.specs.Texts.{fronts, unspliced, behind_run, behind_comment}
 use Rattle.sh_lex.specs.Acts.{Act, goes, enters, ends, offends, Found, nothing, gap, open_parenthesis, close_parenthesis, token, word, offence}
 use Rattle.sh_lex.specs.Numbers.{begins_with, fits_less, fits_great, number_at}
@@ -208,7 +209,7 @@ module _ (byte : ℕ) (rest : List ℕ) (begins : unspliced (byte ∷ rest) ≡ 
       is_left true h = refl
       is_left false h = h
 
-  number_stands : (digit left : ℕ) (single : Bool) (end front : List ℕ) → end ≡ behind_run is_digit (byte ∷ rest)
+  number_stands : (digit left : ℕ) (single : Bool) (end front : List ℕ) → end ≡ behind_run is_ascii_digit (byte ∷ rest)
       → unspliced end ≡ front → begins_word (byte ∷ rest) ≡ true → StandsAt (byte ∷ rest) (number_at digit left single end front)
   number_stands digit left single end [] all e w = w
   number_stands digit left single end (next ∷ behind) all e w =
@@ -225,9 +226,9 @@ module _ (byte : ℕ) (rest : List ℕ) (begins : unspliced (byte ∷ rest) ≡ 
       StandsAt-if (byte ∷ rest) (ends_word byte) _ _ (λ h. delimiter_stands h)
       (λ k. StandsAt-if (byte ∷ rest) (byte == HASH) _ _
       (λ h. subst (λ x. GapAt (x ∷ rest) (behind_comment rest)) (sym (is_byte byte HASH h)) (at_comment rest))
-      (λ m. StandsAt-if (byte ∷ rest) (is_digit byte) _ _
-      (λ h. number_stands byte (length rest + 1) (length (behind_run is_digit rest) == length rest) (behind_run is_digit rest)
-      (unspliced (behind_run is_digit rest)) (sym (behind_run-byte is_digit byte rest (byte ∷ rest) begins h)) refl (simp (k, m)))
+      (λ m. StandsAt-if (byte ∷ rest) (is_ascii_digit byte) _ _
+      (λ h. number_stands byte (length rest + 1) (length (behind_run is_ascii_digit rest) == length rest) (behind_run is_ascii_digit rest)
+      (unspliced (behind_run is_ascii_digit rest)) (sym (behind_run-byte is_ascii_digit byte rest (byte ∷ rest) begins h)) refl (simp (k, m)))
       (λ n. simp (k, m))))
 
 -- the word of a token

@@ -1,14 +1,11 @@
 -- The bytes that the shell's language gives a meaning to (XCU 2.2, 2.3, 2.5). The code tests the same classes.
-use Rattle.std.specs.Prelude.{ℕ, Bool, ◌||◌, ◌&&◌, ◌==◌, nat_le}
-use Rattle.sh_lex.specs.declared.bytes.TheConstants.{SPACE, TAB, NEWLINE, AND, PIPE, SEMI, OPEN, CLOSE, LESS, GREAT, DOLLAR, BACKQUOTE, DOUBLE_QUOTE, BACKSLASH, AT, STAR, HASH, QUESTION, ZERO, NINE}
+use Rattle.std.specs.Prelude.{ℕ, Bool, ◌||◌, ◌==◌}
+use Rattle.std.specs.Char.{is_ascii_digit}
+use Rattle.sh_lex.specs.declared.bytes.TheConstants.{SPACE, TAB, NEWLINE, AND, PIPE, SEMI, OPEN, CLOSE, LESS, GREAT, DOLLAR, BACKQUOTE, DOUBLE_QUOTE, BACKSLASH, AT, STAR, HASH, QUESTION}
 
 -- a space or a tab
 abbrev pub is_blank : ℕ → Bool
 is_blank byte = (byte == SPACE) || (byte == TAB)
-
--- a decimal digit
-abbrev pub is_digit : ℕ → Bool
-is_digit byte = nat_le ZERO byte && nat_le byte NINE
 
 -- a blank, a newline or the first byte of an operator: unquoted it is no part of a word
 unfoldable pub ends_word : ℕ → Bool
@@ -22,4 +19,4 @@ is_quoted_escape byte = (byte == DOLLAR) || (byte == BACKQUOTE) || (byte == DOUB
 
 -- after a `$` these bytes are a parameter each by itself
 unfoldable pub is_parameter : ℕ → Bool
-is_parameter byte = is_digit byte || (byte == AT) || (byte == STAR) || (byte == HASH) || (byte == QUESTION)
+is_parameter byte = is_ascii_digit byte || (byte == AT) || (byte == STAR) || (byte == HASH) || (byte == QUESTION)

@@ -7,7 +7,7 @@ use Rattle.std.specs.Str.Parse.{digits_value}
 use Rattle.sh_tree.specs.declared.words.Param.{Param}
 use Rattle.sh_tree.specs.declared.words.Param.TheVariants as param
 use Rattle.ps_lines.specs.Bytes.{is_name_start, is_name_byte}
-use Rattle.sh_lex.specs.Bytes.{is_digit}
+use Rattle.std.specs.Char.{is_ascii_digit}
 use Rattle.sh_lex.specs.Texts.{unspliced, run, behind_run}
 use Rattle.sh_lex.specs.declared.bytes.TheConstants.{CLOSE_BRACE, AT, STAR, HASH, QUESTION, COLON, PERCENT, DASH, EQUALS, PLUS}
 use Rattle.sh_lex.specs.declared.heads.Operator.{Operator}
@@ -99,7 +99,7 @@ placed (Some number) rest = Some (param.Place number, false, rest)
 abbrev pub parameter_at : ℕ → List ℕ → Option (Param × Bool × List ℕ)
 parameter_at byte rest =
     if is_name_start byte then Some (param.Name (byte ∷ run is_name_byte rest), true, behind_run is_name_byte rest)
-    else if is_digit byte then placed (place_value (byte ∷ run is_digit rest)) (behind_run is_digit rest)
+    else if is_ascii_digit byte then placed (place_value (byte ∷ run is_ascii_digit rest)) (behind_run is_ascii_digit rest)
     else if byte == QUESTION then Some (param.Status, false, rest)
     else None
 

@@ -1,6 +1,7 @@
 -- What the definition of tokens comes to, in words of its own (XCU 2.3, 2.10.2): how they stand in the text.
 use Rattle.std.specs.Prelude.{◌≡◌, ℕ, ◌<◌, ◌≤◌, ◌-◌, Bool, true, false, not, List, [], ◌∷◌, ◌++◌, ◌==◌, ◌||◌, ◌&&◌, length}
-use Rattle.sh_lex.specs.Bytes.{is_blank, is_digit, ends_word}
+use Rattle.std.specs.Char.{is_ascii_digit}
+use Rattle.sh_lex.specs.Bytes.{is_blank, ends_word}
 use Rattle.sh_lex.specs.Texts.{unspliced, behind_run}
 use Rattle.sh_lex.specs.Numbers.{begins_with}
 use Rattle.sh_lex.specs.Operators.{has_no_word}
@@ -56,7 +57,7 @@ abbrev pub IsLongest : TokenKind → List ℕ → List ℕ → Type 0
 IsLongest kind.Newline text rest = Spells (NEWLINE ∷ []) text rest
 IsLongest (kind.Op which) text rest = Spells (spelling which) text rest × IsLongestOp which rest
 IsLongest kind.IoNumber text rest =
-    (rest ≡ behind_run is_digit text) × ((begins_with LESS (unspliced rest) || begins_with GREAT (unspliced rest)) ≡ true)
+    (rest ≡ behind_run is_ascii_digit text) × ((begins_with LESS (unspliced rest) || begins_with GREAT (unspliced rest)) ≡ true)
 IsLongest kind.Word text rest = (begins_word text ≡ true) × (has_no_word (unspliced rest) ≡ true)
 
 -- a comment's bytes, and what stands behind a comment

@@ -3,7 +3,7 @@ use Rattle.std.specs.Prelude.{◌≡◌, ℕ, false, ◌-◌, ◌<◌, ◌≤◌
 use Rattle.std.specs.declared.result.Result.{Result}
 use Rattle.std.specs.declared.result.Result.TheVariants.{Ok, Err}
 use Rattle.std.specs.declared.option.Option.TheVariants.{None}
-use Rattle.sh_lex.specs.Bytes.{is_digit}
+use Rattle.std.specs.Char.{is_ascii_digit}
 use Rattle.sh_lex.specs.Texts.{unspliced, run}
 use Rattle.sh_lex.specs.Acts.{nothing, gap, open_parenthesis, close_parenthesis, token, word, offence}
 use Rattle.sh_lex.specs.Operators.{lexeme}
@@ -83,7 +83,7 @@ told text (fault.UnclosedBrace left) = static.UnclosedBrace (length text - left)
 told text (fault.TooDeep left) = static.TooDeep (length text - left)
 told text (fault.Spelled spelling left) = static.OutOfProfile (spelled spelling) (length text - left)
 told text (fault.Number left) =
-    static.OutOfProfile (run is_digit (drop (length text - left) text)) (length text - left)
+    static.OutOfProfile (run is_ascii_digit (drop (length text - left) text)) (length text - left)
 
 -- the text is lexed to these tokens
 pub record Lexes (text : List ℕ) (tokens : List Token) : Type 0 where

@@ -1,7 +1,7 @@
 -- Digits directly before `<` or `>` are an IoNumber (XCU 2.10.1 rule 2). Where the operator is `<` it is exactly `0`, where it is
 -- `>`, `>>` or `>&` exactly `1` or `2` (own); a longer operator isn't in the profile itself.
 use Rattle.std.specs.Prelude.{ℕ, Bool, false, List, [], ◌∷◌, ◌+◌, ◌==◌, ◌||◌, ◌&&◌, if◌then◌else◌, length}
-use Rattle.sh_lex.specs.Bytes.{is_digit}
+use Rattle.std.specs.Char.{is_ascii_digit}
 use Rattle.sh_lex.specs.Texts.{unspliced, behind_run}
 use Rattle.sh_lex.specs.Acts.{Found, token, word, offence}
 use Rattle.sh_lex.specs.declared.bytes.TheConstants.{LESS, GREAT, AND, PIPE, ZERO, ONE, TWO}
@@ -35,5 +35,5 @@ number_at digit left single text (byte ∷ rest) =
 -- `rest` is what is left behind the first digit
 abbrev pub after_digit : ℕ → List ℕ → Found
 after_digit digit rest =
-    number_at digit (length rest + 1) (length (behind_run is_digit rest) == length rest)
-    (behind_run is_digit rest) (unspliced (behind_run is_digit rest))
+    number_at digit (length rest + 1) (length (behind_run is_ascii_digit rest) == length rest)
+    (behind_run is_ascii_digit rest) (unspliced (behind_run is_ascii_digit rest))

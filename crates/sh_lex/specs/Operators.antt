@@ -1,7 +1,8 @@
 -- Operators (XCU 2.10.2, narrowed). Each is the longest that begins at its place (XCU 2.3 items 2 and 3); those that aren't in the
 -- profile are refused (own). `left` is the number of bytes left at the operator, `text` what is left behind its first byte.
 use Rattle.std.specs.Prelude.{ℕ, Bool, true, List, [], ◌∷◌, ◌+◌, ◌==◌, ◌||◌, ◌&&◌, if◌then◌else◌, length}
-use Rattle.sh_lex.specs.Bytes.{is_digit, is_blank, ends_word}
+use Rattle.std.specs.Char.{is_ascii_digit}
+use Rattle.sh_lex.specs.Bytes.{is_blank, ends_word}
 use Rattle.sh_lex.specs.Texts.{unspliced, behind_run, behind_comment}
 use Rattle.sh_lex.specs.Numbers.{begins_with, after_digit}
 use Rattle.sh_lex.specs.Acts.{Found, nothing, gap, open_parenthesis, close_parenthesis, token, word, offence}
@@ -47,14 +48,14 @@ has_no_word (byte ∷ rest) = ends_word byte
 -- digits that begin with `digit` are an IoNumber, or the word `1` or `2`
 abbrev pub is_number_or_target : ℕ → List ℕ → Bool
 is_number_or_target digit rest =
-    begins_with LESS (unspliced (behind_run is_digit rest)) || begins_with GREAT (unspliced (behind_run is_digit rest))
+    begins_with LESS (unspliced (behind_run is_ascii_digit rest)) || begins_with GREAT (unspliced (behind_run is_ascii_digit rest))
     || (((digit == ONE) || (digit == TWO)) && has_no_word (unspliced rest))
 
 -- no word follows, or it is `1` or `2`
 abbrev pub is_target : List ℕ → Bool
 is_target [] = true
 is_target (byte ∷ rest) =
-    ends_word byte || (byte == HASH) || (is_digit byte && is_number_or_target byte rest)
+    ends_word byte || (byte == HASH) || (is_ascii_digit byte && is_number_or_target byte rest)
 
 -- `>`, `>>` and `>&`
 abbrev pub great_at : ℕ → List ℕ → List ℕ → Found
@@ -86,7 +87,7 @@ lexeme_at [] = nothing
 lexeme_at (byte ∷ rest) =
     if ends_word byte then delimiter byte rest
     else if byte == HASH then gap (behind_comment rest)
-    else if is_digit byte then after_digit byte rest
+    else if is_ascii_digit byte then after_digit byte rest
     else word
 
 abbrev pub lexeme : List ℕ → Found

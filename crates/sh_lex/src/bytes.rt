@@ -1,6 +1,6 @@
 //! The bytes that the shell's language gives a meaning to, and the classes of bytes.
 ghost use Rattle.std.specs.Prelude.{◌≡◌};
-ghost use Rattle.sh_lex.specs.Bytes.{is_blank, is_digit, ends_word, is_quoted_escape, is_parameter};
+ghost use Rattle.sh_lex.specs.Bytes.{is_blank, ends_word, is_quoted_escape, is_parameter};
 
 pub const TAB: u8 = b'\t';
 
@@ -38,8 +38,6 @@ pub const ONE: u8 = b'1';
 
 pub const TWO: u8 = b'2';
 
-pub const NINE: u8 = b'9';
-
 pub const COLON: u8 = b':';
 
 pub const SEMI: u8 = b';';
@@ -74,14 +72,6 @@ pub fn is_blank(byte: u8) -> bool
     byte == SPACE || byte == TAB
 }
 
-/// A decimal digit.
-#[inline]
-pub fn is_digit(byte: u8) -> bool
-    ensures { result ≡ is_digit byte }
-{
-    ZERO <= byte && byte <= NINE
-}
-
 /// A byte that, unquoted, is no part of a word: a blank, a newline or the first byte of an operator (XCU 2.3).
 #[inline]
 #[tactic(auto, unfolding(crate::specs::Bytes::ends_word))]
@@ -114,5 +104,5 @@ pub fn is_quoted_escape(byte: u8) -> bool
 pub fn is_parameter(byte: u8) -> bool
     ensures { result ≡ is_parameter byte }
 {
-    is_digit(byte) || byte == AT || byte == STAR || byte == HASH || byte == QUESTION
+    byte.is_ascii_digit() || byte == AT || byte == STAR || byte == HASH || byte == QUESTION
 }

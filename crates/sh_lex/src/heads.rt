@@ -1,12 +1,12 @@
 //! The beginning of a `${ }`: its parameter, and which form it has (XCU 2.5, 2.6.2, narrowed).
 ghost use Rattle.std.specs.Prelude.{◌≡◌, ◌∷◌, [], ◌++◌, ℕ, List, true};
+ghost use Rattle.std.specs.Char.{is_ascii_digit};
 ghost use Rattle.std.specs.Option.{option_map};
-ghost use Rattle.sh_lex.specs.Bytes as byte_is;
 ghost use Rattle.sh_lex.specs.Texts.{unspliced, run, behind_run};
 ghost use Rattle.sh_lex.specs.Heads.{param_of, head_of, trims, closing_brace, operator_at, colon_at, suffix_at, prefix_at, form_at, place_value, placed, parameter_in, hash_at, brace_head};
 
 use crate::bytes::{
-    AT, CLOSE_BRACE, COLON, DASH, EQUALS, HASH, PERCENT, PLUS, QUESTION, STAR, ZERO, is_digit,
+    AT, CLOSE_BRACE, COLON, DASH, EQUALS, HASH, PERCENT, PLUS, QUESTION, STAR, ZERO,
 };
 use crate::runs::{Class, behind_run};
 use crate::texts::front;
@@ -115,7 +115,7 @@ fn read_parameter(text: &[u8]) -> Option<(Parameter<'_>, bool, &[u8])>
     if is_name_start(byte) {
         return Some((Parameter::Name(text), true, behind_run(Class::Name, rest)));
     }
-    if is_digit(byte) {
+    if byte.is_ascii_digit() {
         return placed(byte, rest);
     }
     if byte == QUESTION {
@@ -126,8 +126,8 @@ fn read_parameter(text: &[u8]) -> Option<(Parameter<'_>, bool, &[u8])>
 
 /// The place whose digits begin with this one.
 fn placed(first: u8, text: &[u8]) -> Option<(Parameter<'_>, bool, &[u8])>
-    requires { byte_is.is_digit first ≡ true }
-    ensures { option_map (λ found. (param_of found.0, found.1, found.2.now)) result ≡ placed (place_value (first ∷ run byte_is.is_digit text.now)) (behind_run byte_is.is_digit text.now) }
+    requires { is_ascii_digit first ≡ true }
+    ensures { option_map (λ found. (param_of found.0, found.1, found.2.now)) result ≡ placed (place_value (first ∷ run is_ascii_digit text.now)) (behind_run is_ascii_digit text.now) }
 {
     let (value, rest) = place(first, text);
     match value {
@@ -139,14 +139,14 @@ fn placed(first: u8, text: &[u8]) -> Option<(Parameter<'_>, bool, &[u8])>
 /// The value of the digits that begin with this one, and what is left behind them; None: it is no number below 2^32.
 #[tactic(auto, using(crate::proofs::Fronts::runs, crate::proofs::PlaceLemmas::values))]
 fn place(first: u8, text: &[u8]) -> (Option<u32>, &[u8])
-    requires { byte_is.is_digit first ≡ true }
-    ensures value { result.0 ≡ place_value (first ∷ run byte_is.is_digit text.now) }
-    ensures behind { result.1.now ≡ behind_run byte_is.is_digit text.now }
+    requires { is_ascii_digit first ≡ true }
+    ensures value { result.0 ≡ place_value (first ∷ run is_ascii_digit text.now) }
+    ensures behind { result.1.now ≡ behind_run is_ascii_digit text.now }
 {
     let mut value = Some(u32::from(first - ZERO));
     let mut rest = text;
     while let Some((byte, after)) = front(rest) {
-        if !is_digit(byte) {
+        if !byte.is_ascii_digit() {
             return (value, rest);
         }
         value = with_digit(value, byte);
@@ -158,7 +158,7 @@ fn place(first: u8, text: &[u8]) -> (Option<u32>, &[u8])
 /// The value with one more digit.
 #[tactic(auto, using(crate::proofs::PlaceLemmas::values))]
 fn with_digit(value: Option<u32>, digit: u8) -> Option<u32>
-    requires { byte_is.is_digit digit ≡ true }
+    requires { is_ascii_digit digit ≡ true }
     ensures { (digits : List ℕ) → value ≡ place_value digits → result ≡ place_value (digits ++ digit ∷ []) }
 {
     value?.checked_mul(10)?.checked_add(u32::from(digit - ZERO))

@@ -31,7 +31,7 @@ mod texts;
 mod tokens;
 mod words;
 
-pub use bytes::{is_digit, is_quoted_escape};
+pub use bytes::is_quoted_escape;
 pub use heads::{Head, Operator, Parameter, brace_head};
 pub use lexing::{MAX_SCRIPT, Mark, lex, read_marks};
 pub use parts::{Fault, Nest, Part, Spelling, Spot};

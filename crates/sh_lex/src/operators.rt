@@ -6,7 +6,7 @@ ghost use Rattle.sh_lex.specs.Acts.{found_of};
 
 use crate::acts::Lexeme;
 use crate::bytes::{
-    AND, CLOSE, DASH, GREAT, HASH, LESS, NEWLINE, ONE, OPEN, PIPE, SEMI, TWO, ends_word, is_digit,
+    AND, CLOSE, DASH, GREAT, HASH, LESS, NEWLINE, ONE, OPEN, PIPE, SEMI, TWO, ends_word,
 };
 use crate::numbers::{after_digit, begins_with};
 use crate::parts::{Fault, Spelling};
@@ -25,7 +25,7 @@ pub fn lexeme(text: &[u8]) -> Lexeme<'_>
         delimiter(byte, rest)
     } else if byte == HASH {
         Lexeme::Gap(behind_comment(rest))
-    } else if is_digit(byte) {
+    } else if byte.is_ascii_digit() {
         after_digit(byte, rest)
     } else {
         Lexeme::Word
@@ -126,7 +126,9 @@ fn is_target(text: &[u8]) -> bool
     match front(text) {
         None => true,
         Some((byte, rest)) => {
-            ends_word(byte) || byte == HASH || (is_digit(byte) && is_number_or_target(byte, rest))
+            ends_word(byte)
+                || byte == HASH
+                || (byte.is_ascii_digit() && is_number_or_target(byte, rest))
         }
     }
 }

@@ -3,7 +3,7 @@ ghost use Rattle.std.specs.Prelude.{◌≡◌, ◌≤◌, length, IfOk};
 ghost use Rattle.sh_lex.specs.Runs.{has};
 ghost use Rattle.sh_lex.specs.Texts.{run, behind_run};
 
-use crate::bytes::{is_blank, is_digit};
+use crate::bytes::is_blank;
 use crate::texts::front;
 use ps_lines::{Memory, is_name_byte};
 use std::alloc::Global;
@@ -26,7 +26,7 @@ impl Class {
     {
         match self {
             Class::Blank => is_blank(byte),
-            Class::Digit => is_digit(byte),
+            Class::Digit => byte.is_ascii_digit(),
             Class::Name => is_name_byte(byte),
         }
     }

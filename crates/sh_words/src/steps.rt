@@ -6,7 +6,7 @@ ghost use Rattle.sh_words.specs.Built.{open_in};
 ghost use Rattle.sh_lex.specs.declared.bytes.TheConstants.{DOUBLE_QUOTE, QUOTE};
 
 use ps_lines::is_name_start;
-use sh_lex::{front, is_digit, is_quoted_escape};
+use sh_lex::{front, is_quoted_escape};
 
 /// Whose word is read.
 #[derive(Clone, Copy, Debug)]
@@ -183,7 +183,7 @@ fn begins_expansion(text: &[u8]) -> bool
     byte == b'{'
         || byte == b'('
         || is_name_start(byte)
-        || is_digit(byte)
+        || byte.is_ascii_digit()
         || byte == b'@'
         || byte == b'*'
         || byte == b'#'

@@ -1,5 +1,5 @@
 use Rattle.std.proofs.Common.{◌≡◌, ◌++◌, [], ◌∷◌, subst, refl, rules}
-use Rattle.sh_lex.specs.Bytes.{is_digit}
+use Rattle.std.specs.Char.{is_ascii_digit}
 use Rattle.sh_lex.specs.Heads.{place_value}
 use Rattle.sh_lex.proofs.Fronts.{run_ends_none, run_ends_other, run_goes_on, runs}
 use Rattle.sh_lex.proofs.PlaceLemmas.{place_value-one}
@@ -11,12 +11,12 @@ loop-byte-init c = record {
   behind = refl;
 }
 
-pub returns-then-not-is_digit-clause-value : goal.returns-then-not-is_digit-clause-value
-returns-then-not-is_digit-clause-value c =
+pub returns-then-not-is_ascii_digit-clause-value : goal.returns-then-not-is_ascii_digit-clause-value
+returns-then-not-is_ascii_digit-clause-value c =
     let l = c.loop-byte in
     let (digits, (value, whole)) = l.invariant.value in
     subst (λ digits. l.value ≡ place_value digits)
-    (run_ends_other is_digit c.in-Some.byte c.in-Some.after.now digits l.rest.now _ c.in-Some.ensures.front (search rules) whole) value
+    (run_ends_other is_ascii_digit c.in-Some.byte c.in-Some.after.now digits l.rest.now _ c.in-Some.ensures.front (search rules) whole) value
 
 pub loop-byte-preserved : goal.loop-byte-preserved
 loop-byte-preserved c =
@@ -27,7 +27,7 @@ loop-byte-preserved c =
         digits ++ c.in-Some.byte ∷ [],
         (
           c.with_digit-value.ensures digits value,
-          run_goes_on is_digit c.in-Some.byte c.in-Some.after.now digits l.rest.now _ c.in-Some.ensures.front (search rules) whole,
+          run_goes_on is_ascii_digit c.in-Some.byte c.in-Some.after.now digits l.rest.now _ c.in-Some.ensures.front (search rules) whole,
         ),
       );
       behind = search (rules, runs);
@@ -38,4 +38,4 @@ returns-clause-value c =
     let l = c.loop-byte in
     let (digits, (value, whole)) = l.invariant.value in
     subst (λ digits. l.value ≡ place_value digits)
-    (run_ends_none is_digit digits l.rest.now _ c.in_default.ensures.front whole) value
+    (run_ends_none is_ascii_digit digits l.rest.now _ c.in_default.ensures.front whole) value

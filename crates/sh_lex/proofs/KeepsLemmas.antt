@@ -382,7 +382,7 @@ module _ (P : List ℕ → Type 0) (kept : IsKept P) where
     commands-kept opened spot.Value text h = in_word-kept opened spot.Value text (unspliced text) h (unspliced-kept P kept text h)
     commands-kept opened spot.Elsewhere text h = in_word-kept opened spot.Elsewhere text (unspliced text) h (unspliced-kept P kept text h)
 
-  act-kept : (construct : Part) (text : List ℕ) → P text → Keeps P (act construct text)
+  pub act-kept : (construct : Part) (text : List ℕ) → P text → Keeps P (act construct text)
   act-kept (part.Commands nest opened at) text h = commands-kept nest opened at text h
   act-kept part.Name text h = name-kept text (unspliced text) h (unspliced-kept P kept text h)
   act-kept (part.DoubleQuotes nest left) text h = double_quotes-kept nest left (unspliced text) (unspliced-kept P kept text h)

@@ -11,3 +11,4 @@ pub mod Marked
 pub mod OrderLemmas
 pub mod KeepsLemmas
 pub mod StandLemmas
+pub mod EndLemmas

@@ -388,6 +388,10 @@ stands_at (byte ∷ rest) begins = front_stands byte rest begins
 found_stands : (text : List ℕ) (found : Found) → lexeme text ≡ found → StandsAt (unspliced text) found
 found_stands text found e = subst (StandsAt (unspliced text)) e (stands_at (unspliced text) (unspliced-twice text))
 
+-- a `)` stands where the token begins
+pub close_stands : (text rest : List ℕ) → lexeme text ≡ close_parenthesis rest → Spells (CLOSE ∷ []) (unspliced text) rest
+close_stands text rest e = (found_stands text (close_parenthesis rest) e).0
+
 -- what is left of a text is its end
 abbrev IsEnd : List ℕ → List ℕ → Type 0
 IsEnd text rest = (bytes : List ℕ) × (text ≡ bytes ++ rest)

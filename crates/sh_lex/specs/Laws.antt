@@ -1,12 +1,17 @@
 -- What the definition of tokens comes to, in words of its own (XCU 2.3, 2.10.2): how they stand in the text.
 use Rattle.std.specs.Prelude.{◌≡◌, ℕ, ◌<◌, ◌≤◌, ◌-◌, Bool, true, false, not, List, [], ◌∷◌, ◌++◌, ◌==◌, ◌||◌, ◌&&◌, length}
 use Rattle.std.specs.Char.{is_ascii_digit}
+use Rattle.std.specs.declared.option.Option.TheVariants.{Some}
 use Rattle.sh_lex.specs.Bytes.{is_blank, ends_word}
 use Rattle.sh_lex.specs.Texts.{unspliced, behind_run}
 use Rattle.sh_lex.specs.Numbers.{begins_with}
 use Rattle.sh_lex.specs.Operators.{has_no_word}
+use Rattle.sh_lex.specs.Reads.{past, Reads}
 use Rattle.sh_lex.specs.Lexes.{Lexes}
 use Rattle.sh_lex.specs.declared.bytes.TheConstants.{BACKSLASH, NEWLINE, HASH, AND, PIPE, SEMI, OPEN, CLOSE, LESS, GREAT}
+use Rattle.sh_lex.specs.declared.parts.Nest.{Nest}
+use Rattle.sh_lex.specs.declared.parts.Part.TheVariants as part
+use Rattle.sh_lex.specs.declared.parts.Spot.TheVariants as spot
 use Rattle.sh_lex.specs.declared.tokens.Op.{Op}
 use Rattle.sh_lex.specs.declared.tokens.Op.TheVariants as op
 use Rattle.sh_lex.specs.declared.tokens.Token.{Token}
@@ -84,3 +89,10 @@ pub data Stand (total : ℕ) : List ℕ → List Token → Type 0 where
 -- so the tokens of a text stand in it
 abbrev pub TokensStand : List ℕ → Type 0
 TokensStand text = (tokens : List Token) → Lexes text tokens → Stand (length text) text tokens
+
+-- a `$( )` ends at a `)`, and there too with anything else behind it, and where no more levels are open (XCU 2.6.3)
+abbrev pub SubstitutionsEnd : Type 0
+SubstitutionsEnd = (nest inside : Nest) (left place : ℕ) (text after other : List ℕ) → inside.levels ≤ nest.levels
+    → (nest.in_braces ≡ false → inside.in_braces ≡ false) → Reads (part.Commands nest (Some left) spot.Between) text (past after)
+    → (front : List ℕ) × (text ≡ front ++ CLOSE ∷ after)
+    × Reads (part.Commands inside (Some place) spot.Between) (front ++ CLOSE ∷ other) (past other)

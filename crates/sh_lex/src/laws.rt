@@ -1,6 +1,6 @@
 //! Laws of the definitions that belong to no single call.
 ghost use Rattle.sh_lex.specs.Lexes.{HasOneReading};
-ghost use Rattle.sh_lex.specs.Laws.{TokensAreInOrder, TokensStand};
+ghost use Rattle.sh_lex.specs.Laws.{TokensAreInOrder, TokensStand, SubstitutionsEnd};
 
 /// Every text has exactly one list of tokens or exactly one refusal, and not both.
 pub fn one_reading(text: &[u8])
@@ -23,3 +23,9 @@ pub fn tokens_stand_in_the_text(text: &[u8])
 {
     let _ = text;
 }
+
+/// A command substitution ends at a `)`, whatever stands behind that, and where fewer levels are open too. So what a whole text says
+/// of its end holds in any part of the text that has it.
+pub fn substitutions_end_by_themselves()
+    ensures { SubstitutionsEnd }
+{}

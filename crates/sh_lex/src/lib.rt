@@ -31,11 +31,12 @@ mod texts;
 mod tokens;
 mod words;
 
+pub use acts::Step;
 pub use bytes::is_quoted_escape;
 pub use heads::{Head, Operator, Parameter, brace_head};
 pub use lexing::{MAX_SCRIPT, Mark, lex, read_marks};
 pub use parts::{Fault, Nest, Part, Spelling, Spot};
-pub use reading::{Stop, past_construct};
+pub use reading::{Stop, past_construct, step};
 pub use refusals::{LexRefusal, Static};
 pub use runs::{Class, behind_run, run};
 pub use texts::front;

@@ -2,3 +2,4 @@ pub mod BuildingLemmas
 pub mod Shrinking
 pub mod ReadLemmas
 pub mod Readings
+pub mod ExtentLemmas

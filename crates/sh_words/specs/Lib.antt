@@ -4,3 +4,4 @@ pub mod Parameters
 pub mod Words
 pub mod Built
 pub mod Assigning
+pub mod Inner

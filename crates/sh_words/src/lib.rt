@@ -5,6 +5,9 @@
 //! and the reading goes on behind it. `read_assign` does so for the value of an assignment. The text of a `$( )` is passed over: its
 //! tokens are words of their own. `assigns_in` tells whether a word that is read assigns a variable.
 //!
+//! `read_word_in` and `read_assign_in` read words of a text whose command substitutions are known (`Substitutions`), and so pass over
+//! each of them at once, however many others stand in it.
+//!
 //! All calls are total. What isn't closed ends with the text.
 //!
 //! `specs/` says what a word is: `Pieces.antt` how its parts are joined, `Steps.antt` quoting, `Parameters.antt` what a `$`
@@ -17,8 +20,10 @@ mod expansions;
 pub mod laws;
 mod reading;
 mod steps;
+mod substitutions;
 #[cfg(test)]
 mod tests;
 
 pub use assigning::assigns_in;
-pub use reading::{MAX_LEVELS, ReadWord, read_assign, read_word};
+pub use reading::{MAX_LEVELS, ReadWord, read_assign, read_assign_in, read_word, read_word_in};
+pub use substitutions::Substitutions;

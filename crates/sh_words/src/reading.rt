@@ -11,6 +11,7 @@ ghost use Rattle.sh_words.specs.Built.{trees_onto, open_in, is_found, done_of, m
 use crate::building::Building;
 use crate::expansions::{Expansion, bare_form, find_expansion, form_with, name};
 use crate::steps::{Mode, Owner, Step, next_step};
+use crate::substitutions::Substitutions;
 use ps_lines::{Memory, Text};
 use sh_lex::{Class, Nest, Operator, Spot, behind_run, front, past_construct};
 use sh_tree::{Form, Param, Part, Word};
@@ -64,7 +65,28 @@ pub struct Made<'a> {
 pub fn read_word(alloc: Global, bytes: &[u8], first: u32) -> Result<ReadWord, Memory>
     ensures { IfOk result (λ read. ReadsWord first bytes.now (outcome_of read)) }
 {
-    read_behind(alloc, bytes, bytes, first)
+    read_word_in(
+        alloc,
+        &Substitutions::none(alloc),
+        bytes.len(),
+        bytes,
+        first,
+    )
+}
+
+/// Reads a word of a text whose command substitutions are known, so that they aren't read again.
+///
+/// `end` is the offset in bytes at which the word ends in that text. Where it is another one, only the time is lost.
+pub fn read_word_in(
+    alloc: Global,
+    among: &Substitutions<'_>,
+    end: usize,
+    bytes: &[u8],
+    first: u32,
+) -> Result<ReadWord, Memory>
+    ensures { IfOk result (λ read. ReadsWord first bytes.now (outcome_of read)) }
+{
+    read_behind(alloc, Known { among, end }, bytes, bytes, first)
 }
 
 /// Reads an assignment `NAME=value` (XCU 2.9.1) into its name and the word of its value.
@@ -75,10 +97,39 @@ pub fn read_assign(alloc: Global, bytes: &[u8], first: u32) -> Result<(Text, Rea
     ensures name { IfOk result (λ read. read.0 ≡ assigned_name bytes.now) }
     ensures value { IfOk result (λ read. ReadsAssign first bytes.now (outcome_of read.1)) }
 {
+    read_assign_in(
+        alloc,
+        &Substitutions::none(alloc),
+        bytes.len(),
+        bytes,
+        first,
+    )
+}
+
+/// Reads an assignment of a text whose command substitutions are known, as `read_word_in` reads a word.
+pub fn read_assign_in(
+    alloc: Global,
+    among: &Substitutions<'_>,
+    end: usize,
+    bytes: &[u8],
+    first: u32,
+) -> Result<(Text, ReadWord), Memory>
+    ensures name { IfOk result (λ read. read.0 ≡ assigned_name bytes.now) }
+    ensures value { IfOk result (λ read. ReadsAssign first bytes.now (outcome_of read.1)) }
+{
     let name = name(alloc, bytes)?;
     let rest = behind_run(Class::Name, bytes);
-    let value = read_behind(alloc, bytes, behind_byte(rest), first)?;
+    let value = read_behind(alloc, Known { among, end }, bytes, behind_byte(rest), first)?;
     Ok((name, value))
+}
+
+/// What is known of the text in which a word stands.
+#[derive(Clone, Copy, Debug)]
+struct Known<'a> {
+    /// Its command substitutions.
+    among: &'a Substitutions<'a>,
+    /// The offset at which the word ends in it.
+    end: usize,
 }
 
 /// What is left behind the first byte.
@@ -93,7 +144,13 @@ fn behind_byte(text: &[u8]) -> &[u8]
 
 /// Reads the word at the end of these bytes.
 #[tactic(auto, using(crate::proofs::ReadLemmas::behind_read))]
-fn read_behind(alloc: Global, bytes: &[u8], text: &[u8], first: u32) -> Result<ReadWord, Memory>
+fn read_behind(
+    alloc: Global,
+    known: Known<'_>,
+    bytes: &[u8],
+    text: &[u8],
+    first: u32,
+) -> Result<ReadWord, Memory>
     ensures { IfOk result (λ read. ReadsBehind first (length bytes.now) text.now (outcome_of read)) }
 {
     let Reading {
@@ -101,7 +158,14 @@ fn read_behind(alloc: Global, bytes: &[u8], text: &[u8], first: u32) -> Result<R
         fault,
         number,
         ..
-    } = pieces(alloc, MAX_LEVELS, Mode::Word(Owner::Token), first, text)?;
+    } = pieces(
+        alloc,
+        known,
+        MAX_LEVELS,
+        Mode::Word(Owner::Token),
+        first,
+        text,
+    )?;
     Ok(ReadWord {
         word: word_of(parts),
         subs: number.saturating_sub(first),
@@ -121,13 +185,14 @@ fn offset(total: usize, left: Option<usize>) -> Option<usize>
 
 /// Reads the pieces of a text, with the number of its first command substitution; so many levels may still open.
 #[cycle(words)]
-fn pieces(
+fn pieces<'a>(
     alloc: Global,
+    known: Known<'_>,
     most: u32,
     mode: Mode,
     number: u32,
-    text: &[u8],
-) -> Result<Reading<'_>, Memory>
+    text: &'a [u8],
+) -> Result<Reading<'a>, Memory>
     requires { open_in mode ≡ 0 }
     ensures { IfOk result (λ read. ReadsPieces most mode number text.now (done_of read)) }
 {
@@ -167,7 +232,7 @@ fn pieces(
                     fault: later,
                     number,
                     rest: behind,
-                } = expanded(alloc, most, quoted, left, next, after)?;
+                } = expanded(alloc, known, most, quoted, left, next, after)?;
                 building.push_found(alloc, part)?;
                 fault = fault.or(later);
                 next = number;
@@ -180,14 +245,15 @@ fn pieces(
 /// Reads an expansion at whose `$` so many bytes are left, by the text behind that.
 #[cycle(words)]
 #[tactic(auto, using(crate::proofs::ReadLemmas::parameter_read))]
-fn expanded(
+fn expanded<'a>(
     alloc: Global,
+    known: Known<'_>,
     most: u32,
     quoted: bool,
     left: usize,
     number: u32,
-    text: &[u8],
-) -> Result<Made<'_>, Memory>
+    text: &'a [u8],
+) -> Result<Made<'a>, Memory>
     ensures read { IfOk result (λ found. ReadsExpansion most quoted left number text.now (made_of found)) }
     ensures part { IfOk result (λ found. is_found (option_map part_tree found.part) ≡ true) }
 {
@@ -199,26 +265,31 @@ fn expanded(
             rest,
         }),
         Expansion::WithWord(what, operator, rest) => {
-            with_word(alloc, most, quoted, left, number, what, operator, rest)
+            with_word(
+                alloc, known, most, quoted, left, number, what, operator, rest,
+            )
         }
-        Expansion::Commands(inner) => substitution(alloc, quoted, number, inner),
-        Expansion::Arithmetic(inner) => arithmetic(alloc, most, quoted, left, number, inner),
+        Expansion::Commands(inner) => substitution(alloc, known, quoted, number, inner),
+        Expansion::Arithmetic(inner) => {
+            arithmetic(alloc, known, most, quoted, left, number, inner)
+        }
         Expansion::NoForm => without_form(alloc, quoted, left, number, text),
     }
 }
 
 /// Reads the word of a `${ }`.
 #[cycle(words)]
-fn with_word(
+fn with_word<'a>(
     alloc: Global,
+    known: Known<'_>,
     most: u32,
     quoted: bool,
     left: usize,
     number: u32,
     what: Param,
     operator: Operator,
-    text: &[u8],
-) -> Result<Made<'_>, Memory>
+    text: &'a [u8],
+) -> Result<Made<'a>, Memory>
     ensures read { IfOk result (λ found. (whole : List ℕ) → form.expansion whole ≡ form.with_word what operator text.now
         → ReadsExpansion most quoted left number whole (made_of found)) }
     ensures part { IfOk result (λ found. is_found (option_map part_tree found.part) ≡ true) }
@@ -232,7 +303,7 @@ fn with_word(
         fault,
         number,
         rest,
-    } = pieces(alloc, most - 1, Mode::Word(owner), number, text)?;
+    } = pieces(alloc, known, most - 1, Mode::Word(owner), number, text)?;
     Ok(Made {
         part: Some(parameter_part(what, form_with(operator, word_of(parts)), quoted)),
         fault,
@@ -287,14 +358,15 @@ fn arithmetic_part(parts: Vec<Part>, quoted: bool) -> Part
 
 /// Reads the text of a `$(( ))`.
 #[cycle(words)]
-fn arithmetic(
+fn arithmetic<'a>(
     alloc: Global,
+    known: Known<'_>,
     most: u32,
     quoted: bool,
     left: usize,
     number: u32,
-    text: &[u8],
-) -> Result<Made<'_>, Memory>
+    text: &'a [u8],
+) -> Result<Made<'a>, Memory>
     ensures read { IfOk result (λ found. (whole : List ℕ) → form.expansion whole ≡ form.arithmetic_text text.now
         → ReadsExpansion most quoted left number whole (made_of found)) }
     ensures part { IfOk result (λ found. is_found (option_map part_tree found.part) ≡ true) }
@@ -307,7 +379,7 @@ fn arithmetic(
         fault,
         number,
         rest,
-    } = pieces(alloc, most - 1, Mode::Arithmetic(0), number, text)?;
+    } = pieces(alloc, known, most - 1, Mode::Arithmetic(0), number, text)?;
     Ok(Made {
         part: Some(arithmetic_part(parts, quoted)),
         fault,
@@ -317,20 +389,18 @@ fn arithmetic(
 }
 
 /// Passes over the tokens of a `$( )`.
-fn substitution(alloc: Global, quoted: bool, number: u32, text: &[u8]) -> Result<Made<'_>, Memory>
+fn substitution<'a>(
+    alloc: Global,
+    known: Known<'_>,
+    quoted: bool,
+    number: u32,
+    text: &'a [u8],
+) -> Result<Made<'a>, Memory>
     ensures read { IfOk result (λ found. (most left : ℕ) (whole : List ℕ) → form.expansion whole ≡ form.commands text.now
         → ReadsExpansion most quoted left number whole (made_of found)) }
     ensures part { IfOk result (λ found. is_found (option_map part_tree found.part) ≡ true) }
 {
-    let nest = Nest {
-        levels: 0,
-        in_braces: false,
-    };
-    let rest = past(
-        alloc,
-        sh_lex::Part::Commands(nest, Some(0), Spot::Between),
-        text,
-    )?;
+    let rest = behind_tokens(alloc, known, text)?;
     let Some(next) = number.checked_add(1) else {
         return Err(Memory);
     };
@@ -340,6 +410,22 @@ fn substitution(alloc: Global, quoted: bool, number: u32, text: &[u8]) -> Result
         number: next,
         rest,
     })
+}
+
+/// What is left behind the tokens of a `$( )`. They are read only where it isn't known where they end.
+fn behind_tokens<'a>(alloc: Global, known: Known<'_>, text: &'a [u8]) -> Result<&'a [u8], Memory>
+    ensures { IfOk result (λ rest. Passes in_commands text.now rest.now) }
+{
+    let from = known.end.saturating_sub(text.len());
+    if let Some(rest) = known.among.behind(from, text) {
+        return Ok(rest);
+    }
+    let nest = Nest {
+        levels: 0,
+        in_braces: false,
+    };
+    let tokens = sh_lex::Part::Commands(nest, Some(0), Spot::Between);
+    past(alloc, tokens, text)
 }
 
 /// A command substitution.

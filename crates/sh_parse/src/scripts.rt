@@ -4,6 +4,7 @@ ghost use Rattle.sh_lex.specs.Lexes.{Lexes};
 ghost use Rattle.sh_tree.specs.Views.{script_tree};
 ghost use Rattle.sh_tree.specs.Numbering.{IsNumberedScript};
 ghost use Rattle.sh_parse.specs.Outcomes.{IsScript, IsSound};
+ghost use Rattle.sh_parse.specs.Inner.WordsOf.{words_of};
 ghost use Rattle.sh_parse.specs.Parses.{Refuses, RefusesItems, of_misuse, of_grammar};
 
 use crate::checking::check;
@@ -59,9 +60,20 @@ fn read_script(alloc: Global, text: &[u8], tokens: &[Token]) -> Result<Script, P
 {
     let _ = tokens;
     match read_items(alloc, text) {
-        Ok(items) => parse_with(alloc, &TextWords::of(text), items.as_slice()),
+        Ok(items) => parse_text(alloc, text, items.as_slice()),
         Err(LexRefusal::Refused(refusal)) => Err(ParseRefusal::Refused(refusal)),
         Err(LexRefusal::Memory) => Err(ParseRefusal::Memory),
+    }
+}
+
+/// The script that the items of a text are.
+fn parse_text(alloc: Global, text: &[u8], items: &[Item]) -> Result<Script, ParseRefusal>
+    ensures script { IfOk result (λ script. IsSound (script_tree script) (words_of text.now) items.now) }
+    ensures refusal { IfErr result (λ refusal. RefusesItems (words_of text.now) items.now refusal) }
+{
+    match TextWords::of(alloc, text) {
+        Ok(words) => parse_with(alloc, &words, items),
+        Err(Memory) => Err(ParseRefusal::Memory),
     }
 }
 

@@ -1,5 +1,10 @@
 //! The words of a text, by where they stand.
+//!
+//! Where the text's command substitutions end is found once, before any word is read. So a word is read without those in it, and what
+//! stands inside many is read as often as what stands in none.
 ghost use Rattle.std.specs.Prelude.{◌≡◌, IfOk};
+ghost use Rattle.sh_words.specs.Words.{ReadsWord};
+ghost use Rattle.sh_words.specs.Built.{outcome_of};
 ghost use Rattle.sh_parse.specs.Outcomes.{bytes_at, in_text};
 
 use crate::items::Span;
@@ -8,7 +13,7 @@ use crate::readers::{Look, WordReader};
 use crate::texts::between;
 use ps_lines::{Memory, Text};
 use sh_tree::Word;
-use sh_words::{assigns_in, read_assign, read_word};
+use sh_words::{ReadWord, Substitutions, assigns_in, read_assign_in, read_word_in};
 use std::alloc::Global;
 
 /// The words of a text.
@@ -16,14 +21,27 @@ use std::alloc::Global;
 pub struct TextWords<'a> {
     /// The text.
     text: &'a [u8],
+    /// Its command substitutions.
+    substitutions: Substitutions<'a>,
 }
 
 impl<'a> TextWords<'a> {
     /// The words of this text.
-    pub fn of(text: &'a [u8]) -> TextWords<'a>
-        ensures { result.text.now ≡ text.now }
+    pub fn of(alloc: Global, text: &'a [u8]) -> Result<TextWords<'a>, Memory>
+        ensures { IfOk result (λ words. words.text.now ≡ text.now) }
     {
-        TextWords { text }
+        Ok(TextWords {
+            text,
+            substitutions: Substitutions::of(alloc, text)?,
+        })
+    }
+
+    /// The word at this place, with the number of its first command substitution.
+    fn read(&self, alloc: Global, at: Span, first: u32) -> Result<ReadWord, Memory>
+        ensures { IfOk result (λ read. ReadsWord first (bytes_at self.now.text.now at) (outcome_of read)) }
+    {
+        let end = at.to as usize;
+        read_word_in(alloc, &self.substitutions, end, self.bytes(at), first)
     }
 
     /// The bytes of the word at this place.
@@ -42,12 +60,15 @@ impl<'a> WordReader for TextWords<'a> {
     ghost views = { λ words. words_of words.text.now };
 
     fn word(&self, alloc: Global, at: Span, first: usize) -> Result<Word, Memory> {
-        let read = read_word(alloc, self.bytes(at), number(first)?)?;
+        let read = self.read(alloc, at, number(first)?)?;
         Ok(read.word)
     }
 
     fn assign(&self, alloc: Global, at: Span, first: usize) -> Result<(Text, Word), Memory> {
-        let (name, read) = read_assign(alloc, self.bytes(at), number(first)?)?;
+        let first = number(first)?;
+        let bytes = self.bytes(at);
+        let end = at.to as usize;
+        let (name, read) = read_assign_in(alloc, &self.substitutions, end, bytes, first)?;
         Ok((name, read.word))
     }
 
@@ -57,7 +78,7 @@ impl<'a> WordReader for TextWords<'a> {
     }
 
     fn look(&self, alloc: Global, at: Span) -> Result<Look, Memory> {
-        let read = read_word(alloc, self.bytes(at), 0)?;
+        let read = self.read(alloc, at, 0)?;
         Ok(Look {
             fault: in_text(at.from, read.fault)?,
             assigns: assigns_in(&read.word),

@@ -7,7 +7,6 @@ use Rattle.sh_parse.proofs.scripts.read_script.Goals as goal
 
 pub returns-in-Ok-clause-script : goal.returns-in-Ok-clause-script
 returns-in-Ok-clause-script c =
-    script_of_text c.args.text.now c.in-Ok.items.items c.in-Ok.ensures.items c.parse_with.result
-    (subst (λ items. IfOk c.parse_with.result (λ script. IsSound (script_tree script) (words_of c.args.text.now) items)) c.as_slice.ensures.value
-    (subst (λ text. IfOk c.parse_with.result (λ script. IsSound (script_tree script) (words_of text) c.as_slice.result.now)) c.of.ensures
-    c.parse_with.ensures.script))
+    script_of_text c.args.text.now c.in-Ok.items.items c.in-Ok.ensures.items c.parse_text.result
+    (subst (λ items. IfOk c.parse_text.result (λ script. IsSound (script_tree script) (words_of c.args.text.now) items)) c.as_slice.ensures.value
+    c.parse_text.ensures.script)

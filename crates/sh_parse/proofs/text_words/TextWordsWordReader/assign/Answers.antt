@@ -7,6 +7,6 @@ use Rattle.sh_parse.proofs.text_words.TextWordsWordReader.assign.Goals as goal
 
 pub returns : goal.returns
 returns c =
-    let value = value_read c.args.first c.in_ok-number.field-0 (bytes_at c.args.self.now.text.now c.args.at) c.bytes.result.now
-    (outcome_of c.in_ok-name.read) c.in_ok-number.ensures c.bytes.ensures c.in_ok-name.ensures.value in
-    λ i. ((c.in_ok-name.ensures.name ∙ ap assigned_name c.bytes.ensures) i, ap (λ (read : WordOutcome). read.tree) value i)
+    let value = value_read c.args.first c.in_ok-first.first (bytes_at c.args.self.now.text.now c.args.at) c.bytes-bytes.result.now
+    (outcome_of c.in_ok-name.read) c.in_ok-first.ensures c.bytes-bytes.ensures c.in_ok-name.ensures.value in
+    λ i. ((c.in_ok-name.ensures.name ∙ ap assigned_name c.bytes-bytes.ensures) i, ap (λ (read : WordOutcome). read.tree) value i)

@@ -9,9 +9,9 @@ use Rattle.sh_parse.proofs.text_words.TextWordsWordReader.look.Goals as goal
 pub returns-clause-fault : goal.returns-clause-fault
 returns-clause-fault c =
     c.in_ok-in_text.ensures ∙ ap (λ (read : WordOutcome). in_text c.args.at.from read.fault)
-    (word_read 0 0 (bytes_at c.args.self.now.text.now c.args.at) c.bytes.result.now (outcome_of c.in_ok-read.read) refl c.bytes.ensures c.in_ok-read.ensures)
+    (word_read 0 0 (bytes_at c.args.self.now.text.now c.args.at) (bytes_at c.args.self.now.text.now c.args.at) (outcome_of c.in_ok-read.read) refl refl c.in_ok-read.ensures)
 
 pub returns-clause-assigns : goal.returns-clause-assigns
 returns-clause-assigns c =
     c.assigns_in.ensures ∙ ap (λ (read : WordOutcome). word_assigns false read.tree)
-    (word_read 0 0 (bytes_at c.args.self.now.text.now c.args.at) c.bytes.result.now (outcome_of c.in_ok-read.read) refl c.bytes.ensures c.in_ok-read.ensures)
+    (word_read 0 0 (bytes_at c.args.self.now.text.now c.args.at) (bytes_at c.args.self.now.text.now c.args.at) (outcome_of c.in_ok-read.read) refl refl c.in_ok-read.ensures)

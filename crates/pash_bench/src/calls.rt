@@ -22,6 +22,14 @@ pub enum Call {
     Matches,
     /// `expand` of the word `$x`, of which a whole text is the value.
     Expand,
+    /// `expand` of 4,000 words `$x`, of which a whole text is the value.
+    ExpandMany,
+    /// `expand_one` of the word `${x##*/}`, of which `x` is a whole text.
+    CutPrefix,
+    /// `expand_one` of the word `${x%%*[! ]}`, of which `x` is a whole text.
+    CutSuffix,
+    /// `parse` of a whole script.
+    Parse,
     /// The stream of `grep -F` with a word, over the pieces of a file.
     Grep,
     /// The stream of `wc -l`, over the pieces of a file.
@@ -40,6 +48,10 @@ impl Call {
             "arith" => Some(Call::Arith),
             "matches" => Some(Call::Matches),
             "expand" => Some(Call::Expand),
+            "expand_many" => Some(Call::ExpandMany),
+            "cut_prefix" => Some(Call::CutPrefix),
+            "cut_suffix" => Some(Call::CutSuffix),
+            "parse" => Some(Call::Parse),
             "grep" => Some(Call::Grep),
             "wc" => Some(Call::Wc),
             _ => None,

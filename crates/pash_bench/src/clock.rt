@@ -1,16 +1,11 @@
 //! Calls between two looks at the clock.
 
 use crate::calls::count_newlines;
-use ps_fakes::MemTree;
-use ps_lines::{Memory, Text, lines};
+use ps_lines::lines;
 use ps_real::Reading;
 use ps_world::{WorldErr, read_all};
 use sh_arith::{ArithFault, Env, arith};
-use sh_expand::{ExpandFault, Frame, expand};
-use sh_lex::{LexRefusal, lex};
 use sh_pattern::{Mark, Pattern, matches, read_pattern};
-use sh_tree::{Form, Param, Part, Word};
-use std::alloc::Global;
 use std::io;
 use std::io::{ErrorKind, Read};
 use std::rt::Clock;
@@ -62,21 +57,6 @@ pub fn time_read_all<R: Read + Drop>(
     let nanoseconds = start.elapsed(rt)?.as_nanos();
     Ok(Timed {
         count: text.len(),
-        nanoseconds,
-    })
-}
-
-/// `lex` of the whole script, which finds tokens.
-pub fn time_lex(rt: &(impl AllocGlobal + Clock), script: &[u8]) -> io::Result<Timed> {
-    let start = Instant::now(rt)?;
-    let tokens = match lex(rt.alloc(), script) {
-        Ok(tokens) => tokens,
-        Err(LexRefusal::Memory) => return Err(io::Error::from(ErrorKind::OutOfMemory)),
-        Err(LexRefusal::Refused(_)) => return Err(io::Error::from(ErrorKind::InvalidData)),
-    };
-    let nanoseconds = start.elapsed(rt)?.as_nanos();
-    Ok(Timed {
-        count: tokens.len(),
         nanoseconds,
     })
 }
@@ -134,53 +114,4 @@ fn unquoted_pattern(rt: &impl AllocGlobal, text: &[u8]) -> io::Result<Pattern> {
         Ok(pattern) => Ok(pattern),
         Err(_) => Err(io::Error::from(ErrorKind::OutOfMemory)),
     }
-}
-
-/// `expand` of the word `$x`, with the text as its value, which finds fields. No field may have a pattern in it.
-pub fn time_expand(rt: &(impl AllocGlobal + Clock), text: &[u8]) -> io::Result<Timed> {
-    let alloc = rt.alloc();
-    let (Ok(words), Ok(mut env), Ok(Some(mut tree))) = (
-        dollar_x(alloc),
-        env_of(alloc, text),
-        MemTree::of_table(alloc, b"/", &[], Vec::new(alloc)),
-    ) else {
-        return Err(io::Error::from(ErrorKind::OutOfMemory));
-    };
-    let mut frame = Frame {
-        env: &mut env,
-        zero: b"pash",
-        args: &[],
-        status: 0,
-        subs: &[],
-    };
-    let start = Instant::now(rt)?;
-    let fields = match expand(alloc, words.as_slice(), &mut frame, &mut tree) {
-        Ok(fields) => fields,
-        Err(ExpandFault::Memory) => return Err(io::Error::from(ErrorKind::OutOfMemory)),
-        Err(_) => return Err(io::Error::from(ErrorKind::InvalidData)),
-    };
-    let nanoseconds = start.elapsed(rt)?.as_nanos();
-    Ok(Timed {
-        count: fields.len(),
-        nanoseconds,
-    })
-}
-
-/// The word `$x`.
-fn dollar_x(alloc: Global) -> Result<Vec<Word>, Memory> {
-    let what = Param::Name(Text::copy_of(alloc, b"x")?);
-    let part = Part::Param {
-        what,
-        form: Form::Plain,
-        quoted: false,
-    };
-    let parts = Vec::from_array(alloc, [part])?;
-    Ok(Vec::from_array(alloc, [Word { parts }])?)
-}
-
-/// The variables, of which `x` is the text.
-fn env_of(alloc: Global, text: &[u8]) -> Result<Env, Memory> {
-    let mut env = Env::new(alloc);
-    env.set(alloc, b"x", text)?;
-    Ok(env)
 }

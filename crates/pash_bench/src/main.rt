@@ -1,5 +1,6 @@
-//! Times one call of a crate on one file: `pash_bench CALL FILE`, where CALL is `next_line`, `lines`, `read_all`, `lex`, `arith`,
-//! `matches`, `expand` or `wc`, or `pash_bench has FILE OPTIONS EXPRESSION`, or `pash_bench grep FILE WORD`.
+//! Times one call of a crate on one file: `pash_bench CALL FILE`, where CALL is `next_line`, `lines`, `read_all`, `lex`, `parse`,
+//! `arith`, `matches`, `expand`, `expand_many`, `cut_prefix`, `cut_suffix` or `wc`, or `pash_bench has FILE OPTIONS EXPRESSION`, or
+//! `pash_bench grep FILE WORD`.
 //!
 //! What the call finds, a count or a value, goes to the output, and the time of the call alone, in nanoseconds, to the error
 //! output: what a call takes is ready before the clock starts, and what it gives is dropped after the clock stopped.
@@ -8,11 +9,17 @@
 
 mod calls;
 mod clock;
+mod scripts;
 mod streams;
+mod words;
 
 use calls::Call;
+use sh_pattern::Side;
 use std::io::ErrorKind;
 use std::{env, fs, io};
+
+/// The words of the call `expand_many`.
+const MANY_WORDS: usize = 4_000;
 
 fn main(rt: HostRuntime) -> io::Result<()> {
     let mut words = env::args(&rt)?.skip(1);
@@ -25,7 +32,7 @@ fn main(rt: HostRuntime) -> io::Result<()> {
     let timed = match call {
         Call::NextLine => clock::time_next_line(&rt, fs::read(&rt, path)?.as_slice())?,
         Call::Lines => clock::time_lines(&rt, fs::read(&rt, path)?.as_slice())?,
-        Call::Lex => clock::time_lex(&rt, fs::read(&rt, path)?.as_slice())?,
+        Call::Lex => scripts::time_lex(&rt, fs::read(&rt, path)?.as_slice())?,
         Call::Has => {
             let (Some(options), Some(expression)) = (words.next(), words.next()) else {
                 return Err(io::Error::from(ErrorKind::InvalidInput));
@@ -35,7 +42,11 @@ fn main(rt: HostRuntime) -> io::Result<()> {
         }
         Call::Arith => clock::time_arith(&rt, fs::read(&rt, path)?.as_slice())?,
         Call::Matches => clock::time_matches(&rt, fs::read(&rt, path)?.as_slice())?,
-        Call::Expand => clock::time_expand(&rt, fs::read(&rt, path)?.as_slice())?,
+        Call::Expand => words::time_expand(&rt, fs::read(&rt, path)?.as_slice(), 1)?,
+        Call::ExpandMany => words::time_expand(&rt, fs::read(&rt, path)?.as_slice(), MANY_WORDS)?,
+        Call::CutPrefix => words::time_cut(&rt, fs::read(&rt, path)?.as_slice(), Side::Prefix)?,
+        Call::CutSuffix => words::time_cut(&rt, fs::read(&rt, path)?.as_slice(), Side::Suffix)?,
+        Call::Parse => scripts::time_parse(&rt, fs::read(&rt, path)?.as_slice())?,
         Call::Grep => {
             let Some(word) = words.next() else {
                 return Err(io::Error::from(ErrorKind::InvalidInput));

@@ -1,0 +1,5 @@
+pub mod FieldLemmas
+pub mod NumberLemmas
+pub mod DigitLemmas
+pub mod SortedLemmas
+pub mod OrderLemmas

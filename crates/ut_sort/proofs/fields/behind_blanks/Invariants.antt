@@ -1,0 +1,9 @@
+use Rattle.std.proofs.Common.{◌≡◌, length}
+use Rattle.ut_sort.specs.Fields.{behind_blanks as behind_blanks_lem}
+use Rattle.ut_sort.proofs.fields.behind_blanks.Given as goal
+
+abbrev pub invariant-loop-left : goal.invariant-loop-left
+invariant-loop-left l = behind_blanks_lem l.left ≡ behind_blanks_lem l.text
+
+abbrev pub decreases-loop-left : goal.decreases-loop-left
+decreases-loop-left l = length l.left

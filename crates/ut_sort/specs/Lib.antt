@@ -1,0 +1,5 @@
+pub mod Fields
+pub mod Numbers
+pub mod Keys
+pub mod Sorted
+pub mod Order

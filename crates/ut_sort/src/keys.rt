@@ -1,0 +1,218 @@
+//! The keys of lines, and how two are compared.
+ghost use Rattle.std.specs.Prelude.{◌≡◌, drop};
+ghost use Rattle.ut_sort.specs.Keys.{bytes_cmp, counted_from as counted_from_lem, end_in as end_in_lem, end_with as end_with_lem, end_with_if as end_with_if_lem, folded, has_letters as has_letters_lem, key_cmp, key_in as key_in_lem, keys_cmp, letters_of as letters_of_lem, start_in as start_in_lem, texts_cmp, whole_line as whole_line_lem, with_global as with_global_lem};
+
+use crate::fields::{behind_blanks, behind_fields, field_end, up_to};
+use crate::numbers::compare_numbers;
+use std::cmp::Ordering;
+use ut_args::{Key, KeyEnd, Ordering as Letters};
+
+/// The letters of a key: those at both its ends.
+fn letters_of(key: &Key) -> Letters
+    ensures { result ≡ letters_of_lem key.now }
+{
+    let start = key.start.letters;
+    match key.end {
+        None => start,
+        Some(end) => Letters {
+            blanks: start.blanks || end.letters.blanks,
+            fold: start.fold || end.letters.fold,
+            numeric: start.numeric || end.letters.numeric,
+            reverse: start.reverse || end.letters.reverse,
+        },
+    }
+}
+
+/// Whether there are letters.
+fn has_letters(letters: Letters) -> bool
+    ensures { result ≡ has_letters_lem letters }
+{
+    letters.blanks || letters.fold || letters.numeric || letters.reverse
+}
+
+/// The key with the global letters where it has none.
+pub(crate) fn with_global(global: Letters, key: &Key) -> Key
+    ensures { result ≡ with_global_lem global key.now }
+{
+    if has_letters(letters_of(key)) {
+        *key
+    } else {
+        Key {
+            start: end_with(global, key.start),
+            end: end_with_if(global, key.end),
+        }
+    }
+}
+
+/// An end of a key with these letters.
+fn end_with(letters: Letters, place: KeyEnd) -> KeyEnd
+    ensures { result ≡ end_with_lem letters place }
+{
+    KeyEnd {
+        field: place.field,
+        byte: place.byte,
+        letters,
+    }
+}
+
+/// The same, where a key has an end.
+fn end_with_if(letters: Letters, place: Option<KeyEnd>) -> Option<KeyEnd>
+    ensures { result ≡ end_with_if_lem letters place }
+{
+    match place {
+        None => None,
+        Some(place) => Some(end_with(letters, place)),
+    }
+}
+
+/// The key that a whole line is, with the blanks that it begins with.
+pub(crate) fn whole_line(global: Letters) -> Key
+    ensures { result ≡ whole_line_lem global }
+{
+    Key {
+        start: KeyEnd {
+            field: 1,
+            byte: 1,
+            letters: Letters {
+                blanks: false,
+                fold: global.fold,
+                numeric: global.numeric,
+                reverse: global.reverse,
+            },
+        },
+        end: None,
+    }
+}
+
+/// Where one end of a key counts its bytes from.
+fn counted_from<'t>(separator: Option<u8>, place: &KeyEnd, line: &'t [u8]) -> &'t [u8]
+    ensures { result.now ≡ counted_from_lem separator place.now line.now }
+{
+    let field = behind_fields(separator, place.field.saturating_sub(1), line);
+    if place.letters.blanks {
+        behind_blanks(field)
+    } else {
+        field
+    }
+}
+
+/// Behind so many bytes, and at most at the text's end.
+fn behind_bytes(count: u64, text: &[u8]) -> &[u8]
+    ensures { result.now ≡ drop count text.now }
+{
+    if count < text.len() as u64 {
+        &text[count as usize..]
+    } else {
+        &[]
+    }
+}
+
+/// Where a key begins.
+fn start_in<'t>(separator: Option<u8>, start: &KeyEnd, line: &'t [u8]) -> &'t [u8]
+    ensures { result.now ≡ start_in_lem separator start.now line.now }
+{
+    behind_bytes(
+        start.byte.saturating_sub(1),
+        counted_from(separator, start, line),
+    )
+}
+
+/// Where a key ends.
+fn end_in<'t>(separator: Option<u8>, end: &Option<KeyEnd>, line: &'t [u8]) -> &'t [u8]
+    ensures { result.now ≡ end_in_lem separator end.now line.now }
+{
+    match end {
+        None => &[],
+        Some(end) => {
+            if end.byte == 0 {
+                field_end(
+                    separator,
+                    behind_fields(separator, end.field.saturating_sub(1), line),
+                )
+            } else {
+                behind_bytes(end.byte, counted_from(separator, end, line))
+            }
+        }
+    }
+}
+
+/// The bytes of a key in a line; none where its first field isn't there.
+pub(crate) fn key_in<'t>(separator: Option<u8>, key: &Key, line: &'t [u8]) -> &'t [u8]
+    ensures { result.now ≡ key_in_lem separator key.now line.now }
+{
+    up_to(
+        start_in(separator, &key.start, line),
+        end_in(separator, &key.end, line),
+    )
+}
+
+/// The order of two texts by letters, but for `r`.
+fn compare_texts(letters: Letters, one: &[u8], other: &[u8]) -> Ordering
+    ensures { result ≡ texts_cmp letters one.now other.now }
+{
+    if letters.numeric {
+        return compare_numbers(one, other);
+    }
+    if letters.fold {
+        return compare_folded(one, other);
+    }
+    one.cmp(other)
+}
+
+/// The order of two texts with their lower case letters as upper case.
+fn compare_folded(one: &[u8], other: &[u8]) -> Ordering
+    ensures { result ≡ bytes_cmp (folded one.now) (folded other.now) }
+{
+    let mut one = one;
+    let mut other = other;
+    while let [first, one_rest @ ..] = one {
+        let [second, other_rest @ ..] = other else {
+            return Ordering::Greater;
+        };
+        match first.to_ascii_uppercase().cmp(&second.to_ascii_uppercase()) {
+            Ordering::Equal => {
+                one = one_rest;
+                other = other_rest;
+            }
+            decided => return decided,
+        }
+    }
+    if other.is_empty() {
+        Ordering::Equal
+    } else {
+        Ordering::Less
+    }
+}
+
+/// The order of two lines by one key.
+pub(crate) fn compare_key(separator: Option<u8>, key: &Key, one: &[u8], other: &[u8]) -> Ordering
+    ensures { result ≡ key_cmp separator key.now one.now other.now }
+{
+    let letters = letters_of(key);
+    let one = key_in(separator, key, one);
+    let other = key_in(separator, key, other);
+    if letters.reverse {
+        compare_texts(letters, other, one)
+    } else {
+        compare_texts(letters, one, other)
+    }
+}
+
+/// The order of two lines by the first key that tells them apart.
+pub(crate) fn compare_keys(
+    separator: Option<u8>,
+    keys: &[Key],
+    one: &[u8],
+    other: &[u8],
+) -> Ordering
+    ensures { result ≡ keys_cmp separator keys.now one.now other.now }
+{
+    let mut left = keys;
+    while let [key, rest @ ..] = left {
+        match compare_key(separator, key, one, other) {
+            Ordering::Equal => left = rest,
+            decided => return decided,
+        }
+    }
+    Ordering::Equal
+}

@@ -1,0 +1,15 @@
+//! `sort` (XCU sort): the order of two lines, lines in order, and the merge of two texts that are in order.
+//!
+//! Where no key tells two lines apart, all their bytes do; with `-u` the first of each set of equal lines is kept.
+//!
+//! `specs/Order.antt` says the order and what is written for a text, `specs/Sorted.antt` what a list in order is. Neither names a way to
+//! sort.
+#![tactic(auto)]
+
+mod fields;
+mod keys;
+pub mod laws;
+mod numbers;
+mod orders;
+
+pub use orders::order;

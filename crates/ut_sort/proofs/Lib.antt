@@ -3,3 +3,4 @@ pub mod NumberLemmas
 pub mod DigitLemmas
 pub mod SortedLemmas
 pub mod OrderLemmas
+pub mod LineLemmas

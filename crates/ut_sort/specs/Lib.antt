@@ -3,3 +3,4 @@ pub mod Numbers
 pub mod Keys
 pub mod Sorted
 pub mod Order
+pub mod LineOrders

@@ -9,7 +9,12 @@
 mod fields;
 mod keys;
 pub mod laws;
+mod lines;
 mod numbers;
 mod orders;
+mod sorter;
+#[cfg(test)]
+mod tests;
 
 pub use orders::order;
+pub use sorter::Sorter;

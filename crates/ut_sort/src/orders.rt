@@ -1,12 +1,15 @@
 //! The order of lines.
-ghost use Rattle.std.specs.Prelude.{◌≡◌, map};
-ghost use Rattle.ut_sort.specs.Keys.{keys_cmp, keys_in_force, with_global as with_global_lem};
+ghost use Rattle.std.specs.Prelude.{◌≡◌, ℕ, map, List, IfOk, OnOk};
+ghost use Rattle.ut_sort.specs.Keys.{keys_cmp, keys_in_force as keys_in_force_lem, with_global as with_global_lem};
+ghost use Rattle.ut_sort.specs.LineOrders.{cmp_by};
 ghost use Rattle.ut_sort.specs.Order.{last_cmp, order_of};
 
 use crate::keys::{compare_key, compare_keys, whole_line, with_global};
+use ps_lines::Memory;
+use std::alloc::Global;
 use std::cmp::Ordering;
 use std::slice;
-use ut_args::{Key, Ordering as Letters, SortInv};
+use ut_args::{Key, Ordering as Letters, SortArgs, SortInv};
 
 /// The order of two lines in the output of this invocation, by its keys, and without `-u` at last by all bytes.
 ///
@@ -35,7 +38,7 @@ fn compare_in_force(
     one: &[u8],
     other: &[u8],
 ) -> Ordering
-    ensures { result ≡ keys_cmp separator (keys_in_force global keys.now) one.now other.now }
+    ensures { result ≡ keys_cmp separator (keys_in_force_lem global keys.now) one.now other.now }
 {
     if keys.is_empty() {
         return compare_keys(separator, slice::from_ref(&whole_line(global)), one, other);
@@ -76,4 +79,63 @@ pub(crate) fn compare_last(unique: bool, reverse: bool, one: &[u8], other: &[u8]
     } else {
         one.cmp(other)
     }
+}
+
+/// The order of the lines of one invocation, which is read from it once.
+#[derive(Drop)]
+pub(crate) struct LineOrder {
+    /// The keys with the letters that count for them; one at least.
+    keys: Vec<Key>,
+    separator: Option<u8>,
+    /// Equal lines are one, and what no key tells apart is equal.
+    pub(crate) unique: bool,
+    reverse: bool,
+}
+
+impl LineOrder {
+    /// The order of the lines of this invocation.
+    pub(crate) fn new(alloc: Global, args: &SortArgs) -> Result<LineOrder, Memory>
+        ensures keys { IfOk result (λ order. order.keys.items ≡ keys_in_force_lem args.now.ordering args.now.keys) }
+        ensures separator { IfOk result (λ order. order.separator ≡ args.now.separator) }
+        ensures unique { IfOk result (λ order. order.unique ≡ args.now.unique) }
+        ensures reverse { IfOk result (λ order. order.reverse ≡ args.now.ordering.reverse) }
+    {
+        Ok(LineOrder {
+            keys: keys_in_force(alloc, args.ordering, args.keys.as_slice())?,
+            separator: args.separator,
+            unique: args.unique,
+            reverse: args.ordering.reverse,
+        })
+    }
+
+    /// The order of two lines.
+    pub(crate) fn compare(&self, one: &[u8], other: &[u8]) -> Ordering
+        ensures { result ≡ cmp_by self.now one.now other.now }
+    {
+        match compare_keys(self.separator, self.keys.as_slice(), one, other) {
+            Ordering::Equal => compare_last(self.unique, self.reverse, one, other),
+            decided => decided,
+        }
+    }
+}
+
+/// The keys with the letters that count for them, or the whole line where there are none.
+fn keys_in_force(alloc: Global, global: Letters, keys: &[Key]) -> Result<Vec<Key>, Memory>
+    ensures { IfOk result (λ found. found.items ≡ keys_in_force_lem global keys.now) }
+{
+    if keys.is_empty() {
+        return Ok(Vec::from_slice(alloc, &[whole_line(global)])?);
+    }
+    each_with_global(alloc, global, keys)
+}
+
+/// Each of the keys with the letters that count for it.
+fn each_with_global(alloc: Global, global: Letters, keys: &[Key]) -> Result<Vec<Key>, Memory>
+    ensures { IfOk result (λ found. found.items ≡ map (with_global_lem global) keys.now) }
+{
+    let mut found = Vec::new(alloc);
+    for key in keys {
+        found.push(with_global(global, key))?;
+    }
+    Ok(found)
 }

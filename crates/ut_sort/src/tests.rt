@@ -1,0 +1,4 @@
+//! The order of lines and what is written for texts, in tables: `rows` says how these are written.
+mod order;
+mod rows;
+mod texts;

@@ -4,3 +4,5 @@ pub mod DigitLemmas
 pub mod SortedLemmas
 pub mod OrderLemmas
 pub mod LineLemmas
+pub mod MergeLemmas
+pub mod MergingLemmas

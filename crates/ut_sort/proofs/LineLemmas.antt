@@ -20,7 +20,7 @@ use Rattle.ut_sort.proofs.OrderLemmas.{lines_total}
 use Rattle.ut_streams.specs.Streams.{Put}
 use Rattle.ut_streams.proofs.StreamLemmas.{Wrote-same, Put-whole, Put-none, Put-after, Put-broken}
 
-pub ruleset line_puts = (Put-none, Put-broken)
+pub ruleset line_puts = (Put-none, Put-after, Put-broken)
 
 pub ruleset gathers = (Wrote-same, append_assoc)
 

@@ -1,5 +1,5 @@
 -- The order of lines is total, and tells all lines apart that aren't the same bytes, but with -u.
-use Rattle.std.proofs.Common.{◌≡◌, ℕ, List, [], ◌∷◌, Bool, true, false, if◌then◌else◌, Option, refl, ap, sym, ◌∙◌, Ordering}
+use Rattle.std.proofs.Common.{◌≡◌, ℕ, List, [], ◌∷◌, Bool, true, false, if◌then◌else◌, Option, refl, ap, sym, ◌∙◌, Ordering, ◌++◌}
 use Rattle.std.specs.Cmp.{IsTotalOrder}
 use Rattle.std.specs.Cmp.Derive.{point_total}
 use Rattle.std.specs.FinMap.{slice_cmp-IsAntisymmetric, nat_cmp-IsAntisymmetric}
@@ -14,6 +14,8 @@ use Rattle.ut_sort.specs.Numbers.{sizes_cmp, numbers_cmp, whole, fraction, above
 use Rattle.ut_sort.specs.Keys.{bytes_cmp, folded, texts_cmp, directed, letters_of, key_in, key_cmp, keys_cmp, keys_in_force}
 use Rattle.ut_sort.specs.Order.{last_cmp, lines_cmp, order_of, sorted_lines}
 use Rattle.ut_sort.specs.Sorted.{IsSorted}
+use Rattle.ut_sort.specs.Merging.{merged}
+use Rattle.ut_sort.proofs.MergeLemmas.{merge-sorted}
 use Rattle.ut_sort.proofs.SortedLemmas.{sorted_is, only_sorted}
 
 sizes_total : IsTotalOrder sizes_cmp
@@ -89,4 +91,8 @@ lines_sorted args texts = sorted_is (order_of args) (order_total args) args.uniq
 pub only_lines_sorted : (args : SortArgs) (texts list : List (List ℕ)) → IsSorted (order_of args) args.unique texts list → list ≡ sorted_lines args texts
 only_lines_sorted args texts list is = only_sorted (order_of args) (order_total args) args.unique texts list is
 
-pub ruleset order_laws = (order_total, order_same, order_unique, lines_sorted, only_lines_sorted)
+pub lines_merged : (args : SortArgs) (texts others : List (List ℕ))
+    → merged (order_of args) args.unique (sorted_lines args texts) (sorted_lines args others) ≡ sorted_lines args (texts ++ others)
+lines_merged args texts others = merge-sorted (order_of args) (order_total args) args.unique texts others
+
+pub ruleset order_laws = (order_total, order_same, order_unique, lines_sorted, only_lines_sorted, lines_merged)

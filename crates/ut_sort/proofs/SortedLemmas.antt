@@ -43,7 +43,7 @@ tie-is Equal = refl
 tie-is Greater = refl
 
 module _ {Item : Type 0} (cmp : Item → Item → Ordering) (total : IsTotalOrder cmp) where
-  tied : (x y : Item) → is_eq (cmp x y) ≡ true → cmp x y ≡ Equal
+  pub tied : (x y : Item) → is_eq (cmp x y) ≡ true → cmp x y ≡ Equal
   tied x y eq = (Equal-is (cmp x y)).0 eq
 
   -- what is equal to an item compares as that
@@ -70,7 +70,7 @@ module _ {Item : Type 0} (cmp : Item → Item → Ordering) (total : IsTotalOrde
   none_equal x y [] less behind = refl
   none_equal x y (z ∷ items) less behind = rw (not_equal x y z less behind.0) (none_equal x y items less behind.1)
 
-  none_at_all : (x y : Item) (items : List Item) → cmp x y ≡ Less → NoneBefore cmp y items → equals cmp x (y ∷ items) ≡ []
+  pub none_at_all : (x y : Item) (items : List Item) → cmp x y ≡ Less → NoneBefore cmp y items → equals cmp x (y ∷ items) ≡ []
   none_at_all x y items less behind = rw (ap is_eq less) (none_equal x y items less behind)
 
   equals-self : (x : Item) (items : List Item) → equals cmp x (x ∷ items) ≡ x ∷ equals cmp x items
@@ -133,7 +133,7 @@ module _ {Item : Type 0} (cmp : Item → Item → Ordering) (total : IsTotalOrde
       by_lt true rest = (none.0, rest)
       by_lt false rest = (after, none)
 
-  none_before-more : (x y : Item) (items : List Item) → is_lt (cmp y x) ≡ false → NoneBefore cmp y items → NoneBefore cmp x items
+  pub none_before-more : (x y : Item) (items : List Item) → is_lt (cmp y x) ≡ false → NoneBefore cmp y items → NoneBefore cmp x items
   none_before-more x y [] after none = tt
   none_before-more x y (z ∷ items) after none = ((ranks_by total (λ item. item)).chain z y x none.0 after, none_before-more x y items after none.1)
 

@@ -4,3 +4,4 @@ pub mod Keys
 pub mod Sorted
 pub mod Order
 pub mod LineOrders
+pub mod Merging

@@ -1,12 +1,13 @@
 //! What the order of lines and lines in order are, in laws: each is the contract of a function that does nothing.
 #![tactic(auto, using(crate::proofs::OrderLemmas::order_laws))]
 
-ghost use Rattle.std.specs.Prelude.{◌≡◌, ℕ, List, true, false};
+ghost use Rattle.std.specs.Prelude.{◌≡◌, ◌++◌, ℕ, List, true, false};
 ghost use Rattle.std.specs.Cmp.{IsTotalOrder};
 ghost use Rattle.std.specs.declared.cmp.Ordering.TheVariants.{Equal};
 ghost use Rattle.ut_args.specs.declared.SortArgs.{SortArgs};
 ghost use Rattle.ut_sort.specs.Keys.{keys_cmp, keys_in_force};
 ghost use Rattle.ut_sort.specs.Order.{order_of, sorted_lines};
+ghost use Rattle.ut_sort.specs.Merging.{merged};
 ghost use Rattle.ut_sort.specs.Sorted.{IsSorted};
 
 /// Of every two lines one is before the other or both are equal, the same seen from either, and what is before a line that is before
@@ -30,4 +31,10 @@ pub fn sorted_lines_are_in_order()
 /// No other list is: what sort writes doesn't hang on how it sorts.
 pub fn no_other_list_is_sorted()
     ensures { (args : SortArgs) (texts list : List (List ℕ)) → IsSorted (order_of args) args.unique texts list → list ≡ sorted_lines args texts }
+{}
+
+/// The merge of two sorted lists is what sort makes of both one after the other.
+pub fn merge_sorts()
+    ensures { (args : SortArgs) (texts others : List (List ℕ))
+        → merged (order_of args) args.unique (sorted_lines args texts) (sorted_lines args others) ≡ sorted_lines args (texts ++ others) }
 {}

@@ -10,11 +10,13 @@ mod fields;
 mod keys;
 pub mod laws;
 mod lines;
+mod merging;
 mod numbers;
 mod orders;
 mod sorter;
 #[cfg(test)]
 mod tests;
 
+pub use merging::{merge, merge_some};
 pub use orders::order;
 pub use sorter::Sorter;

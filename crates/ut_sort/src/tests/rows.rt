@@ -2,8 +2,8 @@
 //!
 //! A row has columns with `|` between them. The first one has the words, with spaces between them. In a column `\n`, `\t`, `\\` and `\xNN`
 //! are bytes, and `\e` is nothing.
-use crate::{Sorter, order};
-use ps_lines::Memory;
+use crate::{Sorter, merge, order};
+use ps_lines::{Memory, is_closed};
 use std::alloc::Global;
 use std::cmp::Ordering;
 use ut_args::{ArgFault, Inv, read_inv};
@@ -46,6 +46,47 @@ pub(super) fn sorts(alloc: Global, row: &str) -> Result<bool, Memory> {
     let text = unescaped(alloc, columns.next().unwrap_or(&[]))?;
     let wanted = unescaped(alloc, columns.next().unwrap_or(&[]))?;
     is_sorted_as(alloc, words.as_slice(), text.as_slice(), wanted.as_slice())
+}
+
+/// Whether two texts are sorted and merged as the row says: words, one text, another, each sorted, both merged.
+pub(super) fn merges(alloc: Global, row: &str) -> Result<bool, Memory> {
+    let mut columns = row.as_bytes().split(|byte| *byte == b'|');
+    let words = items_of(alloc, columns.next().unwrap_or(&[]))?;
+    let one = unescaped(alloc, columns.next().unwrap_or(&[]))?;
+    let other = unescaped(alloc, columns.next().unwrap_or(&[]))?;
+    let left = unescaped(alloc, columns.next().unwrap_or(&[]))?;
+    let right = unescaped(alloc, columns.next().unwrap_or(&[]))?;
+    let wanted = unescaped(alloc, columns.next().unwrap_or(&[]))?;
+    let both = is_sorted_as(alloc, words.as_slice(), one.as_slice(), left.as_slice())?
+        && is_sorted_as(alloc, words.as_slice(), other.as_slice(), right.as_slice())?;
+    Ok(
+        both && is_merged_as(
+            alloc,
+            words.as_slice(),
+            left.as_slice(),
+            right.as_slice(),
+            wanted.as_slice(),
+        )?,
+    )
+}
+
+/// Whether the merge of two texts is this one; texts that aren't closed have none.
+fn is_merged_as(
+    alloc: Global,
+    words: &[Vec<u8>],
+    left: &[u8],
+    right: &[u8],
+    wanted: &[u8],
+) -> Result<bool, Memory> {
+    let Some(Inv::Sort(inv)) = invocation(alloc, words)? else {
+        return Ok(false);
+    };
+    if !is_closed(left) || !is_closed(right) {
+        return Ok(false);
+    }
+    let mut out = Vec::new(alloc);
+    merge(&inv, left, right, &mut out)?;
+    Ok(out.as_slice() == wanted)
 }
 
 /// Whether an invocation writes this for a text, whole, byte by byte and in some pieces.

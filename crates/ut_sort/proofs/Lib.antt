@@ -6,3 +6,5 @@ pub mod OrderLemmas
 pub mod LineLemmas
 pub mod MergeLemmas
 pub mod MergingLemmas
+pub mod PrefixLemmas
+pub mod KeyedLemmas

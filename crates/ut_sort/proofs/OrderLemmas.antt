@@ -74,10 +74,13 @@ last_same true reverse one other not_unique is = absurd (true≢false not_unique
 last_same false true one other not_unique is = sym (bytes_same other one is)
 last_same false false one other not_unique is = bytes_same one other is
 
+pub lines_same : (separator : Option ℕ) (keys : List Key) (unique reverse : Bool) → unique ≡ false
+    → (one other : List ℕ) → lines_cmp separator keys unique reverse one other ≡ Equal → one ≡ other
+lines_same separator keys unique reverse all one other is =
+    last_same unique reverse one other all (then_equal (keys_cmp separator keys one other) (last_cmp unique reverse one other) is)
+
 pub order_same : (args : SortArgs) → args.unique ≡ false → (one other : List ℕ) → order_of args one other ≡ Equal → one ≡ other
-order_same args all one other is =
-    last_same args.unique args.ordering.reverse one other all
-    (then_equal (keys_cmp args.separator (keys_in_force args.ordering args.keys) one other) (last_cmp args.unique args.ordering.reverse one other) is)
+order_same args all = lines_same args.separator (keys_in_force args.ordering args.keys) args.unique args.ordering.reverse all
 
 pub order_unique : (args : SortArgs) → args.unique ≡ true → (one other : List ℕ)
     → order_of args one other ≡ keys_cmp args.separator (keys_in_force args.ordering args.keys) one other

@@ -234,7 +234,7 @@ module _ {Item : Type 0} (cmp : Item → Item → Ordering) (total : IsTotalOrde
     in_order-far items (λ front back d after low. far (suc front) (suc back) d (omega arith) (omega arith)),
   )
 
-  in_order-from : (items : List Item) → IsSortedBy (λ x y. is_lt (cmp x y)) items → InOrder cmp items
+  pub in_order-from : (items : List Item) → IsSortedBy (λ x y. is_lt (cmp x y)) items → InOrder cmp items
   in_order-from items up = in_order-far items (sorted_far (λ x y. is_lt (cmp x y)) (ranks_by total (λ item. item)) items up)
 
   same_ties : (x y : Item) → ties (λ x y. is_lt (cmp x y)) x y ≡ is_eq (cmp x y)

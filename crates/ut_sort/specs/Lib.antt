@@ -5,3 +5,5 @@ pub mod Sorted
 pub mod Order
 pub mod LineOrders
 pub mod Merging
+pub mod Prefixes
+pub mod KeyedLines

@@ -8,7 +8,7 @@ use std::cmp::Ordering;
 use ut_args::{Key, KeyEnd, Ordering as Letters};
 
 /// The letters of a key: those at both its ends.
-fn letters_of(key: &Key) -> Letters
+pub(crate) fn letters_of(key: &Key) -> Letters
     ensures { result ≡ letters_of_lem key.now }
 {
     let start = key.start.letters;

@@ -7,12 +7,14 @@
 #![tactic(auto)]
 
 mod fields;
+mod keyed;
 mod keys;
 pub mod laws;
 mod lines;
 mod merging;
 mod numbers;
 mod orders;
+mod prefixes;
 mod sorter;
 #[cfg(test)]
 mod tests;

@@ -2,9 +2,11 @@
 ghost use Rattle.std.specs.Prelude.{◌≡◌, ℕ, map, List, IfOk, OnOk};
 ghost use Rattle.ut_sort.specs.Keys.{keys_cmp, keys_in_force as keys_in_force_lem, with_global as with_global_lem};
 ghost use Rattle.ut_sort.specs.LineOrders.{cmp_by};
+ghost use Rattle.ut_sort.specs.Prefixes.{KeyBytes, number_by};
 ghost use Rattle.ut_sort.specs.Order.{last_cmp, order_of};
 
 use crate::keys::{compare_key, compare_keys, whole_line, with_global};
+use crate::prefixes::number_of_key;
 use ps_lines::Memory;
 use std::alloc::Global;
 use std::cmp::Ordering;
@@ -115,6 +117,17 @@ impl LineOrder {
         match compare_keys(self.separator, self.keys.as_slice(), one, other) {
             Ordering::Equal => compare_last(self.unique, self.reverse, one, other),
             decided => decided,
+        }
+    }
+
+    /// The number of a line: where it is less than another's, the line is before the other.
+    pub(crate) fn number_of(&self, line: &[u8]) -> u64
+        ensures number { result ≡ number_by self.now line.now }
+        ensures bytes { KeyBytes self.now.separator self.now.keys.items line.now }
+    {
+        match self.keys.as_slice() {
+            [] => 0,
+            [key, ..] => number_of_key(self.separator, key, line),
         }
     }
 }

@@ -6,6 +6,7 @@ ghost use Rattle.ut_streams.specs.Streams.{Put};
 ghost use Rattle.ut_sort.specs.LineOrders.{sorted_by};
 ghost use Rattle.ut_sort.specs.Order.{sorted_text};
 
+use crate::keyed::put_all_sorted;
 use crate::lines::{lines_of, put_lines, sort_lines};
 use crate::orders::LineOrder;
 use ps_lines::Memory;
@@ -81,6 +82,9 @@ fn hold(held: &mut Vec<u8>, piece: &[u8]) -> Result<(), Memory>
 fn put_sorted(order: &LineOrder, text: &[u8], out: &mut Vec<u8>) -> Result<(), Memory>
     ensures { Put (text_of_lines (sorted_by order.now (lines_lem text.now))) out.old.items out.new.items (is_ok result) }
 {
+    if !order.unique {
+        return put_all_sorted(order, text, out);
+    }
     let mut lines = match lines_of(*out.allocator(), text) {
         Ok(lines) => lines,
         Err(memory) => return Err(memory),

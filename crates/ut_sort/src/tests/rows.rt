@@ -6,7 +6,7 @@ use crate::{Sorter, merge, order};
 use ps_lines::{Memory, is_closed};
 use std::alloc::Global;
 use std::cmp::Ordering;
-use ut_args::{ArgFault, Inv, read_inv};
+use ut_args::{ArgFault, Inv, SortInv, read_inv};
 use ut_streams::{Stream, cut_behind, feed_all};
 
 /// Where the bytes of a column have come to.
@@ -20,15 +20,20 @@ enum At {
 
 /// Whether two lines have the order that the row says: words, one line, another, `Less`, `Equal` or `Greater`.
 pub(super) fn has_order(alloc: Global, row: &str) -> Result<bool, Memory> {
-    let mut columns = row.as_bytes().split(|byte| *byte == b'|');
-    let words = items_of(alloc, columns.next().unwrap_or(&[]))?;
-    let one = unescaped(alloc, columns.next().unwrap_or(&[]))?;
-    let other = unescaped(alloc, columns.next().unwrap_or(&[]))?;
-    let told = columns.next().unwrap_or(&[]);
-    let Some(Inv::Sort(inv)) = invocation(alloc, words.as_slice())? else {
+    let Some(Inv::Sort(inv)) = invocation_in(alloc, row)? else {
         return Ok(false);
     };
-    Ok(name_of(order(&inv, one.as_slice(), other.as_slice())) == told)
+    compares(alloc, &inv, row)
+}
+
+fn compares(alloc: Global, inv: &SortInv, row: &str) -> Result<bool, Memory> {
+    let columns = columns_of(alloc, row)?;
+    Ok(match columns.as_slice() {
+        [_, one, other, told] => {
+            name_of(order(inv, one.as_slice(), other.as_slice())) == told.as_slice()
+        }
+        _ => false,
+    })
 }
 
 fn name_of(order: Ordering) -> &'static [u8] {
@@ -41,77 +46,102 @@ fn name_of(order: Ordering) -> &'static [u8] {
 
 /// Whether a text is sorted as the row says, over some cuttings: words, the text, what is written.
 pub(super) fn sorts(alloc: Global, row: &str) -> Result<bool, Memory> {
-    let mut columns = row.as_bytes().split(|byte| *byte == b'|');
-    let words = items_of(alloc, columns.next().unwrap_or(&[]))?;
-    let text = unescaped(alloc, columns.next().unwrap_or(&[]))?;
-    let wanted = unescaped(alloc, columns.next().unwrap_or(&[]))?;
-    is_sorted_as(alloc, words.as_slice(), text.as_slice(), wanted.as_slice())
+    let Some(Inv::Sort(inv)) = invocation_in(alloc, row)? else {
+        return Ok(false);
+    };
+    writes_row(alloc, &inv, row)
+}
+
+fn writes_row(alloc: Global, inv: &SortInv, row: &str) -> Result<bool, Memory> {
+    let columns = columns_of(alloc, row)?;
+    match columns.as_slice() {
+        [_, text, wanted] => writes(alloc, inv, text.as_slice(), wanted.as_slice()),
+        _ => Ok(false),
+    }
 }
 
 /// Whether two texts are sorted and merged as the row says: words, one text, another, each sorted, both merged.
 pub(super) fn merges(alloc: Global, row: &str) -> Result<bool, Memory> {
-    let mut columns = row.as_bytes().split(|byte| *byte == b'|');
-    let words = items_of(alloc, columns.next().unwrap_or(&[]))?;
-    let one = unescaped(alloc, columns.next().unwrap_or(&[]))?;
-    let other = unescaped(alloc, columns.next().unwrap_or(&[]))?;
-    let left = unescaped(alloc, columns.next().unwrap_or(&[]))?;
-    let right = unescaped(alloc, columns.next().unwrap_or(&[]))?;
-    let wanted = unescaped(alloc, columns.next().unwrap_or(&[]))?;
-    let both = is_sorted_as(alloc, words.as_slice(), one.as_slice(), left.as_slice())?
-        && is_sorted_as(alloc, words.as_slice(), other.as_slice(), right.as_slice())?;
-    Ok(
-        both && is_merged_as(
-            alloc,
-            words.as_slice(),
-            left.as_slice(),
-            right.as_slice(),
-            wanted.as_slice(),
-        )?,
-    )
+    let Some(Inv::Sort(inv)) = invocation_in(alloc, row)? else {
+        return Ok(false);
+    };
+    merges_row(alloc, &inv, row)
 }
 
-/// Whether the merge of two texts is this one; texts that aren't closed have none.
-fn is_merged_as(
+fn merges_row(alloc: Global, inv: &SortInv, row: &str) -> Result<bool, Memory> {
+    let columns = columns_of(alloc, row)?;
+    match columns.as_slice() {
+        [_, texts @ .., wanted] => merges_as(alloc, inv, texts, wanted.as_slice()),
+        _ => Ok(false),
+    }
+}
+
+fn merges_as(
     alloc: Global,
-    words: &[Vec<u8>],
+    inv: &SortInv,
+    texts: &[Vec<u8>],
+    wanted: &[u8],
+) -> Result<bool, Memory> {
+    match texts {
+        [one, other, left, right] => {
+            let sorted = writes(alloc, inv, one.as_slice(), left.as_slice())?
+                && writes(alloc, inv, other.as_slice(), right.as_slice())?;
+            Ok(sorted && writes_merged(alloc, inv, left.as_slice(), right.as_slice(), wanted)?)
+        }
+        _ => Ok(false),
+    }
+}
+
+fn writes_merged(
+    alloc: Global,
+    inv: &SortInv,
     left: &[u8],
     right: &[u8],
     wanted: &[u8],
 ) -> Result<bool, Memory> {
-    let Some(Inv::Sort(inv)) = invocation(alloc, words)? else {
-        return Ok(false);
-    };
     if !is_closed(left) || !is_closed(right) {
         return Ok(false);
     }
     let mut out = Vec::new(alloc);
-    merge(&inv, left, right, &mut out)?;
+    merge(inv, left, right, &mut out)?;
     Ok(out.as_slice() == wanted)
 }
 
-/// Whether an invocation writes this for a text, whole, byte by byte and in some pieces.
-fn is_sorted_as(
-    alloc: Global,
-    words: &[Vec<u8>],
-    text: &[u8],
-    wanted: &[u8],
-) -> Result<bool, Memory> {
-    let Some(Inv::Sort(inv)) = invocation(alloc, words)? else {
-        return Ok(false);
-    };
+fn writes(alloc: Global, inv: &SortInv, text: &[u8], wanted: &[u8]) -> Result<bool, Memory> {
     let mut same = true;
     for cuts in [0, 6148914691236517205, 18446744073709551615] {
-        let pieces = cut_behind(alloc, text, cuts)?;
-        let mut sorter = Sorter::new(alloc, &inv)?;
-        let mut out = Vec::new(alloc);
-        feed_all(&mut sorter, pieces.as_slice(), &mut out)?;
-        same &= out.as_slice() == wanted && !sorter.is_spent() && !sorter.has_selected();
+        same &= writes_cut(alloc, inv, text, cuts, wanted)?;
     }
     Ok(same)
 }
 
-/// The invocation of these words, if there is one.
-fn invocation(alloc: Global, words: &[Vec<u8>]) -> Result<Option<Inv>, Memory> {
+fn writes_cut(
+    alloc: Global,
+    inv: &SortInv,
+    text: &[u8],
+    cuts: u64,
+    wanted: &[u8],
+) -> Result<bool, Memory> {
+    let pieces = cut_behind(alloc, text, cuts)?;
+    let mut sorter = Sorter::new(alloc, inv)?;
+    let mut out = Vec::new(alloc);
+    feed_all(&mut sorter, pieces.as_slice(), &mut out)?;
+    Ok(out.as_slice() == wanted && !sorter.is_spent() && !sorter.has_selected())
+}
+
+/// The invocation of a row's words, if there is one.
+fn invocation_in(alloc: Global, row: &str) -> Result<Option<Inv>, Memory> {
+    let words = items_of(
+        alloc,
+        row.as_bytes()
+            .split(|byte| *byte == b'|')
+            .next()
+            .unwrap_or(&[]),
+    )?;
+    invocation_of(alloc, words.as_slice())
+}
+
+fn invocation_of(alloc: Global, words: &[Vec<u8>]) -> Result<Option<Inv>, Memory> {
     if words.is_empty() {
         return Ok(None);
     }
@@ -120,6 +150,15 @@ fn invocation(alloc: Global, words: &[Vec<u8>]) -> Result<Option<Inv>, Memory> {
         Err(ArgFault::Memory) => Err(Memory),
         Err(_) => Ok(None),
     }
+}
+
+/// The bytes of each column.
+fn columns_of(alloc: Global, row: &str) -> Result<Vec<Vec<u8>>, Memory> {
+    let mut columns = Vec::new(alloc);
+    for column in row.as_bytes().split(|byte| *byte == b'|') {
+        columns.push(unescaped(alloc, column)?)?;
+    }
+    Ok(columns)
 }
 
 /// The items of a column.

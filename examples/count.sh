@@ -1,0 +1,1 @@
+cat examples/greeting.txt | grep -F hello | wc -l

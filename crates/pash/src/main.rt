@@ -1,8 +1,9 @@
-//! `pash` runs the data-parallel pipelines of a shell script in parallel without changing one byte of what it prints.
+//! `pash` runs a shell script, whose pipelines are dataflow graphs, and leaves what the script means, byte for byte.
 //!
-//! `top::pash` is the call that this program makes, over the machine's files and streams, and its contract says what every run leaves:
-//! `specs/Meaning.antt` is the meaning of a command, `sh_parse/specs/Outcomes.antt` what each text is read as, and `specs/Runs.antt` how output,
-//! errors, files and answer are tied to the meaning.
+//! Two forms of script run so far, on one thread. `top::pash` is the call that this program makes, over the machine's files and
+//! streams, and its contract says what every run leaves: `specs/Meaning.antt` is the meaning of a command,
+//! `sh_parse/specs/Outcomes.antt` what each text is read as, and `specs/Runs.antt` how output, errors, files and answer are tied to
+//! the meaning.
 #![tactic(auto)]
 
 mod answers;

@@ -16,6 +16,7 @@ pub struct HandOn {
     taking: bool,
     putting: bool,
     broken: bool,
+    ghost last: { putting ≡ false → broken ≡ false → taking ≡ false },
 }
 
 impl HandOn {

@@ -2,33 +2,124 @@
 use Rattle.std.proofs.Common.{◌≡◌, ℕ, ◌+◌, ◌-◌, ◌||◌, Bool, true, false, List, [], ◌∷◌, ◌++◌, length, take, decimal, if◌then◌else◌, refl, ap, sym, ◌∙◌, append-nil, length-append, arith}
 use Rattle.std.specs.List.{list_any}
 use Rattle.std.specs.Option.{unwrap_or}
-use Rattle.std.proofs.lemmas.Bool.{cond-true}
+use Rattle.std.proofs.lemmas.Bool.{cond-true, true≢false}
 use Rattle.std.proofs.Math.Seq.{take-append_seam}
 use Rattle.std.proofs.lemmas.Grind.{flat_map-append}
 use Rattle.std.proofs.lemmas.List.Folds.{list_any-append}
+use Rattle.std.proofs.lemmas.List.Sums.{sum_by-append}
 use Rattle.ps_lines.specs.Lines.{lines, is_closed, is_cutlist}
 use Rattle.ps_lines.specs.Numbers.{number_of}
 use Rattle.ps_lines.proofs.LineLemmas.{lines_of_cut, is_closed-push}
-use Rattle.ut_args.specs.Built.{is_built_grep, is_built_wc}
-use Rattle.ut_args.specs.declared.invocations.CatInv.{CatInv}
+use Rattle.ps_lines.proofs.NumberLemmas.{number_of-decimal}
+use Rattle.ut_args.specs.Built.{is_built_of, is_built_grep, is_built_wc}
+use Rattle.ut_args.specs.Classes.{class_of, keeps_closed_of, of_one, report_class}
+use Rattle.ut_args.specs.Invocations.{command_of}
+use Rattle.ut_args.specs.Utilities.{has_at_most_one}
+use Rattle.ut_args.specs.declared.classes.Class.{Class}
+use Rattle.ut_args.specs.declared.classes.Class.TheVariants as class
+use Rattle.ut_args.specs.declared.classes.Seam.{Seam}
+use Rattle.ut_args.specs.declared.classes.Seam.TheVariants as seam
+use Rattle.ut_args.specs.declared.commands.Report.{Report}
+use Rattle.ut_args.specs.declared.commands.Report.TheVariants as report
 use Rattle.ut_args.specs.declared.invocations.GrepInv.{GrepInv}
 use Rattle.ut_args.specs.declared.invocations.WcInv.{WcInv}
+use Rattle.ut_args.specs.declared.invocations.Inv.{Inv}
 use Rattle.ut_args.specs.declared.invocations.Inv.TheVariants as inv
+use Rattle.ut_streams.specs.Utilities.{Utility}
 use Rattle.ut_grep.specs.Fixed.{kept, has_part, selected_lines, has_selected, selected_of, pattern_of}
-use Rattle.std.proofs.lemmas.List.Sums.{sum_by-append}
-use Rattle.ps_lines.proofs.NumberLemmas.{number_of-decimal}
 use Rattle.ut_groups.specs.Counting.{newlines, saturated, count_line, line_count}
-use Rattle.fl_classes.specs.Utilities.{selects_of}
-use Rattle.fl_classes.specs.Aggregates.{count_on, map_of, joined_maps}
-use Rattle.fl_classes.specs.Laws.{IsStatelessInBytes, IsStatelessInLines, IsParallel, KeepsClosed}
+use Rattle.ut_groups.specs.Wc.{count_on}
+use Rattle.fl_classes.specs.Utilities.{output_of, selects_of, utility_by, utility_of, silent, names_of, labelled}
+use Rattle.fl_classes.specs.Aggregates.{map_of, joined_maps, finish_of}
+use Rattle.fl_classes.specs.Laws.{IsOfClass, IsStateless, IsParallel, KeepsClosed, MayBeCut}
 
--- one input is joined to itself
-pub cat-bytes : (cat : CatInv) → IsStatelessInBytes (inv.Cat cat)
-cat-bytes cat = record { output = λ front back. append-nil (front ++ back) ∙ ap (λ front. front ++ back) (sym (append-nil front)) ∙ ap (λ back. (front ++ []) ++ back) (sym (append-nil back)) }
+-- an invocation is that of its utility, where it is built, or writes nothing
+pub by_built : (inv : Inv) (Says : Utility → Type 0) → (is_built_of inv ≡ true → Says (utility_by (command_of inv))) → Says silent → Says (utility_of inv)
+by_built inv Says runs rests = either (is_built_of inv) refl
+  where
+    either : (built : Bool) → is_built_of inv ≡ built → Says (if built then utility_by (command_of inv) else silent)
+    either true built = runs built
+    either false _ = rests
 
-pub cat-closed : (cat : CatInv) → KeepsClosed (inv.Cat cat)
-cat-closed cat = record { closed = λ text closed. ap is_closed (append-nil text) ∙ closed; none = refl }
+pub or-none : (test : Bool) → (test || false) ≡ test
+or-none true = refl
+or-none false = refl
 
+-- both of two parts, or none
+either-part : (whole front back : Bool) → whole ≡ (front || back) → (whole || false) ≡ ((front || false) || (back || false))
+either-part whole front back is = or-none whole ∙ is ∙ ap (λ test. test || back) (sym (or-none front)) ∙ ap (λ test. (front || false) || test) (sym (or-none back))
+
+-- what is shown of the utility of an invocation that is built is a law of it: of one that writes nothing all of them hold
+module _ (inv : Inv) where
+  abbrev WritesPart : Utility → Type 0
+  WritesPart utility = (text : List ℕ) → utility.output (labelled (names_of inv) (text ∷ [])) ≡ utility.part text
+
+  abbrev WritesFinished : Utility → Type 0
+  WritesFinished utility = (text : List ℕ) → utility.output (labelled (names_of inv) (text ∷ [])) ≡ utility.finish (utility.part text)
+
+  abbrev JoinsParts : Seam → Utility → Type 0
+  JoinsParts seam utility = (front back : List ℕ) → MayBeCut seam front back → utility.part (front ++ back) ≡ utility.part front ++ utility.part back
+
+  abbrev Aggregates : Utility → Type 0
+  Aggregates utility = (front back : List ℕ) → MayBeCut seam.Lines front back → utility.part (front ++ back) ≡ utility.aggregate (utility.part front) (utility.part back)
+
+  abbrev SelectsPart : Seam → Utility → Type 0
+  SelectsPart seam utility = (front back : List ℕ) → MayBeCut seam front back
+      → utility.selects (labelled (names_of inv) ((front ++ back) ∷ []))
+      ≡ (utility.selects (labelled (names_of inv) (front ∷ [])) || utility.selects (labelled (names_of inv) (back ∷ [])))
+
+  abbrev ClosesPart : Utility → Type 0
+  ClosesPart utility = (text : List ℕ) → is_closed text ≡ true → is_closed (utility.part text) ≡ true
+
+  abbrev own : Utility
+  own = utility_by (command_of inv)
+
+  pub stateless : (seam : Seam) → (is_built_of inv ≡ true → WritesPart own) → (is_built_of inv ≡ true → JoinsParts seam own)
+      → (is_built_of inv ≡ true → SelectsPart seam own) → IsStateless seam inv
+  stateless seam whole joins selects = record {
+    whole = by_built inv WritesPart whole (λ text. refl);
+    joins = by_built inv (JoinsParts seam) joins (λ front back cut. refl);
+    selects = by_built inv (SelectsPart seam) selects (λ front back cut. refl);
+  }
+
+  pub parallel : (is_built_of inv ≡ true → WritesFinished own) → (is_built_of inv ≡ true → Aggregates own)
+      → (is_built_of inv ≡ true → SelectsPart seam.Lines own) → IsParallel inv
+  parallel whole joins selects = record {
+    whole = by_built inv WritesFinished whole (λ text. refl);
+    joins = by_built inv Aggregates joins (λ front back cut. refl);
+    selects = by_built inv (SelectsPart seam.Lines) selects (λ front back cut. refl);
+  }
+
+  pub keeps : (is_built_of inv ≡ true → WritesPart own) → (is_built_of inv ≡ true → ClosesPart own) → (is_built_of inv ≡ true → own.part [] ≡ []) → KeepsClosed inv
+  keeps whole closed none = record {
+    whole = by_built inv WritesPart whole (λ text. refl);
+    closed = by_built inv ClosesPart closed (λ text closed. refl);
+    none = by_built inv (λ utility. utility.part [] ≡ []) none refl;
+  }
+
+  -- one that isn't built
+  module _ (rests : is_built_of inv ≡ false) where
+    never : {Fact : Type 0} → is_built_of inv ≡ true → Fact
+    never built = absurd (true≢false (sym built ∙ rests))
+
+    pub unbuilt : (class : Class) → IsOfClass class inv
+    unbuilt (class.S seam) = stateless seam never never never
+    unbuilt class.P = parallel never never never
+    unbuilt class.N = tt
+    unbuilt class.E = tt
+
+    pub unbuilt-closed : KeepsClosed inv
+    unbuilt-closed = keeps never never never
+
+-- the class of an invocation with at most one operand
+of-one : (inv : Inv) (operands : List (List ℕ)) (of_single : Class) → IsOfClass of_single inv → IsOfClass (of_one operands of_single) inv
+of-one inv operands of_single is = either (has_at_most_one operands)
+  where
+    either : (one : Bool) → IsOfClass (if one then of_single else class.N) inv
+    either true = is
+    either false = tt
+
+-- grep
 -- the lines of a text that is cut at an end of lines are those of its parts
 selected-cut : (pattern front back : List ℕ) → is_cutlist (front ∷ back ∷ []) ≡ true
     → selected_lines pattern (front ++ back) ≡ selected_lines pattern front ++ selected_lines pattern back
@@ -37,30 +128,6 @@ selected-cut pattern front back cut = ap (selected_of pattern) (lines_of_cut fro
 has_selected-cut : (pattern front back : List ℕ) → is_cutlist (front ∷ back ∷ []) ≡ true
     → has_selected pattern (front ++ back) ≡ (has_selected pattern front || has_selected pattern back)
 has_selected-cut pattern front back cut = ap (list_any (has_part pattern)) (lines_of_cut front back cut) ∙ list_any-append (has_part pattern) (lines front) (lines back)
-
--- the maps of grep and of wc, where they are built
-module _ (grep : GrepInv) (built : is_built_grep grep.args ≡ true) where
-  pub grep-map : (text : List ℕ) → map_of (inv.Grep grep) text ≡ selected_lines (pattern_of grep.args.patterns) text
-  grep-map text = cond-true (is_built_grep grep.args) (selected_lines (pattern_of grep.args.patterns) (text ++ [])) [] built ∙ ap (selected_lines (pattern_of grep.args.patterns)) (append-nil text)
-
-  pub grep-selects : (text : List ℕ) → selects_of (inv.Grep grep) (text ∷ []) ≡ has_selected (pattern_of grep.args.patterns) text
-  grep-selects text = cond-true (is_built_grep grep.args) (has_selected (pattern_of grep.args.patterns) (text ++ [])) false built ∙ ap (has_selected (pattern_of grep.args.patterns)) (append-nil text)
-
-  pub grep-lines : IsStatelessInLines (inv.Grep grep)
-  grep-lines =
-      let pattern = pattern_of grep.args.patterns in
-      record {
-        output = λ front back cut.
-            grep-map (front ++ back) ∙ selected-cut pattern front back cut
-            ∙ ap (λ text. text ++ selected_lines pattern back) (sym (grep-map front)) ∙ ap (λ text. map_of (inv.Grep grep) front ++ text) (sym (grep-map back));
-        selects = λ front back cut.
-            grep-selects (front ++ back) ∙ has_selected-cut pattern front back cut
-            ∙ ap (λ selects. selects || has_selected pattern back) (sym (grep-selects front))
-            ∙ ap (λ selects. selects_of (inv.Grep grep) (front ∷ []) || selects) (sym (grep-selects back));
-      }
-
-pub wc-map : (wc : WcInv) → is_built_wc wc.args ≡ true → (text : List ℕ) → map_of (inv.Wc wc) text ≡ line_count text
-wc-map wc built text = cond-true (is_built_wc wc.args) (line_count (text ++ [])) [] built ∙ ap line_count (append-nil text)
 
 -- what is written of lines is closed
 pub closed-append : (front back : List ℕ) → is_closed front ≡ true → is_closed back ≡ true → is_closed (front ++ back) ≡ true
@@ -80,12 +147,29 @@ selected-closed : (pattern : List ℕ) (texts : List (List ℕ)) → is_closed (
 selected-closed pattern [] = refl
 selected-closed pattern (line ∷ texts) = closed-append (kept pattern line) (selected_of pattern texts) (kept-closed pattern line) (selected-closed pattern texts)
 
-pub grep-closed : (grep : GrepInv) → is_built_grep grep.args ≡ true → KeepsClosed (inv.Grep grep)
-grep-closed grep built = record {
-  closed = λ text closed. ap is_closed (grep-map grep built text) ∙ selected-closed (pattern_of grep.args.patterns) (lines text);
-  none = grep-map grep built [];
-}
+module _ (grep : GrepInv) where
+  abbrev pattern : List ℕ
+  pattern = pattern_of grep.args.patterns
 
+  pub grep-lines : IsStateless seam.Lines (inv.Grep grep)
+  grep-lines =
+      stateless (inv.Grep grep) seam.Lines (λ built text. append-nil (selected_lines pattern text)) (λ built. selected-cut pattern)
+      (λ built front back cut. either-part (has_selected pattern (front ++ back)) (has_selected pattern front) (has_selected pattern back) (has_selected-cut pattern front back cut))
+
+  pub grep-closed : KeepsClosed (inv.Grep grep)
+  grep-closed =
+      keeps (inv.Grep grep) (λ built text. append-nil (selected_lines pattern text)) (λ built text closed. selected-closed pattern (lines text)) (λ built. refl)
+
+  by_report : (report : Report) (numbers : Bool) → IsOfClass (report_class report numbers) (inv.Grep grep)
+  by_report report.Lines true = tt
+  by_report report.Lines false = grep-lines
+  by_report report.Count numbers =
+      parallel (inv.Grep grep) (λ built text. append-nil (selected_lines pattern text)) (λ built. selected-cut pattern)
+      (λ built front back cut. either-part (has_selected pattern (front ++ back)) (has_selected pattern front) (has_selected pattern back) (has_selected-cut pattern front back cut))
+  by_report report.Path numbers = tt
+  by_report report.Nothing numbers = grep-lines
+
+-- wc
 -- a count is read back from its line
 first-bytes : (text : List ℕ) (byte : ℕ) → take (length (text ++ byte ∷ []) - 1) (text ++ byte ∷ []) ≡ text
 first-bytes text byte =
@@ -106,19 +190,38 @@ line_count-joins front back =
     ∙ ap (λ first. count_line (first + saturated (newlines back))) (sym (count_on-line (newlines front)))
     ∙ ap (λ second. count_line (count_on (line_count front) + second)) (sym (count_on-line (newlines back)))
 
+pub wc-parallel : (wc : WcInv) → IsParallel (inv.Wc wc)
+wc-parallel wc =
+    parallel (inv.Wc wc) (λ built text. append-nil (line_count text)) (λ built front back cut. line_count-joins front back) (λ built front back cut. refl)
+
+-- each invocation
+pub is-of-class : (inv : Inv) → IsOfClass (class_of inv) inv
+is-of-class (inv.Cat cat) = stateless (inv.Cat cat) seam.Bytes (λ built text. append-nil text) (λ built front back cut. refl) (λ built front back cut. refl)
+is-of-class (inv.Grep grep) = of-one (inv.Grep grep) grep.args.operands (report_class grep.args.report grep.args.numbers) (by_report grep grep.args.report grep.args.numbers)
+is-of-class (inv.Wc wc) = of-one (inv.Wc wc) wc.args.operands class.P (wc-parallel wc)
+is-of-class other = unbuilt other refl (class_of other)
+
+pub keeps-closed : (inv : Inv) → keeps_closed_of inv ≡ true → KeepsClosed inv
+keeps-closed (inv.Cat cat) keeps_it = keeps (inv.Cat cat) (λ built text. append-nil text) (λ built text closed. closed) (λ built. refl)
+keeps-closed (inv.Grep grep) keeps_it = grep-closed grep
+keeps-closed (inv.Wc wc) keeps_it = absurd (true≢false (sym keeps_it))
+keeps-closed other keeps_it = unbuilt-closed other refl
+
+-- what those that are built make of a part
+pub built-utility : (inv : Inv) → is_built_of inv ≡ true → utility_of inv ≡ utility_by (command_of inv)
+built-utility inv built = cond-true (is_built_of inv) (utility_by (command_of inv)) silent built
+
+pub grep-map : (grep : GrepInv) → is_built_grep grep.args ≡ true → (text : List ℕ) → map_of (inv.Grep grep) text ≡ selected_lines (pattern_of grep.args.patterns) text
+grep-map grep built text = ap (λ utility. utility.part text) (built-utility (inv.Grep grep) built)
+
+pub wc-map : (wc : WcInv) → is_built_wc wc.args ≡ true → (text : List ℕ) → map_of (inv.Wc wc) text ≡ line_count text
+wc-map wc built text = ap (λ utility. utility.part text) (built-utility (inv.Wc wc) built)
+
+pub wc-output : (wc : WcInv) → is_built_wc wc.args ≡ true → (text : List ℕ) → output_of (inv.Wc wc) (text ∷ []) ≡ line_count text
+wc-output wc built text =
+    ap (λ utility. utility.output (labelled (names_of (inv.Wc wc)) (text ∷ []))) (built-utility (inv.Wc wc) built) ∙ append-nil (line_count text)
+
 pub wc-joins : (wc : WcInv) → is_built_wc wc.args ≡ true → (first second : List ℕ) → joined_maps (inv.Wc wc) first second ≡ count_line (count_on first + count_on second)
-wc-joins wc built first second = cond-true (is_built_wc wc.args) (count_line (count_on first + count_on second)) (first ++ second) built
+wc-joins wc built first second = ap (λ utility. utility.aggregate first second) (built-utility (inv.Wc wc) built)
 
-pub wc-parallel : (wc : WcInv) → is_built_wc wc.args ≡ true → IsParallel (inv.Wc wc)
-wc-parallel wc built =
-    let counts = wc-map wc built in
-    record {
-      joins = λ front back cut.
-          counts (front ++ back) ∙ line_count-joins front back
-          ∙ ap (λ first. count_line (count_on first + count_on (line_count back))) (sym (counts front))
-          ∙ ap (λ second. count_line (count_on (map_of (inv.Wc wc) front) + count_on second)) (sym (counts back))
-          ∙ sym (wc-joins wc built (map_of (inv.Wc wc) front) (map_of (inv.Wc wc) back));
-      ends = λ text. refl;
-    }
-
-pub ruleset class_laws = (cat-bytes, cat-closed, grep-lines, grep-closed, wc-parallel)
+pub ruleset class_laws = (is-of-class)

@@ -1,12 +1,15 @@
 -- The laws of the classes over lists of texts that are cut at ends of lines.
-use Rattle.std.proofs.Common.{◌≡◌, ℕ, ◌&&◌, Bool, true, false, List, [], ◌∷◌, ◌++◌, map, if◌then◌else◌, refl, ap, sym, ◌∙◌, append_assoc, append-nil}
+use Rattle.std.proofs.Common.{◌≡◌, ℕ, ◌+◌, ◌&&◌, length, length-append, arith, Bool, true, false, List, [], ◌∷◌, ◌++◌, map, if◌then◌else◌, refl, ap, sym, ◌∙◌, append_assoc, append-nil}
 use Rattle.std.specs.List.{concat, list_all}
+use Rattle.std.proofs.lemmas.List.{nil_from_length}
 use Rattle.std.proofs.lemmas.Bool.{true≢false, and_parts, cond-true, cond-false}
 use Rattle.ps_lines.specs.Lines.{is_closed, is_cutlist, is_empty}
 use Rattle.ut_args.specs.declared.invocations.Inv.{Inv}
 use Rattle.fl_classes.specs.Aggregates.{map_of, aggregate_from, aggregate_of}
 use Rattle.fl_classes.proofs.ClassLemmas.{closed-append}
-use Rattle.fl_classes.specs.Laws.{IsStatelessInLines, IsParallel, KeepsClosed}
+use Rattle.fl_classes.specs.Laws.{IsStateless, IsParallel, KeepsClosed, MayBeCut}
+use Rattle.ut_args.specs.declared.classes.Seam.{Seam}
+use Rattle.ut_args.specs.declared.classes.Seam.TheVariants as seam
 
 -- empty texts
 empty-is : (text : List ℕ) → is_empty text ≡ true → text ≡ []
@@ -69,20 +72,32 @@ cut-joined first second texts cut = by_first (is_closed first) refl cut
         by_whole (is_closed (first ++ second)) (empties-cut texts parts.1) parts.1
 
 -- what a class says of lists
-module _ (command : Inv) where
-  pub over_lines : IsStatelessInLines command → map_of command [] ≡ [] → (texts : List (List ℕ)) → is_cutlist texts ≡ true
-      → map_of command (concat texts) ≡ concat (map (map_of command) texts)
-  over_lines law none [] cut = none
-  over_lines law none (text ∷ texts) cut =
-      law.output text (concat texts) (cut-first text texts cut) ∙ ap (λ rest. map_of command text ++ rest) (over_lines law none texts (cut-rest text texts cut))
+module _ (inv : Inv) where
+  may-be-cut : (seam : Seam) (front back : List ℕ) → is_cutlist (front ∷ back ∷ []) ≡ true → MayBeCut seam front back
+  may-be-cut seam.Bytes front back cut = tt
+  may-be-cut seam.Lines front back cut = cut
 
-  aggregate-from : IsParallel command → (first : List ℕ) (texts : List (List ℕ)) → is_cutlist (first ∷ texts) ≡ true
-      → aggregate_from command (map_of command first) (map (map_of command) texts) ≡ map_of command (first ++ concat texts)
-  aggregate-from law first [] cut = ap (map_of command) (sym (append-nil first))
+  -- what is itself twice over is empty
+  doubled : (text : List ℕ) → text ≡ text ++ text → text ≡ []
+  doubled text same =
+      let one : length text ≡ length (text ++ text) = ap length same in
+      let two : length (text ++ text) ≡ length text + length text = length-append text text in
+      nil_from_length text (omega (arith, one, two))
+
+  pub over_lines : (seam : Seam) → IsStateless seam inv → (texts : List (List ℕ)) → is_cutlist texts ≡ true
+      → map_of inv (concat texts) ≡ concat (map (map_of inv) texts)
+  over_lines seam law [] cut = doubled (map_of inv []) (law.joins [] [] (may-be-cut seam [] [] refl))
+  over_lines seam law (text ∷ texts) cut =
+      law.joins text (concat texts) (may-be-cut seam text (concat texts) (cut-first text texts cut))
+      ∙ ap (λ rest. map_of inv text ++ rest) (over_lines seam law texts (cut-rest text texts cut))
+
+  aggregate-from : IsParallel inv → (first : List ℕ) (texts : List (List ℕ)) → is_cutlist (first ∷ texts) ≡ true
+      → aggregate_from inv (map_of inv first) (map (map_of inv) texts) ≡ map_of inv (first ++ concat texts)
+  aggregate-from law first [] cut = ap (map_of inv) (sym (append-nil first))
   aggregate-from law first (second ∷ texts) cut =
-      ap (λ joined. aggregate_from command joined (map (map_of command) texts)) (sym (law.joins first second (pair cut)))
+      ap (λ joined. aggregate_from inv joined (map (map_of inv) texts)) (sym (law.joins first second (pair cut)))
       ∙ aggregate-from law (first ++ second) texts (cut-joined first second texts cut)
-      ∙ ap (map_of command) (append_assoc first second (concat texts))
+      ∙ ap (map_of inv) (append_assoc first second (concat texts))
     where
       pair : is_cutlist (first ∷ second ∷ texts) ≡ true → is_cutlist (first ∷ second ∷ []) ≡ true
       pair cut = by_first (is_closed first) cut
@@ -96,30 +111,30 @@ module _ (command : Inv) where
           by_first true _ = either (is_closed second)
           by_first false none = ap (λ empty. empty && true) (and_parts (is_empty second) (list_all is_empty texts) none).0
 
-  pub over_parts : IsParallel command → (first : List ℕ) (texts : List (List ℕ)) → is_cutlist (first ∷ texts) ≡ true
-      → aggregate_of command (map (map_of command) (first ∷ texts)) ≡ map_of command (concat (first ∷ texts))
+  pub over_parts : IsParallel inv → (first : List ℕ) (texts : List (List ℕ)) → is_cutlist (first ∷ texts) ≡ true
+      → aggregate_of inv (map (map_of inv) (first ∷ texts)) ≡ map_of inv (concat (first ∷ texts))
   over_parts law first texts cut = aggregate-from law first texts cut
 
-  maps-empty : map_of command [] ≡ [] → (texts : List (List ℕ)) → list_all is_empty texts ≡ true → list_all is_empty (map (map_of command) texts) ≡ true
+  maps-empty : map_of inv [] ≡ [] → (texts : List (List ℕ)) → list_all is_empty texts ≡ true → list_all is_empty (map (map_of inv) texts) ≡ true
   maps-empty none [] all = refl
   maps-empty none (text ∷ texts) all =
       let parts = and_parts (is_empty text) (list_all is_empty texts) all in
-      ap (λ text. is_empty (map_of command text) && list_all is_empty (map (map_of command) texts)) (empty-is text parts.0)
-      ∙ ap (λ text. is_empty text && list_all is_empty (map (map_of command) texts)) none ∙ maps-empty none texts parts.1
+      ap (λ text. is_empty (map_of inv text) && list_all is_empty (map (map_of inv) texts)) (empty-is text parts.0)
+      ∙ ap (λ text. is_empty text && list_all is_empty (map (map_of inv) texts)) none ∙ maps-empty none texts parts.1
 
-  pub maps-cut : KeepsClosed command → (texts : List (List ℕ)) → is_cutlist texts ≡ true → is_cutlist (map (map_of command) texts) ≡ true
+  pub maps-cut : KeepsClosed inv → (texts : List (List ℕ)) → is_cutlist texts ≡ true → is_cutlist (map (map_of inv) texts) ≡ true
   maps-cut keeps [] cut = refl
   maps-cut keeps (text ∷ texts) cut = by_closed (is_closed text) refl cut (maps-cut keeps texts)
     where
-      by_map : (closed : Bool) → list_all is_empty (map (map_of command) texts) ≡ true
-          → (if closed then is_cutlist (map (map_of command) texts) else list_all is_empty (map (map_of command) texts)) ≡ true
-      by_map true none = empties-cut (map (map_of command) texts) none
+      by_map : (closed : Bool) → list_all is_empty (map (map_of inv) texts) ≡ true
+          → (if closed then is_cutlist (map (map_of inv) texts) else list_all is_empty (map (map_of inv) texts)) ≡ true
+      by_map true none = empties-cut (map (map_of inv) texts) none
       by_map false none = none
 
       by_closed : (closed : Bool) → is_closed text ≡ closed → (if closed then is_cutlist texts else list_all is_empty texts) ≡ true
-          → (is_cutlist texts ≡ true → is_cutlist (map (map_of command) texts) ≡ true) → is_cutlist (map_of command text ∷ map (map_of command) texts) ≡ true
+          → (is_cutlist texts ≡ true → is_cutlist (map (map_of inv) texts) ≡ true) → is_cutlist (map_of inv text ∷ map (map_of inv) texts) ≡ true
       by_closed true closed cut later =
-          cond-true (is_closed (map_of command text)) (is_cutlist (map (map_of command) texts)) (list_all is_empty (map (map_of command) texts)) (keeps.closed text closed) ∙ later cut
-      by_closed false _ none _ = by_map (is_closed (map_of command text)) (maps-empty keeps.none texts none)
+          cond-true (is_closed (map_of inv text)) (is_cutlist (map (map_of inv) texts)) (list_all is_empty (map (map_of inv) texts)) (keeps.closed text closed) ∙ later cut
+      by_closed false _ none _ = by_map (is_closed (map_of inv text)) (maps-empty keeps.none texts none)
 
-pub ruleset cut_laws = (over_lines, over_parts, maps-cut)
+pub ruleset cut_laws = (over_parts, maps-cut)

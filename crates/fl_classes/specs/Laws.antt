@@ -1,26 +1,45 @@
 -- What the classes of commands say of texts that are cut (PaSh's classes, made exact).
 use Rattle.std.specs.Prelude.{◌≡◌, List, ℕ, [], ◌∷◌, ◌++◌, ◌||◌, true}
 use Rattle.ps_lines.specs.Lines.{is_cutlist, is_closed}
+use Rattle.ut_args.specs.declared.classes.Class.{Class}
+use Rattle.ut_args.specs.declared.classes.Class.TheVariants as class
+use Rattle.ut_args.specs.declared.classes.Seam.{Seam}
+use Rattle.ut_args.specs.declared.classes.Seam.TheVariants as seam
 use Rattle.ut_args.specs.declared.invocations.Inv.{Inv}
-use Rattle.fl_classes.specs.Utilities.{selects_of}
+use Rattle.fl_classes.specs.Utilities.{output_of, selects_of}
 use Rattle.fl_classes.specs.Aggregates.{map_of, joined_maps, finish_of}
 
--- the output for a text is that for its parts, wherever it is cut
-pub record IsStatelessInBytes (command : Inv) : Type 0 where
-  pub output : (front back : List ℕ) → map_of command (front ++ back) ≡ map_of command front ++ map_of command back
+-- a text may be cut so: anywhere, or at an end of lines
+abbrev pub MayBeCut : Seam → List ℕ → List ℕ → Type 0
+MayBeCut seam.Bytes front back = Unit {0}
+MayBeCut seam.Lines front back = is_cutlist (front ∷ back ∷ []) ≡ true
 
--- the same where it is cut at an end of lines, and something is selected where it is in one of the parts
-pub record IsStatelessInLines (command : Inv) : Type 0 where
-  pub output : (front back : List ℕ) → is_cutlist (front ∷ back ∷ []) ≡ true → map_of command (front ++ back) ≡ map_of command front ++ map_of command back
-  pub selects : (front back : List ℕ) → is_cutlist (front ∷ back ∷ []) ≡ true
-      → selects_of command ((front ++ back) ∷ []) ≡ (selects_of command (front ∷ []) || selects_of command (back ∷ []))
+-- something is selected in a text where it is in one of its parts
+abbrev pub SelectsByParts : Seam → Inv → Type 0
+SelectsByParts seam inv = (front back : List ℕ) → MayBeCut seam front back
+    → selects_of inv ((front ++ back) ∷ []) ≡ (selects_of inv (front ∷ []) || selects_of inv (back ∷ []))
 
--- the map of a text is made of those of its parts, where it is cut at an end of lines, and the output of the map
-pub record IsParallel (command : Inv) : Type 0 where
-  pub joins : (front back : List ℕ) → is_cutlist (front ∷ back ∷ []) ≡ true → map_of command (front ++ back) ≡ joined_maps command (map_of command front) (map_of command back)
-  pub ends : (text : List ℕ) → map_of command text ≡ finish_of command (map_of command text)
+-- the map is the output, and that of a text is those of its parts, joined
+pub record IsStateless (seam : Seam) (inv : Inv) : Type 0 where
+  pub whole : (text : List ℕ) → output_of inv (text ∷ []) ≡ map_of inv text
+  pub joins : (front back : List ℕ) → MayBeCut seam front back → map_of inv (front ++ back) ≡ map_of inv front ++ map_of inv back
+  pub selects : SelectsByParts seam inv
 
--- the output for a closed text is closed, and that for the empty text is empty
-pub record KeepsClosed (command : Inv) : Type 0 where
-  pub closed : (text : List ℕ) → is_closed text ≡ true → is_closed (map_of command text) ≡ true
-  pub none : map_of command [] ≡ []
+-- the output is made of the map, and the map of a text of those of its parts, where it is cut at an end of lines
+pub record IsParallel (inv : Inv) : Type 0 where
+  pub whole : (text : List ℕ) → output_of inv (text ∷ []) ≡ finish_of inv (map_of inv text)
+  pub joins : (front back : List ℕ) → MayBeCut seam.Lines front back → map_of inv (front ++ back) ≡ joined_maps inv (map_of inv front) (map_of inv back)
+  pub selects : SelectsByParts seam.Lines inv
+
+-- what a class says of an invocation
+abbrev pub IsOfClass : Class → Inv → Type 0
+IsOfClass (class.S seam) inv = IsStateless seam inv
+IsOfClass class.P inv = IsParallel inv
+IsOfClass class.N inv = Unit {0}
+IsOfClass class.E inv = Unit {0}
+
+-- the map is the output; that for a closed text is closed, and that for the empty text is empty
+pub record KeepsClosed (inv : Inv) : Type 0 where
+  pub whole : (text : List ℕ) → output_of inv (text ∷ []) ≡ map_of inv text
+  pub closed : (text : List ℕ) → is_closed text ≡ true → is_closed (map_of inv text) ≡ true
+  pub none : map_of inv [] ≡ []

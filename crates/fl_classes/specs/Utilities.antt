@@ -1,28 +1,46 @@
--- What the utilities write for whole inputs, and what is selected (XCU, each utility's page). The code does it piece by piece.
-use Rattle.std.specs.Prelude.{ℕ, List, [], Bool, false, if◌then◌else◌}
-use Rattle.std.specs.List.{concat}
+-- What an invocation writes for the texts of its inputs, and what is selected (XCU, each utility's page): by the definition of its utility,
+-- which stands in the utility's own crate, over its own record.
+use Rattle.std.specs.Prelude.{ℕ, List, [], ◌∷◌, Bool, false, drop, get_or, if◌then◌else◌}
+use Rattle.std.specs.List.{filter}
 use Rattle.ut_args.specs.Built.{is_built_of}
+use Rattle.ut_args.specs.Inputs.{is_named, operands_of}
+use Rattle.ut_args.specs.Invocations.{command_of}
+use Rattle.ut_args.specs.declared.commands.Command.{Command}
+use Rattle.ut_args.specs.declared.commands.Command.TheVariants as command
 use Rattle.ut_args.specs.declared.invocations.Inv.{Inv}
-use Rattle.ut_args.specs.declared.invocations.Inv.TheVariants as inv
-use Rattle.ut_grep.specs.Fixed.{selected_lines, has_selected, pattern_of}
-use Rattle.ut_groups.specs.Counting.{line_count}
+use Rattle.ut_streams.specs.Utilities.{Input, Utility, cat, each_by_itself}
+use Rattle.ut_grep.specs.Grep.{grep}
+use Rattle.ut_groups.specs.Wc.{wc}
 
--- what a utility writes for its inputs in order, by the definition of its own crate
-abbrev pub written_by : Inv → List (List ℕ) → List ℕ
-written_by (inv.Cat cat) inputs = concat inputs
-written_by (inv.Grep grep) inputs = selected_lines (pattern_of grep.args.patterns) (concat inputs)
-written_by (inv.Wc wc) inputs = line_count (concat inputs)
-written_by other inputs = []
+-- one that writes nothing
+abbrev pub silent : Utility
+silent = each_by_itself (λ text. []) (λ text. false)
 
--- whether it selects something in them
-abbrev pub selected_by : Inv → List (List ℕ) → Bool
-selected_by (inv.Grep grep) inputs = has_selected (pattern_of grep.args.patterns) (concat inputs)
-selected_by other inputs = false
+-- the utility of a command; one line for each that has a stream
+abbrev pub utility_by : Command → Utility
+utility_by (command.Cat args) = cat
+utility_by (command.Grep args) = grep args
+utility_by (command.Wc args) = wc args
+utility_by other = silent
 
--- the output of an invocation for its inputs: of one that isn't built there is none
+-- that of an invocation; one that isn't built writes nothing
+abbrev pub utility_of : Inv → Utility
+utility_of inv = if is_built_of inv then utility_by (command_of inv) else silent
+
+-- the names of an invocation's inputs: its operands that name one. Standard input has no name where it is read without an operand, and the
+-- one input of a command whose operands are joined before has a name that says nothing
+abbrev pub names_of : Inv → List (List ℕ)
+names_of inv = filter is_named (operands_of inv)
+
+-- texts with their names, in order
+abbrev pub labelled : List (List ℕ) → List (List ℕ) → List Input
+labelled names [] = []
+labelled names (text ∷ texts) = record { label = get_or names 0 []; text = text } ∷ labelled (drop 1 names) texts
+
+-- the output of an invocation for the texts of its inputs
 abbrev pub output_of : Inv → List (List ℕ) → List ℕ
-output_of command inputs = if is_built_of command then written_by command inputs else []
+output_of inv texts = (utility_of inv).output (labelled (names_of inv) texts)
 
--- something in the inputs is selected
+-- something in them is selected
 abbrev pub selects_of : Inv → List (List ℕ) → Bool
-selects_of command inputs = if is_built_of command then selected_by command inputs else false
+selects_of inv texts = (utility_of inv).selects (labelled (names_of inv) texts)

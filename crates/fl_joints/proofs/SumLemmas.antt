@@ -13,7 +13,8 @@ use Rattle.ut_groups.specs.Counting.{count_line, saturated}
 use Rattle.fl_graph.specs.Machines.{comes_first, comes}
 use Rattle.fl_graph.specs.declared.pieces.Piece.{Piece}
 use Rattle.fl_graph.specs.declared.pieces.Piece.TheVariants as piece
-use Rattle.fl_classes.specs.Aggregates.{count_on, aggregate_of, aggregate_from}
+use Rattle.ut_groups.specs.Wc.{count_on}
+use Rattle.fl_classes.specs.Aggregates.{aggregate_of, aggregate_from}
 use Rattle.fl_classes.specs.Nodes.{texts_at}
 use Rattle.fl_classes.proofs.ClassLemmas.{count_on-line, wc-joins}
 use Rattle.fl_joints.specs.Joints.{counts_from}

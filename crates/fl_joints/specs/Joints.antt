@@ -5,7 +5,7 @@ use Rattle.ps_lines.specs.declared.newlines.TheConstants.{NEWLINE}
 use Rattle.ut_args.specs.declared.invocations.Inv.TheVariants as inv
 use Rattle.fl_graph.specs.declared.kinds.NodeKind.{NodeKind}
 use Rattle.fl_graph.specs.declared.kinds.NodeKind.TheVariants as kind
-use Rattle.fl_classes.specs.Aggregates.{count_on}
+use Rattle.ut_groups.specs.Wc.{count_on}
 use Rattle.fl_classes.specs.Parts.{slice, parts_of}
 
 -- the node has a joint

@@ -1,6 +1,6 @@
 //! A node that aggregates counts.
 ghost use Rattle.std.specs.Prelude.{◌≡◌, ◌≤◌, ◌++◌, ℕ, List, [], true, false, IfOk, OnOk};
-ghost use Rattle.fl_classes.specs.Aggregates.{count_on};
+ghost use Rattle.ut_groups.specs.Wc.{count_on};
 ghost use Rattle.ut_groups.specs.Counting.{count_line};
 
 use fl_graph::{Act, Bytes, Machine, Piece};

@@ -1,11 +1,11 @@
 -- Streams in machines, and what is due of a machine at its beginning.
-use Rattle.std.proofs.Common.{◌≡◌, ℕ, zero, suc, ◌+◌, ◌-◌, ◌^◌, ◌≤◌, ◌==◌, ◌&&◌, min, nat_lt, List, [], ◌∷◌, ◌++◌, Bool, true, false, if◌then◌else◌, drop, get_or, refl, ap, sym, subst, ◌∙◌, append-nil, arith}
-use Rattle.std.specs.List.{count_by, list_all}
+use Rattle.std.proofs.Common.{◌≡◌, ℕ, zero, suc, ◌+◌, ◌≤◌, ◌==◌, ◌&&◌, nat_lt, List, [], ◌∷◌, Bool, true, false, if◌then◌else◌, get_or, refl, ap, sym, ◌∙◌, append-nil, arith}
+use Rattle.std.specs.List.{list_all}
 use Rattle.std.proofs.lemmas.Bool.{true≢false, and_parts, eqb-true, eq-eqb, ltb-true, lt-ltb, false_from_ne_true}
 use Rattle.std.proofs.Math.Dec.{eqb-suc-zero}
 use Rattle.ps_lines.specs.Lines.{is_empty}
 use Rattle.ut_streams.proofs.StreamLemmas.{Wrote-put}
-use Rattle.ut_args.specs.Built.{is_built_of, is_built_grep, is_built_wc, is_one_pattern, is_fixed_syntax, is_of_lines, changes_lines, has_none}
+use Rattle.ut_args.specs.Built.{is_built_of, is_built_grep, is_built_wc, is_one_pattern, is_fixed_syntax, is_of_lines, has_none}
 use Rattle.ut_args.specs.Inputs.{counted, inputs_of, is_named, joined_inputs, separate_inputs}
 use Rattle.ut_args.specs.Utilities.{has_at_most_one}
 use Rattle.ut_args.specs.declared.commands.GrepArgs.{GrepArgs}
@@ -20,9 +20,14 @@ use Rattle.fl_graph.specs.declared.pieces.Act.{Act}
 use Rattle.fl_graph.proofs.ListLemmas.{same_tests}
 use Rattle.fl_classes.specs.Flow.{selects}
 use Rattle.fl_classes.specs.Nodes.{Begins, given_on, texts_at}
-use Rattle.fl_classes.specs.Utilities.{output_of, selects_of}
+use Rattle.fl_classes.specs.Aggregates.{finish_of, map_of}
+use Rattle.fl_classes.specs.Utilities.{labelled, names_of, output_of, selects_of, utility_by}
+use Rattle.fl_classes.proofs.ClassLemmas.{by_built}
+use Rattle.ut_args.specs.Invocations.{command_of}
+use Rattle.ut_grep.specs.Fixed.{pattern_of, selected_lines}
+use Rattle.ut_groups.specs.Counting.{line_count}
 use Rattle.fl_machines.specs.Kinds.{is_utility_node, runs_utility, stream_output, stream_selects}
-use Rattle.fl_machines.specs.Through.{due_through, only_port, selects_through}
+use Rattle.fl_machines.specs.Through.{only_port}
 
 pub ruleset copied = (Wrote-put)
 
@@ -55,11 +60,14 @@ grep-few args built =
     let three = and_parts (is_of_lines args.report) _ two.1 in
     separate-few args.operands (and_parts _ (has_at_most_one args.operands) three.1).1
 
-wc-few : (args : WcArgs) → is_built_wc args ≡ true → separate_inputs args.operands ≤ 1
-wc-few args built =
+wc-plain : (args : WcArgs) → is_built_wc args ≡ true → has_none args.operands ≡ true
+wc-plain args built =
     let one = and_parts args.lines _ built in
     let two = and_parts _ _ one.1 in
-    none-few args.operands (and_parts _ (has_none args.operands) two.1).1
+    (and_parts _ (has_none args.operands) two.1).1
+
+wc-few : (args : WcArgs) → is_built_wc args ≡ true → separate_inputs args.operands ≤ 1
+wc-few args built = none-few args.operands (wc-plain args built)
 
 built-few : (command : Inv) → is_built_of command ≡ true → inputs_of command ≤ 1
 built-few (inv.Cat cat) built = joined-few cat.args.operands
@@ -67,18 +75,44 @@ built-few (inv.Grep grep) built = grep-few grep.args built
 built-few (inv.Wc wc) built = wc-few wc.args built
 built-few other built = absurd (true≢false (sym built))
 
--- no input is as an empty one
-nothing-output : (command : Inv) → output_of command ([] ∷ []) ≡ output_of command []
-nothing-output (inv.Cat cat) = refl
-nothing-output (inv.Grep grep) = refl
-nothing-output (inv.Wc wc) = refl
-nothing-output other = refl
+-- so far the output for one input is the map, and no finish changes it
+pub whole-is-map : (command : Inv) (text : List ℕ) → map_of command text ≡ output_of command (text ∷ [])
+whole-is-map command text = by_built command (λ utility. utility.part text ≡ utility.output (labelled (names_of command) (text ∷ []))) (λ built. by_command command) refl
+  where
+    by_command : (command : Inv)
+        → (utility_by (command_of command)).part text ≡ (utility_by (command_of command)).output (labelled (names_of command) (text ∷ []))
+    by_command (inv.Cat cat) = sym (append-nil text)
+    by_command (inv.Grep grep) = sym (append-nil (selected_lines (pattern_of grep.args.patterns) text))
+    by_command (inv.Wc wc) = sym (append-nil (line_count text))
+    by_command other = refl
 
-nothing-selects : (command : Inv) → selects_of command ([] ∷ []) ≡ selects_of command []
-nothing-selects (inv.Cat cat) = refl
-nothing-selects (inv.Grep grep) = refl
-nothing-selects (inv.Wc wc) = refl
-nothing-selects other = refl
+pub ruleset wholes = (whole-is-map)
+
+pub finish-is-same : (command : Inv) (text : List ℕ) → text ≡ finish_of command text
+finish-is-same command text = by_built command (λ utility. text ≡ utility.finish text) (λ built. by_command command) refl
+  where
+    by_command : (command : Inv) → text ≡ (utility_by (command_of command)).finish text
+    by_command (inv.Cat cat) = refl
+    by_command (inv.Grep grep) = refl
+    by_command (inv.Wc wc) = refl
+    by_command other = refl
+
+pub ruleset finishes = (finish-is-same)
+
+-- no input is as an empty one, where an invocation reads none
+nothing-from : (command : Inv) → is_built_of command ≡ true → inputs_of command ≡ 0
+    → (output_of command ([] ∷ []) ≡ output_of command []) × (selects_of command ([] ∷ []) ≡ selects_of command [])
+nothing-from (inv.Cat cat) built none = (refl, refl)
+nothing-from (inv.Grep grep) built none = (
+  by_built (inv.Grep grep) (λ utility. utility.output (labelled (names_of (inv.Grep grep)) ([] ∷ [])) ≡ utility.output []) (λ built. refl) refl,
+  by_built (inv.Grep grep) (λ utility. utility.selects (labelled (names_of (inv.Grep grep)) ([] ∷ [])) ≡ utility.selects []) (λ built. refl) refl,
+)
+nothing-from (inv.Wc wc) built none = absurd (some wc.args.operands (wc-plain wc.args built) none)
+  where
+    some : (operands : List (List ℕ)) → has_none operands ≡ true → separate_inputs operands ≡ 0 → ⊥
+    some [] plain none = absurd (omega (arith, none))
+    some (operand ∷ operands) plain none = true≢false (sym plain)
+nothing-from other built none = absurd (true≢false (sym built))
 
 -- how many ins and outs a node has that runs a utility
 both : (ins outs : ℕ) (rest : Bool) → (((ins == 1) && (outs == 1)) && rest) ≡ true → (ins ≡ 1) × (outs ≡ 1)
@@ -107,28 +141,35 @@ only-given text (suc port) = ap (λ (here : Bool). if here then text else []) (s
 
 given-some : (kind : NodeKind) (outs : ℕ) (texts : ℕ → List ℕ) (port : ℕ) → runs_utility kind ≡ true
     → given_on kind 1 outs texts port ≡ (if port == 0 then stream_output kind (texts 0) else [])
-given-some (kind.Map inv) outs texts port runs = only-given (output_of inv (texts 0 ∷ [])) port
+given-some (kind.Map inv) outs texts port runs = only-given (map_of inv (texts 0)) port
 given-some (kind.Whole inv) outs texts port runs = only-given (output_of inv (texts 0 ∷ [])) port
-given-some (kind.Finish inv) outs texts port runs = only-given (texts 0) port
+given-some (kind.Finish inv) outs texts port runs = only-given (finish_of inv (texts 0)) port
 given-some other outs texts port runs = absurd (true≢false (sym runs))
 
-given-none : (kind : NodeKind) (outs : ℕ) (texts : ℕ → List ℕ) (port : ℕ) → runs_utility kind ≡ true
+-- only a whole may have no in
+no-ins : (inv : Inv) (outs : ℕ) → is_utility_node (kind.Whole inv) 0 outs ≡ true → (is_built_of inv ≡ true) × (inputs_of inv ≡ 0)
+no-ins inv outs is =
+    let parts = and_parts ((0 == inputs_of inv) && (outs == 1)) (is_built_of inv) is in
+    (parts.1, sym (eqb-true 0 (inputs_of inv) (and_parts (0 == inputs_of inv) (outs == 1) parts.0).0))
+
+given-none : (kind : NodeKind) (outs : ℕ) (texts : ℕ → List ℕ) (port : ℕ) → is_utility_node kind 0 outs ≡ true
     → given_on kind 0 outs texts port ≡ (if port == 0 then stream_output kind [] else [])
-given-none (kind.Map inv) outs texts port runs = only-given (output_of inv ([] ∷ [])) port
-given-none (kind.Whole inv) outs texts port runs =
-    only-given (output_of inv []) port ∙ ap (λ (text : List ℕ). if port == 0 then text else []) (sym (nothing-output inv))
-given-none (kind.Finish inv) outs texts port runs = only-given [] port
-given-none other outs texts port runs = absurd (true≢false (sym runs))
+given-none (kind.Map inv) outs texts port is = only-given (map_of inv []) port
+given-none (kind.Whole inv) outs texts port is =
+    let facts = no-ins inv outs is in
+    only-given (output_of inv []) port ∙ ap (λ (text : List ℕ). if port == 0 then text else []) (sym (nothing-from inv facts.0 facts.1).0)
+given-none (kind.Finish inv) outs texts port is = only-given (finish_of inv []) port
+given-none other outs texts port is = absurd (true≢false (sym is))
 
 selects-some : (kind : NodeKind) (texts : ℕ → List ℕ) → stream_selects kind (texts 0) ≡ selects kind (texts_at 1 texts)
 selects-some (kind.Map inv) texts = refl
 selects-some (kind.Whole inv) texts = refl
 selects-some other texts = refl
 
-selects-none : (kind : NodeKind) (texts : ℕ → List ℕ) → stream_selects kind [] ≡ selects kind (texts_at 0 texts)
-selects-none (kind.Map inv) texts = refl
-selects-none (kind.Whole inv) texts = nothing-selects inv
-selects-none other texts = refl
+selects-none : (kind : NodeKind) (outs : ℕ) (texts : ℕ → List ℕ) → is_utility_node kind 0 outs ≡ true → stream_selects kind [] ≡ selects kind (texts_at 0 texts)
+selects-none (kind.Map inv) outs texts is = refl
+selects-none (kind.Whole inv) outs texts is = let facts = no-ins inv outs is in (nothing-from inv facts.0 facts.1).1
+selects-none other outs texts is = refl
 
 -- the one port
 first-port : (port : ℕ) → (port == 0) ≡ nat_lt port 1
@@ -181,12 +222,14 @@ module _ (kind : NodeKind) (ins outs : ℕ) (is : is_utility_node kind ins outs 
 
   pub begins-none : ins ≡ 0 → taking ≡ false → ((texts : ℕ → List ℕ) (port : ℕ) → due texts port ≡ (if port == 0 then stream_output kind [] else []))
       → ((texts : ℕ → List ℕ) → will texts ≡ stream_selects kind []) → Begins kind ins outs through
-  begins-none none is_taking owed willed = record {
-    takes_all = λ port. ap (λ (is_open : Bool). only_port is_open port) is_taking ∙ no-port port ∙ ap (nat_lt port) (sym none);
-    puts_all = puts-all;
-    plain_ins = λ port. refl;
-    plain_outs = λ port. refl;
-    is_whole = is_whole;
-    owes = λ texts port. owed texts port ∙ sym (given-none kind outs texts port runs) ∙ ap (λ (ins : ℕ). given_on kind ins outs texts port) (sym none);
-    may_select = λ texts. willed texts ∙ selects-none kind texts ∙ ap (λ (ins : ℕ). selects kind (texts_at ins texts)) (sym none);
-  }
+  begins-none none is_taking owed willed =
+      let here : is_utility_node kind 0 outs ≡ true = ap (λ (ins : ℕ). is_utility_node kind ins outs) (sym none) ∙ is in
+      record {
+        takes_all = λ port. ap (λ (is_open : Bool). only_port is_open port) is_taking ∙ no-port port ∙ ap (nat_lt port) (sym none);
+        puts_all = puts-all;
+        plain_ins = λ port. refl;
+        plain_outs = λ port. refl;
+        is_whole = is_whole;
+        owes = λ texts port. owed texts port ∙ sym (given-none kind outs texts port here) ∙ ap (λ (ins : ℕ). given_on kind ins outs texts port) (sym none);
+        may_select = λ texts. willed texts ∙ selects-none kind outs texts here ∙ ap (λ (ins : ℕ). selects kind (texts_at ins texts)) (sym none);
+      }

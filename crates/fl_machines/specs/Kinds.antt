@@ -1,5 +1,6 @@
 -- The kinds of nodes that run a utility.
 use Rattle.std.specs.Prelude.{ℕ, List, [], ◌∷◌, Bool, true, false, ◌&&◌}
+use Rattle.fl_classes.specs.Aggregates.{finish_of, map_of}
 use Rattle.fl_classes.specs.Utilities.{output_of, selects_of}
 use Rattle.fl_graph.specs.Kinds.{may_have, reads_one_input, runs_what_is_built}
 use Rattle.fl_graph.specs.declared.kinds.NodeKind.{NodeKind}
@@ -18,8 +19,9 @@ is_utility_node kind ins outs = runs_utility kind && (may_have kind ins outs && 
 
 -- what the stream of such a node writes for one input
 abbrev pub stream_output : NodeKind → List ℕ → List ℕ
-stream_output (kind.Map inv) text = output_of inv (text ∷ [])
+stream_output (kind.Map inv) text = map_of inv text
 stream_output (kind.Whole inv) text = output_of inv (text ∷ [])
+stream_output (kind.Finish inv) text = finish_of inv text
 stream_output other text = text
 
 -- and whether it selects something

@@ -2,6 +2,7 @@
 ghost use Rattle.std.specs.Prelude.{◌≡◌, ℕ, List, [], ◌∷◌, false, true, IfOk};
 ghost use Rattle.ut_args.specs.Built.{is_built_of};
 ghost use Rattle.fl_graph.specs.Kinds.{runs_what_is_built};
+ghost use Rattle.fl_classes.specs.Aggregates.{finish_of, map_of};
 ghost use Rattle.fl_classes.specs.Utilities.{output_of, selects_of};
 ghost use Rattle.fl_machines.specs.Kinds.{stream_output, stream_selects};
 
@@ -31,16 +32,17 @@ impl AnyStream {
         ensures unspent { IfOk result (λ stream. ⟦<AnyStream as Stream>⟧.spent stream ≡ false) }
     {
         match kind {
-            NodeKind::Map(inv) => AnyStream::of_invocation(alloc, inv),
-            NodeKind::Whole(inv) => AnyStream::of_invocation(alloc, inv),
+            NodeKind::Map(inv) => AnyStream::of_map(alloc, inv),
+            NodeKind::Whole(inv) => AnyStream::of_whole(alloc, inv),
+            NodeKind::Finish(inv) => Ok(AnyStream::of_finish(inv)),
             _ => Ok(AnyStream::Copy(Copy::new())),
         }
     }
 
-    /// The stream of an invocation that is built.
-    fn of_invocation(alloc: Global, inv: &Inv) -> Result<AnyStream, Memory>
+    /// The stream of the map of an invocation that is built.
+    fn of_map(alloc: Global, inv: &Inv) -> Result<AnyStream, Memory>
         requires { is_built_of inv.now ≡ true }
-        ensures due { IfOk result (λ stream. (text : List ℕ) → ⟦<AnyStream as Stream>⟧.due stream text ≡ output_of inv.now (text ∷ [])) }
+        ensures due { IfOk result (λ stream. (text : List ℕ) → ⟦<AnyStream as Stream>⟧.due stream text ≡ map_of inv.now text) }
         ensures selects { IfOk result (λ stream. (text : List ℕ) → ⟦<AnyStream as Stream>⟧.selects stream text ≡ selects_of inv.now (text ∷ [])) }
         ensures unspent { IfOk result (λ stream. ⟦<AnyStream as Stream>⟧.spent stream ≡ false) }
     {
@@ -56,6 +58,27 @@ impl AnyStream {
             },
             _ => unreachable!(),
         }
+    }
+
+    /// The stream of an invocation that is built: so far the output of each is its map.
+    #[tactic(auto, using(crate::proofs::MachineLemmas::wholes))]
+    fn of_whole(alloc: Global, inv: &Inv) -> Result<AnyStream, Memory>
+        requires { is_built_of inv.now ≡ true }
+        ensures due { IfOk result (λ stream. (text : List ℕ) → ⟦<AnyStream as Stream>⟧.due stream text ≡ output_of inv.now (text ∷ [])) }
+        ensures selects { IfOk result (λ stream. (text : List ℕ) → ⟦<AnyStream as Stream>⟧.selects stream text ≡ selects_of inv.now (text ∷ [])) }
+        ensures unspent { IfOk result (λ stream. ⟦<AnyStream as Stream>⟧.spent stream ≡ false) }
+    {
+        AnyStream::of_map(alloc, inv)
+    }
+
+    /// The stream of the finish of an invocation that is built: so far no finish changes the map.
+    #[tactic(auto, using(crate::proofs::MachineLemmas::finishes))]
+    fn of_finish(_inv: &Inv) -> AnyStream
+        ensures due { (text : List ℕ) → ⟦<AnyStream as Stream>⟧.due result text ≡ finish_of _inv.now text }
+        ensures selects { (text : List ℕ) → ⟦<AnyStream as Stream>⟧.selects result text ≡ false }
+        ensures unspent { ⟦<AnyStream as Stream>⟧.spent result ≡ false }
+    {
+        AnyStream::Copy(Copy::new())
     }
 }
 

@@ -85,7 +85,7 @@ module _ {Machine : Type 0} (state : Machine → State) (cells : List (Cell Node
       (stopped : (node : ℕ) (machine : Machine) → slice_get machines node ≡ Some machine
       → ((port : ℕ) → (state machine).takes port ≡ false) × ((port : ℕ) → (state machine).puts port ≡ false)) where
     -- a machine stands for each node
-    its_machine : (node : ℕ) (cell : Cell NodeKind) → slice_get cells node ≡ Some cell → (machine : Machine) × (slice_get machines node ≡ Some machine)
+    pub its_machine : (node : ℕ) (cell : Cell NodeKind) → slice_get cells node ≡ Some cell → (machine : Machine) × (slice_get machines node ≡ Some machine)
     its_machine node cell at_node = let within = slice_get_within cells node cell at_node in machine_at machines node (omega (arith, within, counted))
 
     its_stop : (node : ℕ) (machine : Machine) → slice_get machines node ≡ Some machine
@@ -96,7 +96,7 @@ module _ {Machine : Type 0} (state : Machine → State) (cells : List (Cell Node
         (reached.runs node machine at_machine) shut.0 shut.1
 
     -- it has taken the end of each of its ins
-    in_ends : (node : ℕ) (machine : Machine) (port edge : ℕ) → slice_get machines node ≡ Some machine → slice_get (plan.ins node) port ≡ Some edge
+    pub in_ends : (node : ℕ) (machine : Machine) (port edge : ℕ) → slice_get machines node ≡ Some machine → slice_get (plan.ins node) port ≡ Some edge
         → (plan.starts node).takes port ≡ true → has_end (reached.took edge) ≡ true
     in_ends node machine port edge at_machine stands opened =
         let stop = its_stop node machine at_machine in

@@ -30,3 +30,4 @@ pub mod EndListLemmas
 pub mod OutputLemmas
 pub mod RanLemmas
 pub mod FileLemmas
+pub mod HistoryLemmas

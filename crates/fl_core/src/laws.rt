@@ -1,20 +1,21 @@
 //! What the pieces on a graph's edges carry, in laws: each is the contract of a function that does nothing.
 #![tactic(auto, using(crate::proofs::LawLemmas::core_laws))]
 
-ghost use Rattle.std.specs.Prelude.{◌≡◌, ◌<◌, ◌≤◌, ℕ, Bool, List, Option, length, map, slice_get, IfSome, Some, true, false};
+ghost use Rattle.std.specs.Prelude.{◌≡◌, ◌<◌, ◌≤◌, ◌++◌, ℕ, Bool, List, Option, length, map, slice_get, IfSome, Some, true, false};
 ghost use Rattle.std.specs.List.{flat_map};
 ghost use Rattle.fl_graph.specs.Net.{gives};
 ghost use Rattle.fl_graph.specs.declared.graphs.Cell.{Cell};
 ghost use Rattle.ps_lines.specs.Texts.{BeginsWith};
 ghost use Rattle.fl_graph.specs.Machines.{State};
-ghost use Rattle.fl_graph.specs.Runs.{text_of, has_broken, has_end, completed};
+ghost use Rattle.fl_graph.specs.Runs.{text_of, has_broken, has_end, completed, Run, Stopped};
 ghost use Rattle.fl_graph.specs.Valid.{Valid};
 ghost use Rattle.fl_graph.specs.declared.kinds.NodeKind.{NodeKind};
 ghost use Rattle.fl_graph.specs.declared.pieces.Piece.{Piece};
-ghost use Rattle.fl_classes.specs.Flow.{flow, only, writes, writes_of, selections, selects};
+ghost use Rattle.fl_classes.specs.Flow.{flow, is_source, only, writes, writes_of, selections, selects};
+ghost use Rattle.fl_classes.specs.Nodes.{Begins};
 ghost use Rattle.fl_core.specs.Inputs.{RunsOver};
 ghost use Rattle.fl_core.specs.Kinds.{is_sink};
-ghost use Rattle.fl_core.specs.Laws.{Carries, NetKeeps, NetRan};
+ghost use Rattle.fl_core.specs.Laws.{given, is_clean, Carries, NetKeeps, NetRan, NodeRan};
 ghost use Rattle.fl_core.specs.Moves.{most_moves};
 ghost use Rattle.fl_core.specs.Plans.{outer_edge, AreTold, HasRooms, IsPlanOf};
 ghost use Rattle.fl_core.specs.Runs.{Goes};
@@ -56,6 +57,14 @@ pub fn net_ran(graph: &Graph)
         ((node : ℕ) → failed node ≡ false) → (edge : ℕ) → edge < length (gives graph.now.nodes) → has_broken (pieces edge) ≡ false }
 {}
 
+/// A node that is no source, whose machine has run from its beginning to its stop, ran as `NetRan` asks of each node: what it put is of its
+/// equation on what it took, each of its outs was closed, and a Broken was put only where one was taken or the node has failed.
+pub fn a_node_that_has_stopped_ran()
+    ensures { (sources : List (List ℕ)) (number : ℕ) (node : NodeKind) (ins outs : ℕ) (start now : State) (taken put : ℕ → List Piece) (failed : Bool) →
+        is_source node ≡ false → Begins node ins outs start → Run start now taken put failed → Stopped start now taken put →
+        NodeRan (given sources (number, node) ins outs) outs taken put failed }
+{}
+
 /// What a valid graph leaves is said of its flow: each node writes, and tells whether it selects, what its kind does with the texts of
 /// its ins, in the order of the nodes.
 pub fn what_a_graph_leaves_is_of_the_flow(graph: &Graph)
@@ -80,6 +89,30 @@ pub fn what_waits_for_the_outside_is_of_the_flow<M: Machine>(graph: &Graph, net:
         (sources : List (List ℕ)) → AreTold sources graph.now.nodes (λ node. Some (inputs node)) →
         (node : ℕ) (cell : Cell NodeKind) → slice_get graph.now.nodes node ≡ Some cell → is_sink cell.kind ≡ true →
         only (map (flow graph.now.nodes sources) cell.ins) ≡ text_of (waiting_on net.now.wires.items (outer_edge graph.now.nodes node)) }
+{}
+
+/// In a network over texts, in whatever order its nodes had their turns: what was put on an edge carries a front of the edge's flow, and all of
+/// it where an end was put; nothing was put behind an end or a Broken; and what was put and not taken waits. Where no node has failed and each
+/// machine has stopped, each node has taken all of the flow of its ins.
+pub fn what_was_put_on_an_edge_is_of_its_flow<M: Machine>(graph: &Graph, net: &Net<M>)
+    requires { Valid graph.now.nodes graph.now.status }
+    ensures carries { (inputs : ℕ → List ℕ) (moves : ℕ) (failed : ℕ → Bool)
+        (runs : RunsOver M.state graph.now.nodes inputs moves failed net.now.ports.items net.now.machines.items net.now.wires.items) →
+        (sources : List (List ℕ)) → AreTold sources graph.now.nodes (λ node. Some (inputs node)) →
+        (edge : ℕ) → edge < length (gives graph.now.nodes) → Carries (runs.goes.reached.put edge) (flow graph.now.nodes sources edge) }
+    ensures closed { (inputs : ℕ → List ℕ) (moves : ℕ) (failed : ℕ → Bool)
+        (runs : RunsOver M.state graph.now.nodes inputs moves failed net.now.ports.items net.now.machines.items net.now.wires.items) →
+        (edge : ℕ) → is_clean (runs.goes.reached.put edge) ≡ true }
+    ensures whole { (inputs : ℕ → List ℕ) (moves : ℕ) (failed : ℕ → Bool)
+        (runs : RunsOver M.state graph.now.nodes inputs moves failed net.now.ports.items net.now.machines.items net.now.wires.items) →
+        (sources : List (List ℕ)) → AreTold sources graph.now.nodes (λ node. Some (inputs node)) →
+        ((number : ℕ) → failed number ≡ false) →
+        ((number : ℕ) (machine : M) → slice_get net.now.machines.items number ≡ Some machine → ((port : ℕ) → (M.state machine).takes port ≡ false) × ((port : ℕ) → (M.state machine).puts port ≡ false)) →
+        (node : ℕ) (cell : Cell NodeKind) → slice_get graph.now.nodes node ≡ Some cell → is_source cell.kind ≡ false →
+        (port edge : ℕ) → slice_get cell.ins port ≡ Some edge → flow graph.now.nodes sources edge ≡ text_of (runs.goes.reached.took edge) }
+    ensures waits { (inputs : ℕ → List ℕ) (moves : ℕ) (failed : ℕ → Bool)
+        (runs : RunsOver M.state graph.now.nodes inputs moves failed net.now.ports.items net.now.machines.items net.now.wires.items) →
+        (edge : ℕ) → runs.goes.reached.put edge ≡ runs.goes.reached.took edge ++ waiting_on net.now.wires.items edge }
 {}
 
 /// A network of a valid graph is never stuck, in whatever order its nodes had their turns: where no node can move a piece, and none starves for what

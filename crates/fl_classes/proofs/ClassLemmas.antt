@@ -9,6 +9,7 @@ use Rattle.std.proofs.lemmas.List.Folds.{list_any-append}
 use Rattle.std.proofs.lemmas.List.Sums.{sum_by-append}
 use Rattle.ps_lines.specs.Lines.{lines, is_closed, is_cutlist}
 use Rattle.ps_lines.specs.Numbers.{number_of}
+use Rattle.ps_lines.proofs.ClosedLemmas.{closed-append}
 use Rattle.ps_lines.proofs.LineLemmas.{lines_of_cut, is_closed-push}
 use Rattle.ps_lines.proofs.NumberLemmas.{number_of-decimal}
 use Rattle.ut_args.specs.Built.{is_built_of, is_built_grep, is_built_wc}
@@ -130,12 +131,6 @@ has_selected-cut : (pattern front back : List ℕ) → is_cutlist (front ∷ bac
 has_selected-cut pattern front back cut = ap (list_any (has_part pattern)) (lines_of_cut front back cut) ∙ list_any-append (has_part pattern) (lines front) (lines back)
 
 -- what is written of lines is closed
-pub closed-append : (front back : List ℕ) → is_closed front ≡ true → is_closed back ≡ true → is_closed (front ++ back) ≡ true
-closed-append [] back first second = second
-closed-append (byte ∷ []) [] first second = first
-closed-append (byte ∷ []) (next ∷ back) first second = second
-closed-append (byte ∷ next ∷ front) back first second = closed-append (next ∷ front) back first second
-
 kept-closed : (pattern line : List ℕ) → is_closed (kept pattern line) ≡ true
 kept-closed pattern line = by_part (has_part pattern line)
   where

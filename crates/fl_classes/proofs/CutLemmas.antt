@@ -6,7 +6,7 @@ use Rattle.std.proofs.lemmas.Bool.{true≢false, and_parts, cond-true, cond-fals
 use Rattle.ps_lines.specs.Lines.{is_closed, is_cutlist, is_empty}
 use Rattle.ut_args.specs.declared.invocations.Inv.{Inv}
 use Rattle.fl_classes.specs.Aggregates.{map_of, aggregate_from, aggregate_of}
-use Rattle.fl_classes.proofs.ClassLemmas.{closed-append}
+use Rattle.ps_lines.proofs.ClosedLemmas.{closed-append}
 use Rattle.fl_classes.specs.Laws.{IsStateless, IsParallel, KeepsClosed, MayBeCut}
 use Rattle.ut_args.specs.declared.classes.Seam.{Seam}
 use Rattle.ut_args.specs.declared.classes.Seam.TheVariants as seam

@@ -1,8 +1,9 @@
 -- Texts on edges from outside.
-use Rattle.std.proofs.Common.{◌≡◌, ℕ, ◌+◌, ◌-◌, ◌<◌, List, [], ◌∷◌, ◌++◌, Bool, true, false, not, ◌||◌, length, take, drop, get_or, ◌≤◌, slice_get, slice_set, Some, inl, inr, refl, ap, sym, subst, ◌∙◌, append_assoc, append-nil, arith}
+use Rattle.std.proofs.Common.{◌≡◌, ℕ, ◌+◌, ◌-◌, ◌<◌, List, [], ◌∷◌, ◌++◌, Bool, true, false, not, ◌||◌, min, length, take, drop, get_or, ◌≤◌, slice_get, slice_set, Some, inl, inr, refl, ap, sym, subst, ◌∙◌, append_assoc, append-nil, arith}
 use Rattle.std.specs.List.{list_all}
 use Rattle.std.proofs.lemmas.Bool.{cases_lt, ne_eqb, or_parts}
-use Rattle.std.proofs.lemmas.List.{get_or-set_same, get_or-set_other, set-get_or, take_rest, take-append-drop}
+use Rattle.fl_graph.specs.declared.pieces.TheConstants.{MAX_PIECE}
+use Rattle.std.proofs.lemmas.List.{length-take-le, get_or-set_same, get_or-set_other, set-get_or, take_rest, take-append-drop}
 use Rattle.std.proofs.lemmas.Option.{slice_get_read, slice_get_within}
 use Rattle.fl_graph.specs.Net.{gives}
 use Rattle.fl_graph.specs.declared.graphs.Cell.{Cell}
@@ -56,6 +57,13 @@ front_more pieces now bytes left text count now_is bytes_are some front = (
   ap (list_all is_plain) now_is ∙ all-more is_plain pieces (piece.Bytes bytes) front.2 refl,
   ap (list_all has_bytes) now_is ∙ all-more has_bytes pieces (piece.Bytes bytes) front.3 (some_bytes bytes some),
 )
+
+-- the first piece of what is left is as much of it as it has bytes
+pub front_size : (left bytes same : List ℕ) → bytes ≡ take (min (length left) MAX_PIECE) left → same ≡ bytes → bytes ≡ take (length same) left
+front_size left bytes same front is =
+    let few : min (length left) MAX_PIECE ≤ length left = omega arith in
+    let size : length same ≡ min (length left) MAX_PIECE = ap length (is ∙ front) ∙ length-take-le (min (length left) MAX_PIECE) left few in
+    front ∙ ap (λ (count : ℕ). take count left) (sym size)
 
 empty : (text : List ℕ) → length text ≡ 0 → text ≡ []
 empty [] none = refl

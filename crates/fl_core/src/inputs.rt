@@ -12,7 +12,7 @@ use crate::graph_nets::{edge_count, is_source, net_of};
 use crate::machines::NodeMachine;
 use crate::nets::Net;
 use crate::wires::Wire;
-use fl_graph::{Bytes, Graph, MAX_PIECE, Machine, Node, NodeKind, Piece};
+use fl_graph::{Graph, Machine, Node, NodeKind, Piece, first_piece};
 use ps_lines::Memory;
 use std::alloc::Global;
 
@@ -92,10 +92,9 @@ fn fill(alloc: Global, wire: &mut Wire, text: &[u8]) -> Result<(), Memory>
 {
     let mut left = text;
     while !left.is_empty() {
-        let count = left.len().min(MAX_PIECE);
-        let bytes = Vec::from_slice(alloc, &left[..count])?;
-        wire.push(Piece::Bytes(Bytes::new(bytes)))?;
-        left = &left[count..];
+        let bytes = first_piece(alloc, left)?;
+        left = &left[bytes.as_slice().len()..];
+        wire.push(Piece::Bytes(bytes))?;
     }
     wire.push(Piece::End)
 }

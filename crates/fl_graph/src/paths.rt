@@ -23,7 +23,7 @@ fn read_null(nodes: &[Node]) -> bool
 {
     for node in nodes {
         if let Some(path) = path_read(&node.kind) {
-            if is_null(path) {
+            if path.is_null_device() {
                 return true;
             }
         }
@@ -37,7 +37,7 @@ fn write_null(nodes: &[Node]) -> bool
 {
     for node in nodes {
         if let Some(path) = path_written(&node.kind) {
-            if is_null(path) {
+            if path.is_null_device() {
                 return true;
             }
         }
@@ -120,17 +120,5 @@ fn path_written(kind: &NodeKind) -> Option<&Path>
     match kind {
         NodeKind::TeeFile(path, _) | NodeKind::Sink(To::File(path, _)) => Some(path),
         _ => None,
-    }
-}
-
-/// Whether this is the path of the null device.
-#[tactic(auto, unfolding(ps_world::specs::Places::is_null_path))]
-fn is_null(path: &Path) -> bool
-    ensures { result ≡ is_null_path path.now }
-{
-    match path.parts.as_slice() {
-        [folder, name] => folder.as_slice() == b"dev".as_slice()
-            && name.as_slice() == b"null".as_slice(),
-        _ => false,
     }
 }

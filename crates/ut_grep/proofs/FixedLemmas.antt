@@ -8,7 +8,7 @@ use Rattle.std.proofs.lemmas.List.{take-append-drop, length-take-le}
 use Rattle.memchr.specs.Find.{OccursAt, Nowhere, FindsNeedle}
 use Rattle.memchr.proofs.lemmas.MatchLemmas.{OccursAt-split, OccursAt-from_part}
 use Rattle.ps_lines.specs.Lines.{lines, has_newline, is_closed, CutsLine}
-use Rattle.ps_lines.proofs.ClosedLemmas.{closed-plain}
+use Rattle.ps_lines.proofs.ClosedLemmas.{closed-back, closed-plain}
 use Rattle.ps_lines.proofs.LineLemmas.{lines-append, lines-line}
 use Rattle.ut_streams.specs.Streams.{CutsLastLine, Put, Wrote}
 use Rattle.ut_streams.proofs.StreamLemmas.{closed-rest, Wrote-at, Wrote-broken, Wrote-put, Wrote-trans}
@@ -149,12 +149,6 @@ CutsSelected-at pattern text before begun ended rest at is nowhere occurs first 
     }
 
 -- a closed text has a newline at or after each of its places
-closed-back : (front back : List ℕ) → is_closed (front ++ back) ≡ true → 0 < length back → is_closed back ≡ true
-closed-back [] back closed some = closed
-closed-back (byte ∷ []) [] closed some = absurd (omega arith)
-closed-back (byte ∷ []) (next ∷ back) closed some = closed
-closed-back (byte ∷ next ∷ front) back closed some = closed-back (next ∷ front) back closed some
-
 pub closed-goes_on : (text : List ℕ) (at : ℕ) → is_closed text ≡ true → at < length text → has_newline (drop at text) ≡ false → ⊥
 closed-goes_on text at closed low plain =
     let some : 0 < length (drop at text) = grind (arith, length-drop) in

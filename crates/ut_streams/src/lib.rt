@@ -8,7 +8,7 @@
 //! `Stream` is over bytes. A utility that works line by line is a `LineStream`, which `Lines` makes a `Stream`, and one that does
 //! each line by itself a `PerLine`, which `EachLine` makes a `LineStream`.
 //!
-//! `specs/Streams.antt` has the words.
+//! `specs/Streams.antt` has the words, and `specs/Utilities.antt` what a utility means for whole inputs.
 #![tactic(auto)]
 
 mod cuttings;

@@ -6,6 +6,7 @@ use Rattle.std.proofs.lemmas.List.FromFn.{length-range_with_len}
 use Rattle.ps_lines.specs.Lines.{is_cutlist}
 use Rattle.ps_world.specs.Paths.{Components}
 use Rattle.ut_args.specs.Built.{is_built_grep, is_built_wc}
+use Rattle.ut_args.specs.declared.classes.Seam.TheVariants as seam
 use Rattle.ut_args.specs.declared.invocations.GrepInv.{GrepInv}
 use Rattle.ut_args.specs.declared.invocations.WcInv.{WcInv}
 use Rattle.ut_args.specs.declared.invocations.Inv.{Inv}
@@ -23,7 +24,8 @@ use Rattle.fl_graph.proofs.NetLemmas.{run-append}
 use Rattle.fl_classes.specs.Aggregates.{map_of, aggregate_from, aggregate_of}
 use Rattle.fl_classes.specs.Parts.{slice, part_end, parts_from, parts_of}
 use Rattle.fl_classes.specs.Flow.{Placed, placed, placed_from, equation, no_texts, Write, ToOutput, writes_of, writes, to_output, to_file, selections, status_by, Outcome, outcome}
-use Rattle.fl_classes.proofs.ClassLemmas.{grep-map, grep-lines, grep-closed, wc-map, wc-parallel}
+use Rattle.fl_classes.specs.Utilities.{output_of}
+use Rattle.fl_classes.proofs.ClassLemmas.{grep-map, grep-lines, grep-closed, wc-map, wc-output, wc-parallel}
 use Rattle.fl_classes.proofs.CutLemmas.{over_lines, over_parts, maps-cut}
 use Rattle.fl_classes.proofs.PartLemmas.{parts_of-count, parts-joined, parts-cut}
 use Rattle.pash.specs.Pipeline.{pipeline_output}
@@ -110,10 +112,10 @@ module _ (grep : GrepInv) (wc : WcInv) (selects : is_built_grep grep.args ≡ tr
   pipeline-parts joins text =
       let parts : List (List ℕ) = parts_of text (suc joins) in
       let cut : is_cutlist parts ≡ true = parts-cut text (suc joins) (omega arith) in
-      let keeps = grep-closed grep selects in
+      let keeps = grep-closed grep in
       let selected : concat (map (map_of (inv.Grep grep)) parts) ≡ map_of (inv.Grep grep) text =
-      sym (over_lines (inv.Grep grep) (grep-lines grep selects) keeps.none parts cut) ∙ ap (map_of (inv.Grep grep)) (parts-joined text (suc joins) (omega arith)) in
-      over_parts (inv.Wc wc) (wc-parallel wc counts) (map_of (inv.Grep grep) (slice text (part_end text (suc joins) 0) (part_end text (suc joins) (0 + 1))))
+      sym (over_lines (inv.Grep grep) seam.Lines (grep-lines grep) parts cut) ∙ ap (map_of (inv.Grep grep)) (parts-joined text (suc joins) (omega arith)) in
+      over_parts (inv.Wc wc) (wc-parallel wc) (map_of (inv.Grep grep) (slice text (part_end text (suc joins) 0) (part_end text (suc joins) (0 + 1))))
       (map (map_of (inv.Grep grep)) (parts_from text (suc joins) (0 + 1) joins)) (maps-cut (inv.Grep grep) keeps parts cut)
       ∙ ap (map_of (inv.Wc wc)) selected ∙ counted text
 
@@ -126,10 +128,14 @@ module _ (grep : GrepInv) (wc : WcInv) (selects : is_built_grep grep.args ≡ tr
       split-writes (text ∷ []) (inv.Grep grep) (inv.Wc wc) (0 + 1) joins (store (0 ∷ []) (text ∷ []) no_texts) ∙ ap (λ text. ToOutput text ∷ []) (pipeline-parts joins text)
 
   -- both stages whole
+  piped : (text : List ℕ) → output_of (inv.Wc wc) (output_of (inv.Grep grep) (text ∷ []) ∷ []) ≡ pipeline_output (pattern_of grep.args.patterns) text
+  piped text =
+      wc-output wc counts (output_of (inv.Grep grep) (text ∷ [])) ∙ ap line_count ((grep-lines grep).whole text ∙ grep-map grep selects text)
+
   pub whole-writes : (file : Option Components) (text : List ℕ)
       → writes (whole_cells (source_kind file) (inv.Grep grep) (inv.Wc wc)) (source_texts file text) ≡ ToOutput (pipeline_output (pattern_of grep.args.patterns) (cat_text file text)) ∷ []
-  whole-writes None text = ap (λ text. ToOutput text ∷ []) (counted [])
-  whole-writes (Some path) text = ap (λ text. ToOutput text ∷ []) (counted text)
+  whole-writes None text = ap (λ text. ToOutput text ∷ []) (piped [])
+  whole-writes (Some path) text = ap (λ text. ToOutput text ∷ []) (piped text)
 
 -- what a graph leaves that writes one text, to the output
 abbrev left : List Write → ℕ → Outcome

@@ -104,23 +104,11 @@ fn file_at(place: &Place) -> Option<&Path>
 {
     match place {
         Place::File(path) => {
-            if is_null(path) {
+            if path.is_null_device() {
                 return None;
             }
             Some(path)
         }
         Place::Missing | Place::Makeable(_) | Place::Dir(_) | Place::Null => None,
-    }
-}
-
-/// Whether the path is that of the null device.
-#[tactic(auto, unfolding(ps_world::specs::Places::is_null_path))]
-fn is_null(path: &Path) -> bool
-    ensures { result ≡ is_null_path path.now }
-{
-    match path.parts.as_slice() {
-        [folder, name] => folder.as_slice() == b"dev".as_slice()
-            && name.as_slice() == b"null".as_slice(),
-        _ => false,
     }
 }

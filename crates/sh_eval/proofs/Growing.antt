@@ -27,7 +27,7 @@ use Rattle.sh_eval.specs.Shells.{inside}
 use Rattle.sh_eval.specs.Lines.{unset_line, arithmetic_line, bad_usage}
 use Rattle.sh_eval.specs.declared.outcomes.Position.{Position}
 use Rattle.sh_eval.specs.declared.outcomes.Position.TheVariants as position
-use Rattle.sh_eval.specs.Commands.{staged, goes_on_behind, joined_by, negated, apart, subshell, its_status, first_stage, middle_stage, last_stage, substitution, handed_on, reading_piped, unchanged, with_text, some_command, chosen, succeeded, noted, noted_by, tested_by, of_body, turn, turn_used, turns, rounds, is_over, goes_round, left_by, while_holds, for_fields, entered, most_turns, set_to, none_substituted, failed}
+use Rattle.sh_eval.specs.Commands.{staged, goes_on_behind, joined_by, negated, apart, subshell, its_status, first_stage, middle_stage, last_stage, substitution, handed_on, reading_piped, unchanged, with_text, some_command, chosen, succeeded, noted, tested_by, of_body, turn, turn_used, turns, rounds, is_over, goes_round, left_by, while_holds, for_fields, entered, most_turns, set_to, none_substituted, failed}
 use Rattle.sh_eval.specs.Expanding.{ends_told, stops_at, goes_on_with, with_variables, given_by, with_fields, with_targets, assigning}
 use Rattle.sh_eval.specs.Expanding.{with_text as with_text_of}
 use Rattle.sh_eval.specs.Targets.{Target}
@@ -146,7 +146,7 @@ adds-last_stage means adds = adds-apart reading_piped (λ old new. reading old.s
 pub adds-substitution : (means : Means) → Adds means → Adds (substitution means)
 adds-substitution means adds = adds-apart piping (λ old new. unpiped old.streams.to new) with_text means same-turns (λ old new. same-turns new) adds
 
-adds-some_command : (is_some : Bool) (means : Means) → Adds means → Adds (some_command is_some means)
+pub adds-some_command : (is_some : Bool) (means : Means) → Adds means → Adds (some_command is_some means)
 adds-some_command false means adds state = grows-self state
 adds-some_command true means adds state = adds state
 
@@ -160,17 +160,10 @@ adds-chosen : (condition body otherwise : Means) → Adds condition → Adds bod
 adds-chosen condition body otherwise adds_condition adds_body adds_otherwise =
     adds-after condition (λ tested. if succeeded tested then body tested else otherwise tested) adds_condition (adds-choice succeeded body otherwise adds_body adds_otherwise)
 
-grows-noted : (start : State) (how : Flow) (state : State) → Grows start state → Grows start (noted_by how state)
-grows-noted start flow.On state grows = grows
-grows-noted start (flow.Break count) state grows = grows
-grows-noted start (flow.Continue count) state grows = grows
-grows-noted start flow.Exit state grows = grows
-grows-noted start (flow.Refused cause) state grows = grows
+pub adds-noted : (body : Means) → Adds body → Adds (λ state. noted (body state))
+adds-noted body adds state = adds state
 
-adds-noted : (body : Means) → Adds body → Adds (λ state. noted (body state))
-adds-noted body adds state = grows-noted state (body state).flow (body state).state (adds state)
-
-adds-tested : (holds : State → Bool) (body : Means) → Adds body → (how : Flow) → Adds (tested_by holds body how)
+pub adds-tested : (holds : State → Bool) (body : Means) → Adds body → (how : Flow) → Adds (tested_by holds body how)
 adds-tested holds body adds flow.On state =
     adds-choice holds (λ state. noted (body state)) (λ state. ends (flow.Break 1) (of_body state)) (adds-noted body adds) (λ state. grows-self state) state
 adds-tested holds body adds (flow.Break count) state = grows-self state
@@ -182,22 +175,22 @@ adds-tested holds body adds (flow.Continue count) state = by_count (nat_le count
 adds-tested holds body adds flow.Exit state = grows-self state
 adds-tested holds body adds (flow.Refused cause) state = grows-self state
 
-adds-turn : (holds : State → Bool) (condition body : Means) → Adds condition → Adds body → Adds (turn holds condition body)
+pub adds-turn : (holds : State → Bool) (condition body : Means) → Adds condition → Adds body → Adds (turn holds condition body)
 adds-turn holds condition body adds_condition adds_body state =
     let tested = condition state in
     grows-trans state tested.state (tested_by holds body tested.flow tested.state).state (adds_condition state) (adds-tested holds body adds_body tested.flow tested.state)
 
-grows-turn_used : (state : State) → Grows state (in_session turn_used state)
+pub grows-turn_used : (state : State) → Grows state (in_session turn_used state)
 grows-turn_used state = record { output = begins-self state.world.output; errors = begins-self state.world.errors; turns = omega arith }
 
 -- a round, and what comes behind it where it doesn't end the loop
-adds-round : (start : State) (left : Ends) (again : Means) → Grows start left.state → Adds again
+pub adds-round : (start : State) (left : Ends) (again : Means) → Grows start left.state → Adds again
     → Grows start (if goes_round left.flow then again left.state else ends (left_by left.flow) left.state).state
 adds-round start left again grows adds =
     grows-trans start left.state (if goes_round left.flow then again left.state else ends (left_by left.flow) left.state).state grows
     (adds-choice (λ state. goes_round left.flow) again (ends (left_by left.flow)) adds (λ state. grows-self state) left.state)
 
-adds-turns : (more : ℕ) (round : Means) → Adds round → Adds (turns more round)
+pub adds-turns : (more : ℕ) (round : Means) → Adds round → Adds (turns more round)
 adds-turns zero round adds state = grows-self state
 adds-turns (suc more) round adds state = by_over (is_over state) (adds-turns more round adds)
   where
@@ -210,7 +203,7 @@ adds-turns (suc more) round adds state = by_over (is_over state) (adds-turns mor
     by_over false again =
         adds-round state left (turns more round) (grows-trans state (in_session turn_used state) left.state (grows-turn_used state) (adds (in_session turn_used state))) again
 
-adds-rounds : (name : List ℕ) (body : Means) → Adds body → (fields : List (List ℕ)) → Adds (rounds (set_to name) body fields)
+pub adds-rounds : (name : List ℕ) (body : Means) → Adds body → (fields : List (List ℕ)) → Adds (rounds (set_to name) body fields)
 adds-rounds name body adds [] state = grows-self state
 adds-rounds name body adds (field ∷ fields) state = by_over (is_over state) (adds-rounds name body adds fields)
   where
@@ -224,12 +217,12 @@ adds-rounds name body adds (field ∷ fields) state = by_over (is_over state) (a
         adds-round state left (rounds (set_to name) body fields)
         (grows-trans state (in_session turn_used state) left.state (grows-turn_used state) (adds-noted body adds (set_to name field (in_session turn_used state)))) again
 
-adds-while_holds : (holds : State → Bool) (condition body : Means) → Adds condition → Adds body → Adds (while_holds holds condition body)
+pub adds-while_holds : (holds : State → Bool) (condition body : Means) → Adds condition → Adds body → Adds (while_holds holds condition body)
 adds-while_holds holds condition body adds_condition adds_body state =
     let first = in_shell entered state in
     adds-turns (most_turns - first.session.turns) (turn holds condition body) (adds-turn holds condition body adds_condition adds_body) first
 
-adds-for_fields : (name : List ℕ) (body : Means) → Adds body → (fields : List (List ℕ)) → Adds (for_fields name body fields)
+pub adds-for_fields : (name : List ℕ) (body : Means) → Adds body → (fields : List (List ℕ)) → Adds (for_fields name body fields)
 adds-for_fields name body adds fields state = adds-rounds name body adds fields (in_shell entered state)
 
 -- WORDS
@@ -239,7 +232,7 @@ adds-tells line state = grows-write state.session.streams.errors_to line state
 adds-ends_told : (line : List ℕ) → Adds (ends_told line)
 adds-ends_told line state = grows-write state.session.streams.errors_to line state
 
-adds-stops_at : (why : ExpandFault) → Adds (stops_at why)
+pub adds-stops_at : (why : ExpandFault) → Adds (stops_at why)
 adds-stops_at (fault.Unset name text) state = adds-ends_told (unset_line name text) state
 adds-stops_at (fault.Arith why) state = adds-ends_told (arithmetic_line why) state
 adds-stops_at fault.ArgsTooMany state = grows-self state
@@ -251,11 +244,11 @@ adds-goes_on_with next adds (Ok meaning, after) state = adds meaning (with_varia
 adds-goes_on_with next adds (Err why, after) state = adds-stops_at why (with_variables after state)
 
 module _ (expansions : Expansions) where
-  adds-with_fields : (words : List WordTree) (next : List (List ℕ) → Means) → ((fields : List (List ℕ)) → Adds (next fields)) → Adds (with_fields expansions words next)
+  pub adds-with_fields : (words : List WordTree) (next : List (List ℕ) → Means) → ((fields : List (List ℕ)) → Adds (next fields)) → Adds (with_fields expansions words next)
   adds-with_fields list next adds state =
       adds-goes_on_with next adds (told_fields (expansions.fields state.world.files state.world.home (given_by state.shell) state.shell.variables list)) state
 
-  adds-with_text : (word : WordTree) (next : List ℕ → Means) → ((text : List ℕ) → Adds (next text)) → Adds (with_text_of expansions word next)
+  pub adds-with_text : (word : WordTree) (next : List ℕ → Means) → ((text : List ℕ) → Adds (next text)) → Adds (with_text_of expansions word next)
   adds-with_text word next adds state = adds-goes_on_with next adds (told_of (expansions.text (given_by state.shell) state.shell.variables word)) state
 
   adds-with_targets : (redirs : List RedirTree) (next : List Target → Means) → ((targets : List Target) → Adds (next targets)) → Adds (with_targets expansions redirs next)
@@ -265,7 +258,7 @@ module _ (expansions : Expansions) where
       (λ text. with_targets expansions redirs (λ targets. next (record { number = redir.number; how = redir.how; text = text } ∷ targets)))
       (λ text. adds-with_targets redirs (λ targets. next (record { number = redir.number; how = redir.how; text = text } ∷ targets)) (λ targets. adds (record { number = redir.number; how = redir.how; text = text } ∷ targets)))
 
-  adds-assigning : (assigns : List (List ℕ × WordTree)) (next : Means) → Adds next → Adds (assigning expansions assigns next)
+  pub adds-assigning : (assigns : List (List ℕ × WordTree)) (next : Means) → Adds next → Adds (assigning expansions assigns next)
   adds-assigning [] next adds = adds
   adds-assigning (first ∷ rest) next adds =
       adds-with_text first.1 (λ text state. assigning expansions rest next (set_to first.0 text state)) (λ text state. adds-assigning rest next adds (set_to first.0 text state))
@@ -505,7 +498,7 @@ module _ (expansions : Expansions) where
         (adds-by_patterns name called assigns targets (pages.patterns called.command)) (λ state. grows-self state) state
     adds-checked assigns targets (builtin is_special means) adds state = adds-done is_special assigns (λ state. []) targets means adds state
 
-    adds-runs_simple : (assigns : List (List ℕ × WordTree)) (words : List WordTree) (redirs : List RedirTree) → Adds (runs_simple expansions pages assigns words redirs)
+    pub adds-runs_simple : (assigns : List (List ℕ × WordTree)) (words : List WordTree) (redirs : List RedirTree) → Adds (runs_simple expansions pages assigns words redirs)
     adds-runs_simple assigns list redirs =
         adds-with_fields expansions list (λ fields. with_targets expansions redirs (λ targets. checked expansions pages assigns targets (asked_by fields)))
         (λ fields. adds-with_targets expansions redirs (λ targets. checked expansions pages assigns targets (asked_by fields)) (λ targets. adds-checked assigns targets (asked_by fields) (asked-adds fields)))
@@ -516,7 +509,7 @@ adds-holding [] means adds state = adds state
 adds-holding (first ∷ uses) means adds state = adds (holding (first ∷ uses) state)
 
 module _ (expansions : Expansions) (pages : Pages) where
-  adds-held_in : (redirs : List RedirTree) (means : Means) → Adds means → Adds (held_in expansions pages redirs means)
+  pub adds-held_in : (redirs : List RedirTree) (means : Means) → Adds means → Adds (held_in expansions pages redirs means)
   adds-held_in redirs means adds =
       adds-with_targets expansions redirs
       (λ targets state. where_free (uses_of state targets) (in_redirections flow.On targets (λ inner. means (holding (uses_of state targets) inner))) state)
@@ -575,34 +568,34 @@ module _ (expansions : Expansions) (pages : Pages) where
         tail-adds behind (in_means expansions pages fields (for_fields name (list_means expansions pages body)))
         (in-adds fields (for_fields name (list_means expansions pages body)) (adds-for_fields name (list_means expansions pages body) (list-adds body))) state
 
-    branches-adds : (tree : BranchTrees) (otherwise : Means) → Adds otherwise → Adds (branches_mean expansions pages tree otherwise)
+    pub branches-adds : (tree : BranchTrees) (otherwise : Means) → Adds otherwise → Adds (branches_mean expansions pages tree otherwise)
     branches-adds no_branch otherwise adds state = adds state
     branches-adds (branch condition body rest) otherwise adds state =
         adds-chosen (list_means expansions pages condition) (list_means expansions pages body) (branches_mean expansions pages rest otherwise)
         (list-adds condition) (list-adds body) (branches-adds rest otherwise adds) state
 
-    else-adds : (tree : ElseTree) → Adds (else_means expansions pages tree)
+    pub else-adds : (tree : ElseTree) → Adds (else_means expansions pages tree)
     else-adds no_else state = grows-self state
     else-adds (else_list list) state = list-adds list state
 
-    simple-adds : (tree : SimpleTree) → Adds (simple_means expansions pages tree)
+    pub simple-adds : (tree : SimpleTree) → Adds (simple_means expansions pages tree)
     simple-adds (simple_command assigns fields redirs subs) state =
         adds-behind (subs_mean expansions pages subs) (runs_simple expansions pages assigns fields redirs) (subs-adds subs)
         (adds-runs_simple expansions pages assigns fields redirs) state
 
-    in-adds : (tree : InTree) (loop : List (List ℕ) → Means) → ((fields : List (List ℕ)) → Adds (loop fields)) → Adds (in_means expansions pages tree loop)
+    pub in-adds : (tree : InTree) (loop : List (List ℕ) → Means) → ((fields : List (List ℕ)) → Adds (loop fields)) → Adds (in_means expansions pages tree loop)
     in-adds no_in loop adds state = adds state.shell.arguments state
     in-adds (in_words list) loop adds state = words-adds list loop adds state
 
-    words-adds : (tree : WordsTree) (loop : List (List ℕ) → Means) → ((fields : List (List ℕ)) → Adds (loop fields)) → Adds (words_mean expansions pages tree loop)
+    pub words-adds : (tree : WordsTree) (loop : List (List ℕ) → Means) → ((fields : List (List ℕ)) → Adds (loop fields)) → Adds (words_mean expansions pages tree loop)
     words-adds (words list subs) loop adds state =
         adds-behind (subs_mean expansions pages subs) (with_fields expansions list loop) (subs-adds subs) (adds-with_fields expansions list loop adds) state
 
-    tail-adds : (tree : TailTree) (means : Means) → Adds means → Adds (tail_means expansions pages tree means)
+    pub tail-adds : (tree : TailTree) (means : Means) → Adds means → Adds (tail_means expansions pages tree means)
     tail-adds (tail redirs subs) means adds state =
         adds-behind (subs_mean expansions pages subs) (held_in expansions pages redirs means) (subs-adds subs) (adds-held_in redirs means adds) state
 
-    subs-adds : (tree : SubTrees) → Adds (subs_mean expansions pages tree)
+    pub subs-adds : (tree : SubTrees) → Adds (subs_mean expansions pages tree)
     subs-adds no_sub state = grows-self state
     subs-adds (sub list rest) state =
         adds-after (substitution (some_command (has_item list) (list_means expansions pages list))) (subs_mean expansions pages rest)

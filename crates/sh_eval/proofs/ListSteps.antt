@@ -28,11 +28,11 @@ use Rattle.sh_eval.specs.States.{State, Ends, Means, ends, on, after, followed_b
 use Rattle.sh_eval.specs.declared.outcomes.Position.{Position}
 use Rattle.sh_eval.specs.Commands.{apart, settled, negated, negated_status, joined_by, goes_on_behind, first_stage, last_stage, staged, position_at, none_substituted, subshell}
 use Rattle.sh_eval.specs.Growth.{Adds}
-use Rattle.sh_eval.specs.Contract.{Seen, Faults, Point, point_of, Base, Has, Comes, HasCause, IsGone, goes_on, settled_how, Meaning, Evaluates}
+use Rattle.sh_eval.specs.Contract.{Seen, Faults, Point, point_of, Base, Has, Comes, HasCause, IsGone, Keeps, goes_on, settled_how, Meaning, Evaluates}
 use Rattle.sh_eval.specs.Meaning.{list_means, and_or_means, joined_means, pipeline_means, stages_means, later_stages_mean, command_means, tail_means}
 use Rattle.sh_eval.specs.Table.{pages}
 use Rattle.sh_eval.proofs.Growing.{list-adds, joined-adds, stages-adds, later-adds, adds-negated}
-use Rattle.sh_eval.proofs.Steps.{followed, stopped, nothing, wanted, no-fewer}
+use Rattle.sh_eval.proofs.Steps.{followed, stopped, nothing, wanted, no-fewer, held-none}
 use Rattle.ps_world.proofs.TreeStateLemmas.{balanced-none}
 use Rattle.std.proofs.lemmas.Bool.{cond-true, cond-false, eq-eqb}
 use Rattle.std.proofs.lemmas.Bool.{ne_eqb}
@@ -93,12 +93,12 @@ pipeline-stopped it stages old new came same is found =
     (stopped (λ expansions. stages_means expansions pages (stages_tree it.stages.items)) (λ expansions. negated it.negated) old new came is (λ expansions. adds-negated it.negated) first)
 
 -- the meaning hangs on the shell alone
-meant : (first second : Meaning) (old new : Point) (came : How) → ((expansions : Expansions) (state : State) → old.shell ≡ state.shell → first expansions state ≡ second expansions state)
+pub meant : (first second : Meaning) (old new : Point) (came : How) → ((expansions : Expansions) (state : State) → old.shell ≡ state.shell → first expansions state ≡ second expansions state)
     → Evaluates first old came new → Evaluates second old came new
 meant first second old new came same one =
     record {
       comes = λ expansions are base state has. subst (λ (left : Ends). Comes base came new left) (same expansions state has.shell) (one.comes expansions are base state has);
-      whole = one.whole;
+      keeps = one.keeps;
       turns = one.turns;
       later = one.later;
       cause = one.cause;
@@ -168,7 +168,7 @@ pipeline-followed it commands old mid came same is found shell turned =
           seen = has.seen;
         };
       };
-      whole = λ ended held. held;
+      keeps = λ ended. record { whole = λ held. held; files = held-none mid.tree.held; output = refl; errors = refl };
       turns = omega arith;
       later = no-fewer mid.faults;
       cause = refl;
@@ -278,6 +278,11 @@ cause-settled how.WriteFault old new cause = cause
 cause-settled how.TreeFault old new cause = cause
 cause-settled how.Memory old new cause = cause
 
+-- what is written goes where it went
+pub record SameOutputs (old new : Session) : Type 0 where
+  pub output : new.streams.to ≡ old.streams.to
+  pub errors : new.streams.errors_to ≡ old.streams.errors_to
+
 module _ (means : Meaning) (enter : Session → Session) (leave : Session → Session → Session) (takes_over : Shell → Shell → Session → Shell) where
   inner_has : (base : Base) (shell : Shell) (session : Session) (tree : TreeState) (seen : Seen) (faults : Faults) (state : State) → Has base (point_of shell session tree seen faults) state
       → Has base (point_of (inside shell) (enter session) tree seen faults) (record { shell = inside state.shell; session = enter state.session; world = state.world })
@@ -304,12 +309,20 @@ module _ (means : Meaning) (enter : Session → Session) (leave : Session → Se
   outer_comes base shell session state how.TreeFault at shell_is session_is expansions behind = behind
   outer_comes base shell session state how.Memory at shell_is session_is expansions behind = behind
 
+  outer_keeps : (session : Session) (at : Point) (tree : TreeState) (seen : Seen) (faults : Faults) (shell : Shell) → ((old new : Session) → SameOutputs (enter old) new → SameOutputs old (leave old new))
+      → Keeps (point_of (inside shell) (enter session) tree seen faults) at
+      → Keeps (point_of shell session tree seen faults) (point_of (takes_over shell at.shell at.session) (leave session at.session) at.tree at.seen at.faults)
+  outer_keeps session at tree seen faults shell back inner =
+      let outputs = back session at.session (record { output = inner.output; errors = inner.errors }) in
+      record { whole = inner.whole; files = inner.files; output = outputs.output; errors = outputs.errors }
+
   pub within : (shell inner shell' : Shell) (session mid session' : Session) (tree : TreeState) (seen : Seen) (faults : Faults) (came last : How) (at : Point)
       → inner ≡ inside shell → mid ≡ enter session → shell' ≡ takes_over shell at.shell at.session → session' ≡ leave session at.session → last ≡ settled_how came
       → ((session : Session) → session.turns ≤ (enter session).turns) → ((old new : Session) → new.turns ≤ (leave old new).turns)
+      → ((old new : Session) → SameOutputs (enter old) new → SameOutputs old (leave old new))
       → Evaluates means (point_of inner mid tree seen faults) came at
       → Evaluates (λ expansions. apart enter leave takes_over (means expansions)) (point_of shell session tree seen faults) last (point_of shell' session' at.tree at.seen at.faults)
-  within shell inner shell' session mid session' tree seen faults came last at inner_is mid_is shell_is session_is last_is no_fewer_in no_fewer_out one =
+  within shell inner shell' session mid session' tree seen faults came last at inner_is mid_is shell_is session_is last_is no_fewer_in no_fewer_out same_outputs one =
       let entered : Evaluates means (point_of (inside shell) (enter session) tree seen faults) came at =
       subst (λ (it : Session). Evaluates means (point_of (inside shell) it tree seen faults) came at) mid_is (subst (λ (it : Shell). Evaluates means (point_of it mid tree seen faults) came at) inner_is one) in
       let turns_in = no_fewer_in session in
@@ -321,7 +334,7 @@ module _ (means : Meaning) (enter : Session → Session) (leave : Session → Se
         comes = λ expansions are base state has.
             outer_comes base shell session state came at has.shell has.session expansions
             (entered.comes expansions are base (record { shell = inside state.shell; session = enter state.session; world = state.world }) (inner_has base shell session tree seen faults state has));
-        whole = λ gone held. entered.whole (gone-settled came gone) held;
+        keeps = λ gone. outer_keeps session at tree seen faults shell same_outputs (entered.keeps (gone-settled came gone));
         turns = omega arith;
         later = entered.later;
         cause = cause-settled came faults at.faults entered.cause;
@@ -336,32 +349,4 @@ pub wanted-at : (means : Meaning) (shell : Shell) (session session' : Session) (
     → Evaluates means (point_of shell session tree seen faults) how.Memory (point_of shell session' tree seen faults)
 wanted-at means shell session session' tree seen faults turns adds =
     let one = wanted means (point_of shell session tree seen faults) adds in
-    record { comes = λ expansions are base state has. one.comes expansions are base state has; whole = λ gone held. held; turns = turns; later = no-fewer faults; cause = tt; lent = balanced-none tree }
-
--- COMPOUND COMMANDS. One without redirections is what is in it, behind the loss of the last command's substitutions
-pub bare-tail : (means : Meaning) (it : Tail) (shell inner : Shell) (session : Session) (tree : TreeState) (seen : Seen) (faults : Faults) (came : How) (new : Point)
-    → (out-Tail it).redirs.items ≡ [] → (out-Tail it).subs.items ≡ [] → inner ≡ none_substituted shell → Evaluates means (point_of inner session tree seen faults) came new
-    → Evaluates (λ expansions. tail_means expansions pages (tail_tree it) (means expansions)) (point_of shell session tree seen faults) came new
-bare-tail means it shell inner session tree seen faults came new no_redir no_sub begun found =
-    let one = subst (λ (it : Shell). Evaluates means (point_of it session tree seen faults) came new) begun found in
-    let bare : tail_tree it ≡ tail [] no_sub_tree = tail_tree-is it ∙ ap2 tail (map redir_tree (out-Tail it).redirs.items) [] (subs_tree (out-Tail it).subs.items) no_sub_tree (ap (map redir_tree) no_redir) (ap subs_tree no_sub) in
-    rw bare
-    (record {
-      comes = λ expansions are base state has. one.comes expansions are base (in_shell none_substituted state)
-          (record { shell = ap none_substituted has.shell; session = has.session; home = has.home; held = has.held; seen = has.seen });
-      whole = one.whole;
-      turns = one.turns;
-      later = one.later;
-      cause = one.cause;
-      lent = one.lent;
-    })
-
-pub bare-subshell : (list : declared_list.List) (it : Tail) (old new : Point) (came : How)
-    → Evaluates (λ expansions. tail_means expansions pages (tail_tree it) (subshell (list_means expansions pages (list_tree list)))) old came new
-    → Evaluates (λ expansions. command_means expansions pages (command_tree (command.Subshell list it))) old came new
-bare-subshell list it old new came one = rw (command_tree-subshell list it) one
-
-pub bare-group : (list : declared_list.List) (it : Tail) (old new : Point) (came : How)
-    → Evaluates (λ expansions. tail_means expansions pages (tail_tree it) (list_means expansions pages (list_tree list))) old came new
-    → Evaluates (λ expansions. command_means expansions pages (command_tree (command.Group list it))) old came new
-bare-group list it old new came one = rw (command_tree-group list it) one
+    record { comes = λ expansions are base state has. one.comes expansions are base state has; keeps = λ gone. absurd gone; turns = turns; later = no-fewer faults; cause = tt; lent = balanced-none tree }

@@ -101,12 +101,12 @@ staged position.Middle means state = middle_stage means state
 staged position.Last means state = last_stage means state
 
 -- COMMAND SUBSTITUTIONS (XCU 2.6.3): the output of a subshell without the newlines at its end
+abbrev pub with_kept : List ℕ → ℕ → Shell → Shell
+with_kept text status shell =
+    record shell { substituted = shell.substituted ++ without_newlines text ∷ []; substitution_status = status }
+
 abbrev pub with_text : Shell → Shell → Session → Shell
-with_text shell inner session =
-    record shell {
-      substituted = shell.substituted ++ without_newlines (innermost session) ∷ [];
-      substitution_status = inner.status;
-    }
+with_text shell inner session = with_kept (innermost session) inner.status shell
 
 abbrev pub substitution : Means → Means
 substitution means state = apart piping (λ old new. unpiped old.streams.to new) with_text means state
@@ -160,15 +160,15 @@ turn_used session = record session { turns = session.turns + 1 }
 abbrev pub body_ran : Shell → Shell
 body_ran shell = record shell { body_status = shell.status }
 
-abbrev pub noted_by : Flow → State → State
-noted_by flow.On state = in_shell body_ran state
-noted_by (flow.Break count) state = in_shell body_ran state
-noted_by (flow.Continue count) state = in_shell body_ran state
-noted_by flow.Exit state = state
-noted_by (flow.Refused cause) state = state
+abbrev pub kept_by : Flow → Shell → Shell
+kept_by flow.On shell = body_ran shell
+kept_by (flow.Break count) shell = body_ran shell
+kept_by (flow.Continue count) shell = body_ran shell
+kept_by flow.Exit shell = shell
+kept_by (flow.Refused cause) shell = shell
 
 abbrev pub noted : Ends → Ends
-noted left = ends left.flow (noted_by left.flow left.state)
+noted left = ends left.flow (in_shell (kept_by left.flow) left.state)
 
 -- the status of the loop: that of its last body
 abbrev pub of_body : State → State
@@ -201,6 +201,10 @@ turns (suc more) round state =
     if is_over state then refused refusal.TurnsOver state
     else (let left = round (in_session turn_used state) in if goes_round left.flow then turns more round left.state else ends (left_by left.flow) left.state)
 
+-- as many as the run has left
+abbrev pub all_turns : Means → Means
+all_turns round state = turns (most_turns - state.session.turns) round state
+
 -- rounds of a `for`, one a field, which the name has in it
 abbrev pub rounds : (List ℕ → State → State) → Means → List (List ℕ) → Means
 rounds named body [] state = on (of_body state)
@@ -212,15 +216,15 @@ rounds named body (field ∷ fields) state =
 abbrev pub entered : Shell → Shell
 entered shell = record shell { loops = shell.loops + 1; body_status = 0 }
 
-abbrev pub left_loop : Shell → Ends → Ends
-left_loop old left = ends left.flow (in_shell (λ shell. record shell { loops = old.loops; body_status = old.body_status }) left.state)
+abbrev pub restored : Shell → Shell → Shell
+restored old shell = record shell { loops = old.loops; body_status = old.body_status }
 
 abbrev pub in_loop : Means → Means
-in_loop means state = left_loop state.shell (means (in_shell entered state))
+in_loop means state = let left = means (in_shell entered state) in ends left.flow (in_shell (restored state.shell) left.state)
 
 -- `while` and `until`
 abbrev pub while_holds : (State → Bool) → Means → Means → Means
-while_holds holds condition body state = in_loop (λ inner. turns (most_turns - inner.session.turns) (turn holds condition body) inner) state
+while_holds holds condition body state = in_loop (all_turns (turn holds condition body)) state
 
 -- `for`
 abbrev pub for_fields : List ℕ → Means → List (List ℕ) → Means

@@ -1,10 +1,11 @@
 -- What the evaluation of a command says of the state before it and of that behind it: the state that it means, or where it stopped, that
 -- output and errors have grown by what is meant up to there.
-use Rattle.std.specs.Prelude.{◌≡◌, ◌⊎◌, ℕ, ◌≤◌, List, Bool, true, false, Option, Some, IfSome}
+use Rattle.std.specs.Prelude.{◌≡◌, ◌⊎◌, ℕ, ◌≤◌, List, Bool, true, false, Option, Some, None, IfSome}
+use Rattle.ps_world.specs.Paths.{Components}
 use Rattle.ps_world.specs.Counts.{Rose}
 use Rattle.ps_world.specs.Told.{then_bytes, GrewByPrefix}
 use Rattle.ps_world.specs.TreeState.{TreeState, Balanced}
-use Rattle.ps_world.specs.Files.{NoWriterOut}
+use Rattle.ps_world.specs.Files.{Files, NoWriterOut, IsFileAt}
 use Rattle.sh_expand.specs.Outcomes.{Expansions, AreExpansions}
 use Rattle.sh_eval.specs.declared.flows.Flow.{Flow}
 use Rattle.sh_eval.specs.declared.flows.Flow.TheVariants as flow
@@ -12,8 +13,12 @@ use Rattle.sh_eval.specs.declared.outcomes.How.{How}
 use Rattle.sh_eval.specs.declared.outcomes.How.TheVariants as how
 use Rattle.sh_eval.specs.declared.session.Session.{Session}
 use Rattle.sh_eval.specs.declared.shell.Shell.{Shell}
+use Rattle.sh_eval.specs.declared.streams.Streams.{Streams}
+use Rattle.sh_eval.specs.declared.streams.To.{To}
+use Rattle.sh_eval.specs.declared.streams.To.TheVariants as to
 use Rattle.sh_eval.specs.States.{World, State, Ends, Means}
 use Rattle.sh_eval.specs.Commands.{settled}
+use Rattle.sh_eval.specs.Growth.{Adds}
 
 -- what the objects of the outside tell: what is left of the input, and what output and errors have taken
 pub record Seen : Type 0 where
@@ -101,6 +106,46 @@ IsGone how.WriteFault = ⊥
 IsGone how.TreeFault = ⊥
 IsGone how.Memory = ⊥
 
+-- what a descriptor writes to can be written: a file is there
+abbrev pub CanTake : Files → To → Type 0
+CanTake files to.Output = Unit {0}
+CanTake files to.Errors = Unit {0}
+CanTake files (to.Pipe number) = Unit {0}
+CanTake files (to.File path) = IsFileAt files path
+CanTake files to.Null = Unit {0}
+
+-- no writer is out, and what the descriptors write to is there
+pub record Stands (streams : Streams) (files : Files) : Type 0 where
+  pub whole : NoWriterOut files
+  pub output : CanTake files streams.to
+  pub errors : CanTake files streams.errors_to
+
+-- a command can run here, where the tree tells its files
+abbrev pub IsSound : Session → TreeState → Type 0
+IsSound session tree = IfSome tree.held (Stands session.streams)
+
+-- every file is a file still
+pub record Stay (old new : Files) : Type 0 where
+  pub files : (path : Components) → IsFileAt old path → IsFileAt new path
+
+-- what is told now, where these were
+pub record StayIn (held : Option Files) (old : Files) : Type 0 where
+  pub new : Files
+  pub told : held ≡ Some new
+  pub stay : Stay old new
+
+-- they are told still, or still not
+abbrev pub HeldStays : Option Files → Option Files → Type 0
+HeldStays None new = new ≡ None
+HeldStays (Some old) new = StayIn new old
+
+-- what a command leaves to the next: no writer is out, files are files still, and what is written goes where it went
+pub record Keeps (old new : Point) : Type 0 where
+  pub whole : IfSome old.tree.held NoWriterOut → IfSome new.tree.held NoWriterOut
+  pub files : HeldStays old.tree.held new.tree.held
+  pub output : new.session.streams.to ≡ old.session.streams.to
+  pub errors : new.session.streams.errors_to ≡ old.session.streams.errors_to
+
 -- the shell goes on with the next command
 abbrev pub goes_on_by : Flow → Bool
 goes_on_by flow.On = true
@@ -109,20 +154,36 @@ goes_on_by (flow.Continue count) = false
 goes_on_by flow.Exit = false
 goes_on_by (flow.Refused cause) = false
 
+-- it is over, and goes on in a way that passes the test
+abbrev pub gone_by : (Flow → Bool) → How → Bool
+gone_by test (how.Gone came) = test came
+gone_by test how.ReadFault = false
+gone_by test how.WriteFault = false
+gone_by test how.TreeFault = false
+gone_by test how.Memory = false
+
 abbrev pub goes_on : How → Bool
-goes_on (how.Gone came) = goes_on_by came
-goes_on how.ReadFault = false
-goes_on how.WriteFault = false
-goes_on how.TreeFault = false
-goes_on how.Memory = false
+goes_on came = gone_by goes_on_by came
+
+-- where it is over, it goes on otherwise
+abbrev pub going : (Flow → Flow) → How → How
+going change (how.Gone came) = how.Gone (change came)
+going change how.ReadFault = how.ReadFault
+going change how.WriteFault = how.WriteFault
+going change how.TreeFault = how.TreeFault
+going change how.Memory = how.Memory
 
 -- how the shell around goes on behind a subshell
 abbrev pub settled_how : How → How
-settled_how (how.Gone came) = how.Gone (settled came)
-settled_how how.ReadFault = how.ReadFault
-settled_how how.WriteFault = how.WriteFault
-settled_how how.TreeFault = how.TreeFault
-settled_how how.Memory = how.Memory
+settled_how came = going settled came
+
+-- where it is over, the shell is changed by how it goes on
+abbrev pub changed_by : (Flow → Shell → Shell) → How → Shell → Shell
+changed_by change (how.Gone came) shell = change came shell
+changed_by change how.ReadFault shell = shell
+changed_by change how.WriteFault shell = shell
+changed_by change how.TreeFault shell = shell
+changed_by change how.Memory shell = shell
 
 -- the meaning of a command, where these are the expansions of words
 abbrev pub Meaning : Type 0
@@ -131,11 +192,21 @@ Meaning = Expansions → Means
 -- a command was evaluated
 pub record Evaluates (means : Meaning) (old : Point) (came : How) (new : Point) : Type 0 where
   pub comes : (expansions : Expansions) → AreExpansions expansions → (base : Base) (state : State) → Has base old state → Comes base came new (means expansions state)
-  -- no writer is out behind it
-  pub whole : IsGone came → IfSome old.tree.held NoWriterOut → IfSome new.tree.held NoWriterOut
+  -- where it is over, the next command finds what it needs
+  pub keeps : IsGone came → Keeps old new
   -- turns are used up
   pub turns : old.session.turns ≤ new.session.turns
   pub later : NoFewer old.faults new.faults
   pub cause : HasCause came old.faults new.faults
   -- each reader and writer that was lent has come back
   pub lent : Balanced old.tree new.tree
+
+-- a part of a command gave this, and the command is evaluated where what goes on with it is
+abbrev pub PassesOn : {Given : Type 0} → (Expansions → (Given → Means) → Means) → Point → Given → Point → Type 0
+PassesOn part old given mid =
+    (next : Expansions → _ → Means) (came : How) (new : Point) → Evaluates (λ expansions. next expansions given) mid came new → Evaluates (λ expansions. part expansions (next expansions)) old came new
+
+-- or the command is over with it, whatever would go on
+abbrev pub StopsAt : {Given : Type 0} → (Expansions → (Given → Means) → Means) → Point → How → Point → Type 0
+StopsAt part old came new =
+    (next : Expansions → _ → Means) → ((expansions : Expansions) (given : _) → Adds (next expansions given)) → Evaluates (λ expansions. part expansions (next expansions)) old came new

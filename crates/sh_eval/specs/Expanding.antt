@@ -9,6 +9,7 @@ use Rattle.sh_expand.specs.Outcomes.{Expansions, Answer, told_of, told_fields}
 use Rattle.sh_eval.specs.declared.flows.Flow.TheVariants as flow
 use Rattle.sh_eval.specs.declared.refusals.Refusal.TheVariants as refusal
 use Rattle.sh_eval.specs.declared.shell.Shell.{Shell}
+use Rattle.sh_eval.specs.Shells.{with_env}
 use Rattle.sh_eval.specs.States.{State, Means, ends, refused, in_shell, leaves, tells}
 use Rattle.sh_eval.specs.Targets.{Target}
 use Rattle.sh_eval.specs.Commands.{set_to}
@@ -19,7 +20,7 @@ abbrev pub given_by : Shell → Given
 given_by shell = record { zero = shell.zero; arguments = shell.arguments; status = shell.status; substitutions = shell.substituted }
 
 abbrev pub with_variables : Variables → State → State
-with_variables variables state = in_shell (λ shell. record shell { variables = variables }) state
+with_variables variables state = in_shell (with_env variables) state
 
 -- the shell ends at a fault of a word, with one line and status 1 (XCU 2.8.1)
 abbrev pub ends_told : List ℕ → Means

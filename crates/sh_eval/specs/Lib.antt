@@ -14,3 +14,4 @@ pub mod Meaning
 pub mod Growth
 pub mod Contract
 pub mod Table
+pub mod Inner

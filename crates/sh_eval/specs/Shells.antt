@@ -1,6 +1,7 @@
 -- What a shell keeps for itself (XCU 2.12).
 use Rattle.std.specs.Prelude.{ℕ, List, []}
 use Rattle.std.specs.FinMap as map
+use Rattle.sh_arith.specs.Variables.{Variables}
 use Rattle.sh_eval.specs.declared.shell.Shell.{Shell}
 
 -- a shell in which no variable is set
@@ -23,3 +24,6 @@ inside shell = record shell { loops = 0; body_status = 0; substituted = []; subs
 
 abbrev pub with_status : ℕ → Shell → Shell
 with_status status shell = record shell { status = status }
+
+abbrev pub with_env : Variables → Shell → Shell
+with_env variables shell = record shell { variables = variables }

@@ -12,11 +12,13 @@
 mod flows;
 pub mod laws;
 mod lists;
+mod newlines;
 mod outcomes;
 mod refusals;
 mod rests;
 mod session;
 mod shell;
+mod simple;
 mod streams;
 #[cfg(test)]
 mod tests;

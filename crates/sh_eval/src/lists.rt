@@ -1,21 +1,29 @@
 //! The evaluation of lists, pipelines and compound commands.
-ghost use Rattle.std.specs.Prelude.{◌≡◌, length, IfSome};
-ghost use Rattle.ps_world.specs.Files.{NoWriterOut};
+ghost use Rattle.std.specs.Prelude.{◌≡◌, length};
 ghost use Rattle.sh_tree.specs.Views.{list_tree, items_tree, and_or_tree, joined_tree, pipeline_tree, stages_tree, command_tree};
-ghost use Rattle.sh_eval.specs.Commands.{joined_by, subshell, staged, first_stage, middle_stage, last_stage};
-ghost use Rattle.sh_eval.specs.Contract.{Evaluates, point_of, seen_of, faults_of};
-ghost use Rattle.sh_eval.specs.Meaning.{list_means, and_or_means, joined_means, pipeline_means, stages_means, command_means};
+ghost use Rattle.sh_tree.specs.Views.{simple_tree, subs_tree};
+ghost use Rattle.sh_tree.specs.declared.commands.Command.TheViews.{out-Tail};
+ghost use Rattle.sh_eval.specs.Commands.{all_turns, in_loop, joined_by, noted, subshell, staged, first_stage, middle_stage, last_stage, some_command, substitution};
+ghost use Rattle.sh_eval.specs.Inner.Bodies.{body_means, subs_begun, turn_means};
+ghost use Rattle.sh_eval.specs.Contract.{Evaluates, IsSound, point_of, seen_of, faults_of};
+ghost use Rattle.sh_eval.specs.Meaning.{has_item, list_means, and_or_means, joined_means, pipeline_means, stages_means, command_means, simple_means, subs_mean};
 ghost use Rattle.sh_eval.specs.Table.{pages};
 
 use crate::flows::Flow;
 use crate::outcomes::{
-    How, Played, Position, goes_on, is_bare, joins, negate, position_of, settled,
+    How, Played, Position, goes_on, goes_round, has_command, is_bare, joins, leave_condition,
+    left_by, negate, note_body, position_of, settled,
 };
+use crate::refusals::Refusal;
 use crate::session::Session;
 use crate::shell::Shell;
+use crate::simple::run_simple;
 use ps_world::{Sink, Source, Tree};
-use sh_tree::{AndOr, Command, Join, List, Pipeline};
+use sh_tree::{AndOr, Command, Join, List, Pipeline, Simple, Tail};
 use std::alloc::Global;
+
+/// The most turns of a run.
+const MAX_TURNS: u64 = 1_000_000;
 
 /// Evaluates a list.
 #[cycle(evaluation)]
@@ -29,7 +37,7 @@ pub(crate) fn eval_list<T: Tree, I: Source, O: Sink, E: Sink>(
     out: O,
     err: &mut E,
 ) -> Played<I, O>
-    requires whole { IfSome (T.state tree.old).held NoWriterOut }
+    requires sound { IsSound session.old (T.state tree.old) }
     ensures { Evaluates (λ expansions. list_means expansions pages (list_tree list.now))
         (point_of shell.old session.old (T.state tree.old) (seen_of (I.left input) (O.taken out) (E.taken err.old))
         (faults_of (I.faults input) (O.faults out) (E.faults err.old) (T.faults tree.old)))
@@ -61,7 +69,7 @@ fn eval_items<T: Tree, I: Source, O: Sink, E: Sink>(
     out: O,
     err: &mut E,
 ) -> Played<I, O>
-    requires whole { IfSome (T.state tree.old).held NoWriterOut }
+    requires sound { IsSound session.old (T.state tree.old) }
     ensures { Evaluates (λ expansions. list_means expansions pages (items_tree items.now))
         (point_of shell.old session.old (T.state tree.old) (seen_of (I.left input) (O.taken out) (E.taken err.old))
         (faults_of (I.faults input) (O.faults out) (E.faults err.old) (T.faults tree.old)))
@@ -102,7 +110,7 @@ fn eval_and_or<T: Tree, I: Source, O: Sink, E: Sink>(
     out: O,
     err: &mut E,
 ) -> Played<I, O>
-    requires whole { IfSome (T.state tree.old).held NoWriterOut }
+    requires sound { IsSound session.old (T.state tree.old) }
     ensures { Evaluates (λ expansions. and_or_means expansions pages (and_or_tree item.now))
         (point_of shell.old session.old (T.state tree.old) (seen_of (I.left input) (O.taken out) (E.taken err.old))
         (faults_of (I.faults input) (O.faults out) (E.faults err.old) (T.faults tree.old)))
@@ -147,7 +155,7 @@ fn eval_joined<T: Tree, I: Source, O: Sink, E: Sink>(
     out: O,
     err: &mut E,
 ) -> Played<I, O>
-    requires whole { IfSome (T.state tree.old).held NoWriterOut }
+    requires sound { IsSound session.old (T.state tree.old) }
     ensures { Evaluates (λ expansions. joined_means expansions pages (joined_tree rest.now))
         (point_of shell.old session.old (T.state tree.old) (seen_of (I.left input) (O.taken out) (E.taken err.old))
         (faults_of (I.faults input) (O.faults out) (E.faults err.old) (T.faults tree.old)))
@@ -189,7 +197,7 @@ fn eval_next<T: Tree, I: Source, O: Sink, E: Sink>(
     out: O,
     err: &mut E,
 ) -> Played<I, O>
-    requires whole { IfSome (T.state tree.old).held NoWriterOut }
+    requires sound { IsSound session.old (T.state tree.old) }
     ensures { Evaluates (λ expansions. joined_by join (pipeline_means expansions pages (pipeline_tree next.now)))
         (point_of shell.old session.old (T.state tree.old) (seen_of (I.left input) (O.taken out) (E.taken err.old))
         (faults_of (I.faults input) (O.faults out) (E.faults err.old) (T.faults tree.old)))
@@ -219,7 +227,7 @@ fn eval_pipeline<T: Tree, I: Source, O: Sink, E: Sink>(
     out: O,
     err: &mut E,
 ) -> Played<I, O>
-    requires whole { IfSome (T.state tree.old).held NoWriterOut }
+    requires sound { IsSound session.old (T.state tree.old) }
     ensures { Evaluates (λ expansions. pipeline_means expansions pages (pipeline_tree pipeline.now))
         (point_of shell.old session.old (T.state tree.old) (seen_of (I.left input) (O.taken out) (E.taken err.old))
         (faults_of (I.faults input) (O.faults out) (E.faults err.old) (T.faults tree.old)))
@@ -260,7 +268,7 @@ fn eval_stages<T: Tree, I: Source, O: Sink, E: Sink>(
     out: O,
     err: &mut E,
 ) -> Played<I, O>
-    requires whole { IfSome (T.state tree.old).held NoWriterOut }
+    requires sound { IsSound session.old (T.state tree.old) }
     ensures { Evaluates (λ expansions. stages_means expansions pages (stages_tree stages.now))
         (point_of shell.old session.old (T.state tree.old) (seen_of (I.left input) (O.taken out) (E.taken err.old))
         (faults_of (I.faults input) (O.faults out) (E.faults err.old) (T.faults tree.old)))
@@ -287,7 +295,7 @@ fn eval_several<T: Tree, I: Source, O: Sink, E: Sink>(
     err: &mut E,
 ) -> Played<I, O>
     requires several { length stages.now ≡ 1 → ⊥ }
-    requires whole { IfSome (T.state tree.old).held NoWriterOut }
+    requires sound { IsSound session.old (T.state tree.old) }
     ensures { Evaluates (λ expansions. stages_means expansions pages (stages_tree stages.now))
         (point_of shell.old session.old (T.state tree.old) (seen_of (I.left input) (O.taken out) (E.taken err.old))
         (faults_of (I.faults input) (O.faults out) (E.faults err.old) (T.faults tree.old)))
@@ -334,7 +342,7 @@ fn eval_stage<T: Tree, I: Source, O: Sink, E: Sink>(
     out: O,
     err: &mut E,
 ) -> Played<I, O>
-    requires whole { IfSome (T.state tree.old).held NoWriterOut }
+    requires sound { IsSound session.old (T.state tree.old) }
     ensures { Evaluates (λ expansions. staged position (command_means expansions pages (command_tree command.now)))
         (point_of shell.old session.old (T.state tree.old) (seen_of (I.left input) (O.taken out) (E.taken err.old))
         (faults_of (I.faults input) (O.faults out) (E.faults err.old) (T.faults tree.old)))
@@ -363,7 +371,7 @@ fn eval_first_stage<T: Tree, I: Source, O: Sink, E: Sink>(
     out: O,
     err: &mut E,
 ) -> Played<I, O>
-    requires whole { IfSome (T.state tree.old).held NoWriterOut }
+    requires sound { IsSound session.old (T.state tree.old) }
     ensures { Evaluates (λ expansions. first_stage (command_means expansions pages (command_tree command.now)))
         (point_of shell.old session.old (T.state tree.old) (seen_of (I.left input) (O.taken out) (E.taken err.old))
         (faults_of (I.faults input) (O.faults out) (E.faults err.old) (T.faults tree.old)))
@@ -408,7 +416,7 @@ fn eval_middle_stage<T: Tree, I: Source, O: Sink, E: Sink>(
     out: O,
     err: &mut E,
 ) -> Played<I, O>
-    requires whole { IfSome (T.state tree.old).held NoWriterOut }
+    requires sound { IsSound session.old (T.state tree.old) }
     ensures { Evaluates (λ expansions. middle_stage (command_means expansions pages (command_tree command.now)))
         (point_of shell.old session.old (T.state tree.old) (seen_of (I.left input) (O.taken out) (E.taken err.old))
         (faults_of (I.faults input) (O.faults out) (E.faults err.old) (T.faults tree.old)))
@@ -455,7 +463,7 @@ fn eval_last_stage<T: Tree, I: Source, O: Sink, E: Sink>(
     out: O,
     err: &mut E,
 ) -> Played<I, O>
-    requires whole { IfSome (T.state tree.old).held NoWriterOut }
+    requires sound { IsSound session.old (T.state tree.old) }
     ensures { Evaluates (λ expansions. last_stage (command_means expansions pages (command_tree command.now)))
         (point_of shell.old session.old (T.state tree.old) (seen_of (I.left input) (O.taken out) (E.taken err.old))
         (faults_of (I.faults input) (O.faults out) (E.faults err.old) (T.faults tree.old)))
@@ -483,7 +491,7 @@ fn eval_last_stage<T: Tree, I: Source, O: Sink, E: Sink>(
     }
 }
 
-/// Evaluates a command. Those that are not built want memory.
+/// Evaluates a command.
 #[cycle(evaluation)]
 fn eval_command<T: Tree, I: Source, O: Sink, E: Sink>(
     alloc: Global,
@@ -495,7 +503,7 @@ fn eval_command<T: Tree, I: Source, O: Sink, E: Sink>(
     out: O,
     err: &mut E,
 ) -> Played<I, O>
-    requires whole { IfSome (T.state tree.old).held NoWriterOut }
+    requires sound { IsSound session.old (T.state tree.old) }
     ensures { Evaluates (λ expansions. command_means expansions pages (command_tree command.now))
         (point_of shell.old session.old (T.state tree.old) (seen_of (I.left input) (O.taken out) (E.taken err.old))
         (faults_of (I.faults input) (O.faults out) (E.faults err.old) (T.faults tree.old)))
@@ -504,13 +512,97 @@ fn eval_command<T: Tree, I: Source, O: Sink, E: Sink>(
         (faults_of (I.faults result.input) (O.faults result.out) (E.faults err.new) (T.faults tree.new))) }
 {
     match command {
-        Command::Group(list, tail) if is_bare(tail) => {
-            shell.begin_command(alloc);
-            eval_list(alloc, list, shell, session, tree, input, out, err)
+        Command::Simple(simple) => {
+            eval_simple(alloc, simple, shell, session, tree, input, out, err)
         }
-        Command::Subshell(list, tail) if is_bare(tail) => {
-            shell.begin_command(alloc);
+        Command::Group(_, tail)
+        | Command::Subshell(_, tail)
+        | Command::If(_, _, tail)
+        | Command::While(_, _, tail)
+        | Command::Until(_, _, tail)
+        | Command::For(_, _, _, tail) => {
+            let Played { how, input, out } = eval_tail(
+                alloc, tail, shell, session, tree, input, out, err,
+            );
+            if !goes_on(&how) {
+                return Played { how, input, out };
+            }
+            if !is_bare(tail) {
+                return Played {
+                    how: How::Memory,
+                    input,
+                    out,
+                };
+            }
+            eval_body(alloc, command, shell, session, tree, input, out, err)
+        }
+    }
+}
+
+/// Evaluates the substitutions of the redirections behind a compound command.
+#[cycle(evaluation)]
+fn eval_tail<T: Tree, I: Source, O: Sink, E: Sink>(
+    alloc: Global,
+    tail: &Tail,
+    shell: &mut Shell,
+    session: &mut Session,
+    tree: &mut T,
+    input: I,
+    out: O,
+    err: &mut E,
+) -> Played<I, O>
+    requires sound { IsSound session.old (T.state tree.old) }
+    ensures { Evaluates (λ expansions. subs_begun expansions pages (subs_tree (out-Tail tail.now).subs.items))
+        (point_of shell.old session.old (T.state tree.old) (seen_of (I.left input) (O.taken out) (E.taken err.old))
+        (faults_of (I.faults input) (O.faults out) (E.faults err.old) (T.faults tree.old)))
+        result.how
+        (point_of shell.new session.new (T.state tree.new) (seen_of (I.left result.input) (O.taken result.out) (E.taken err.new))
+        (faults_of (I.faults result.input) (O.faults result.out) (E.faults err.new) (T.faults tree.new))) }
+{
+    shell.begin_command(alloc);
+    eval_subs(
+        alloc,
+        tail.subs.as_slice(),
+        shell,
+        session,
+        tree,
+        input,
+        out,
+        err,
+    )
+}
+
+/// Evaluates what is in a compound command, behind its redirections.
+#[cycle(evaluation)]
+fn eval_body<T: Tree, I: Source, O: Sink, E: Sink>(
+    alloc: Global,
+    command: &Command,
+    shell: &mut Shell,
+    session: &mut Session,
+    tree: &mut T,
+    input: I,
+    out: O,
+    err: &mut E,
+) -> Played<I, O>
+    requires sound { IsSound session.old (T.state tree.old) }
+    ensures { Evaluates (λ expansions. body_means expansions pages (command_tree command.now))
+        (point_of shell.old session.old (T.state tree.old) (seen_of (I.left input) (O.taken out) (E.taken err.old))
+        (faults_of (I.faults input) (O.faults out) (E.faults err.old) (T.faults tree.old)))
+        result.how
+        (point_of shell.new session.new (T.state tree.new) (seen_of (I.left result.input) (O.taken result.out) (E.taken err.new))
+        (faults_of (I.faults result.input) (O.faults result.out) (E.faults err.new) (T.faults tree.new))) }
+{
+    match command {
+        Command::Group(list, _) => eval_list(alloc, list, shell, session, tree, input, out, err),
+        Command::Subshell(list, _) => {
             eval_subshell(alloc, list, shell, session, tree, input, out, err)
+        }
+        Command::If(_, _, _) => eval_if(alloc, command, shell, session, tree, input, out, err),
+        Command::While(_, _, _) => {
+            eval_while(alloc, command, shell, session, tree, input, out, err)
+        }
+        Command::Until(_, _, _) => {
+            eval_while(alloc, command, shell, session, tree, input, out, err)
         }
         _ => Played {
             how: How::Memory,
@@ -518,6 +610,465 @@ fn eval_command<T: Tree, I: Source, O: Sink, E: Sink>(
             out,
         },
     }
+}
+
+/// Evaluates what is in an `if`.
+#[cycle(evaluation)]
+fn eval_if<T: Tree, I: Source, O: Sink, E: Sink>(
+    alloc: Global,
+    command: &Command,
+    shell: &mut Shell,
+    session: &mut Session,
+    tree: &mut T,
+    input: I,
+    out: O,
+    err: &mut E,
+) -> Played<I, O>
+    requires sound { IsSound session.old (T.state tree.old) }
+    ensures { Evaluates (λ expansions. body_means expansions pages (command_tree command.now))
+        (point_of shell.old session.old (T.state tree.old) (seen_of (I.left input) (O.taken out) (E.taken err.old))
+        (faults_of (I.faults input) (O.faults out) (E.faults err.old) (T.faults tree.old)))
+        result.how
+        (point_of shell.new session.new (T.state tree.new) (seen_of (I.left result.input) (O.taken result.out) (E.taken err.new))
+        (faults_of (I.faults result.input) (O.faults result.out) (E.faults err.new) (T.faults tree.new))) }
+{
+    let Command::If(branches, otherwise, _) = command else {
+        return Played {
+            how: How::Memory,
+            input,
+            out,
+        };
+    };
+    let mut input = input;
+    let mut out = out;
+    for (condition, body) in branches.as_slice() {
+        let Played {
+            how,
+            input: left,
+            out: sent,
+        } = eval_list(alloc, condition, shell, session, tree, input, out, err);
+        input = left;
+        out = sent;
+        if !goes_on(&how) {
+            return Played { how, input, out };
+        }
+        if shell.status == 0 {
+            return eval_list(alloc, body, shell, session, tree, input, out, err);
+        }
+    }
+    match otherwise {
+        Some(list) => eval_list(alloc, list, shell, session, tree, input, out, err),
+        None => {
+            shell.status = 0;
+            Played {
+                how: How::Gone(Flow::On),
+                input,
+                out,
+            }
+        }
+    }
+}
+
+/// Evaluates a simple command.
+#[cycle(evaluation)]
+fn eval_simple<T: Tree, I: Source, O: Sink, E: Sink>(
+    alloc: Global,
+    simple: &Simple,
+    shell: &mut Shell,
+    session: &mut Session,
+    tree: &mut T,
+    input: I,
+    out: O,
+    err: &mut E,
+) -> Played<I, O>
+    requires sound { IsSound session.old (T.state tree.old) }
+    ensures { Evaluates (λ expansions. simple_means expansions pages (simple_tree simple.now))
+        (point_of shell.old session.old (T.state tree.old) (seen_of (I.left input) (O.taken out) (E.taken err.old))
+        (faults_of (I.faults input) (O.faults out) (E.faults err.old) (T.faults tree.old)))
+        result.how
+        (point_of shell.new session.new (T.state tree.new) (seen_of (I.left result.input) (O.taken result.out) (E.taken err.new))
+        (faults_of (I.faults result.input) (O.faults result.out) (E.faults err.new) (T.faults tree.new))) }
+{
+    shell.begin_command(alloc);
+    let Played { how, input, out } = eval_subs(
+        alloc,
+        simple.subs.as_slice(),
+        shell,
+        session,
+        tree,
+        input,
+        out,
+        err,
+    );
+    if !goes_on(&how) {
+        return Played { how, input, out };
+    }
+    run_simple(
+        alloc,
+        simple.assigns.as_slice(),
+        simple.words.as_slice(),
+        simple.redirs.as_slice(),
+        shell,
+        session,
+        tree,
+        input,
+        out,
+        err,
+    )
+}
+
+/// Evaluates command substitutions, in text order.
+#[cycle(evaluation)]
+fn eval_subs<T: Tree, I: Source, O: Sink, E: Sink>(
+    alloc: Global,
+    subs: &[List],
+    shell: &mut Shell,
+    session: &mut Session,
+    tree: &mut T,
+    input: I,
+    out: O,
+    err: &mut E,
+) -> Played<I, O>
+    requires sound { IsSound session.old (T.state tree.old) }
+    ensures { Evaluates (λ expansions. subs_mean expansions pages (subs_tree subs.now))
+        (point_of shell.old session.old (T.state tree.old) (seen_of (I.left input) (O.taken out) (E.taken err.old))
+        (faults_of (I.faults input) (O.faults out) (E.faults err.old) (T.faults tree.old)))
+        result.how
+        (point_of shell.new session.new (T.state tree.new) (seen_of (I.left result.input) (O.taken result.out) (E.taken err.new))
+        (faults_of (I.faults result.input) (O.faults result.out) (E.faults err.new) (T.faults tree.new))) }
+{
+    let mut input = input;
+    let mut out = out;
+    for list in subs {
+        let Played {
+            how,
+            input: left,
+            out: sent,
+        } = eval_substitution(alloc, list, shell, session, tree, input, out, err);
+        input = left;
+        out = sent;
+        if !goes_on(&how) {
+            return Played { how, input, out };
+        }
+    }
+    Played {
+        how: How::Gone(Flow::On),
+        input,
+        out,
+    }
+}
+
+/// Evaluates a command substitution: its output is gathered in a pipe, and kept without the newlines at its end.
+#[cycle(evaluation)]
+fn eval_substitution<T: Tree, I: Source, O: Sink, E: Sink>(
+    alloc: Global,
+    list: &List,
+    shell: &mut Shell,
+    session: &mut Session,
+    tree: &mut T,
+    input: I,
+    out: O,
+    err: &mut E,
+) -> Played<I, O>
+    requires sound { IsSound session.old (T.state tree.old) }
+    ensures { Evaluates (λ expansions. substitution (some_command (has_item (list_tree list.now)) (list_means expansions pages (list_tree list.now))))
+        (point_of shell.old session.old (T.state tree.old) (seen_of (I.left input) (O.taken out) (E.taken err.old))
+        (faults_of (I.faults input) (O.faults out) (E.faults err.old) (T.faults tree.old)))
+        result.how
+        (point_of shell.new session.new (T.state tree.new) (seen_of (I.left result.input) (O.taken result.out) (E.taken err.new))
+        (faults_of (I.faults result.input) (O.faults result.out) (E.faults err.new) (T.faults tree.new))) }
+{
+    let Ok(mut inner) = shell.inside(alloc) else {
+        return Played {
+            how: How::Memory,
+            input,
+            out,
+        };
+    };
+    let Ok(to) = session.open_pipe(alloc) else {
+        return Played {
+            how: How::Memory,
+            input,
+            out,
+        };
+    };
+    let Played { how, input, out } = eval_substituted(
+        alloc, list, &mut inner, session, tree, input, out, err,
+    );
+    let text = session.close_pipe(alloc, to);
+    let Ok(()) = shell.keep_text(alloc, text.as_slice(), inner.status) else {
+        return Played {
+            how: How::Memory,
+            input,
+            out,
+        };
+    };
+    Played {
+        how: settled(how),
+        input,
+        out,
+    }
+}
+
+/// Evaluates the list of a command substitution, in its shell: one without a command succeeds.
+#[cycle(evaluation)]
+fn eval_substituted<T: Tree, I: Source, O: Sink, E: Sink>(
+    alloc: Global,
+    list: &List,
+    shell: &mut Shell,
+    session: &mut Session,
+    tree: &mut T,
+    input: I,
+    out: O,
+    err: &mut E,
+) -> Played<I, O>
+    requires sound { IsSound session.old (T.state tree.old) }
+    ensures { Evaluates (λ expansions. some_command (has_item (list_tree list.now)) (list_means expansions pages (list_tree list.now)))
+        (point_of shell.old session.old (T.state tree.old) (seen_of (I.left input) (O.taken out) (E.taken err.old))
+        (faults_of (I.faults input) (O.faults out) (E.faults err.old) (T.faults tree.old)))
+        result.how
+        (point_of shell.new session.new (T.state tree.new) (seen_of (I.left result.input) (O.taken result.out) (E.taken err.new))
+        (faults_of (I.faults result.input) (O.faults result.out) (E.faults err.new) (T.faults tree.new))) }
+{
+    if !has_command(list) {
+        shell.status = 0;
+        return Played {
+            how: How::Gone(Flow::On),
+            input,
+            out,
+        };
+    }
+    eval_list(alloc, list, shell, session, tree, input, out, err)
+}
+
+/// Evaluates a `while` or an `until`.
+#[cycle(evaluation)]
+fn eval_while<T: Tree, I: Source, O: Sink, E: Sink>(
+    alloc: Global,
+    command: &Command,
+    shell: &mut Shell,
+    session: &mut Session,
+    tree: &mut T,
+    input: I,
+    out: O,
+    err: &mut E,
+) -> Played<I, O>
+    requires sound { IsSound session.old (T.state tree.old) }
+    ensures { Evaluates (λ expansions. in_loop (all_turns (turn_means expansions pages (command_tree command.now))))
+        (point_of shell.old session.old (T.state tree.old) (seen_of (I.left input) (O.taken out) (E.taken err.old))
+        (faults_of (I.faults input) (O.faults out) (E.faults err.old) (T.faults tree.old)))
+        result.how
+        (point_of shell.new session.new (T.state tree.new) (seen_of (I.left result.input) (O.taken result.out) (E.taken err.new))
+        (faults_of (I.faults result.input) (O.faults result.out) (E.faults err.new) (T.faults tree.new))) }
+{
+    let Some(around) = shell.enter_loop() else {
+        return Played {
+            how: How::Memory,
+            input,
+            out,
+        };
+    };
+    let Played { how, input, out } = eval_turns(
+        alloc, command, shell, session, tree, input, out, err,
+    );
+    shell.leave_loop(around);
+    Played { how, input, out }
+}
+
+/// Evaluates the turns of a `while` or an `until`, until one of them ends it, or all turns of the run are used.
+#[cycle(evaluation)]
+fn eval_turns<T: Tree, I: Source, O: Sink, E: Sink>(
+    alloc: Global,
+    command: &Command,
+    shell: &mut Shell,
+    session: &mut Session,
+    tree: &mut T,
+    input: I,
+    out: O,
+    err: &mut E,
+) -> Played<I, O>
+    requires sound { IsSound session.old (T.state tree.old) }
+    ensures { Evaluates (λ expansions. all_turns (turn_means expansions pages (command_tree command.now)))
+        (point_of shell.old session.old (T.state tree.old) (seen_of (I.left input) (O.taken out) (E.taken err.old))
+        (faults_of (I.faults input) (O.faults out) (E.faults err.old) (T.faults tree.old)))
+        result.how
+        (point_of shell.new session.new (T.state tree.new) (seen_of (I.left result.input) (O.taken result.out) (E.taken err.new))
+        (faults_of (I.faults result.input) (O.faults result.out) (E.faults err.new) (T.faults tree.new))) }
+{
+    let mut input = input;
+    let mut out = out;
+    while session.turns < MAX_TURNS {
+        session.turns += 1;
+        let Played {
+            how,
+            input: left,
+            out: sent,
+        } = eval_turn(alloc, command, shell, session, tree, input, out, err);
+        input = left;
+        out = sent;
+        if !goes_round(&how) {
+            return Played {
+                how: left_by(how),
+                input,
+                out,
+            };
+        }
+    }
+    Played {
+        how: How::Gone(Flow::Refused(Refusal::TurnsOver)),
+        input,
+        out,
+    }
+}
+
+/// Evaluates one turn of a `while` or an `until`.
+#[cycle(evaluation)]
+fn eval_turn<T: Tree, I: Source, O: Sink, E: Sink>(
+    alloc: Global,
+    command: &Command,
+    shell: &mut Shell,
+    session: &mut Session,
+    tree: &mut T,
+    input: I,
+    out: O,
+    err: &mut E,
+) -> Played<I, O>
+    requires sound { IsSound session.old (T.state tree.old) }
+    ensures { Evaluates (λ expansions. turn_means expansions pages (command_tree command.now))
+        (point_of shell.old session.old (T.state tree.old) (seen_of (I.left input) (O.taken out) (E.taken err.old))
+        (faults_of (I.faults input) (O.faults out) (E.faults err.old) (T.faults tree.old)))
+        result.how
+        (point_of shell.new session.new (T.state tree.new) (seen_of (I.left result.input) (O.taken result.out) (E.taken err.new))
+        (faults_of (I.faults result.input) (O.faults result.out) (E.faults err.new) (T.faults tree.new))) }
+{
+    match command {
+        Command::While(_, _, _) => {
+            eval_while_turn(alloc, command, shell, session, tree, input, out, err)
+        }
+        Command::Until(_, _, _) => {
+            eval_until_turn(alloc, command, shell, session, tree, input, out, err)
+        }
+        _ => Played {
+            how: How::Memory,
+            input,
+            out,
+        },
+    }
+}
+
+/// Evaluates one turn of a `while`: its condition, and where that holds its body.
+#[cycle(evaluation)]
+fn eval_while_turn<T: Tree, I: Source, O: Sink, E: Sink>(
+    alloc: Global,
+    command: &Command,
+    shell: &mut Shell,
+    session: &mut Session,
+    tree: &mut T,
+    input: I,
+    out: O,
+    err: &mut E,
+) -> Played<I, O>
+    requires sound { IsSound session.old (T.state tree.old) }
+    ensures { Evaluates (λ expansions. turn_means expansions pages (command_tree command.now))
+        (point_of shell.old session.old (T.state tree.old) (seen_of (I.left input) (O.taken out) (E.taken err.old))
+        (faults_of (I.faults input) (O.faults out) (E.faults err.old) (T.faults tree.old)))
+        result.how
+        (point_of shell.new session.new (T.state tree.new) (seen_of (I.left result.input) (O.taken result.out) (E.taken err.new))
+        (faults_of (I.faults result.input) (O.faults result.out) (E.faults err.new) (T.faults tree.new))) }
+{
+    let Command::While(condition, body, _) = command else {
+        return Played {
+            how: How::Memory,
+            input,
+            out,
+        };
+    };
+    let Played { how, input, out } = eval_list(
+        alloc, condition, shell, session, tree, input, out, err,
+    );
+    if !goes_on(&how) {
+        leave_condition(&how, shell);
+        return Played { how, input, out };
+    }
+    if shell.status != 0 {
+        shell.status = shell.body_status;
+        return Played {
+            how: How::Gone(Flow::Break(1)),
+            input,
+            out,
+        };
+    }
+    eval_loop_body(alloc, body, shell, session, tree, input, out, err)
+}
+
+/// Evaluates one turn of an `until`: its condition, and where that fails its body.
+#[cycle(evaluation)]
+fn eval_until_turn<T: Tree, I: Source, O: Sink, E: Sink>(
+    alloc: Global,
+    command: &Command,
+    shell: &mut Shell,
+    session: &mut Session,
+    tree: &mut T,
+    input: I,
+    out: O,
+    err: &mut E,
+) -> Played<I, O>
+    requires sound { IsSound session.old (T.state tree.old) }
+    ensures { Evaluates (λ expansions. turn_means expansions pages (command_tree command.now))
+        (point_of shell.old session.old (T.state tree.old) (seen_of (I.left input) (O.taken out) (E.taken err.old))
+        (faults_of (I.faults input) (O.faults out) (E.faults err.old) (T.faults tree.old)))
+        result.how
+        (point_of shell.new session.new (T.state tree.new) (seen_of (I.left result.input) (O.taken result.out) (E.taken err.new))
+        (faults_of (I.faults result.input) (O.faults result.out) (E.faults err.new) (T.faults tree.new))) }
+{
+    let Command::Until(condition, body, _) = command else {
+        return Played {
+            how: How::Memory,
+            input,
+            out,
+        };
+    };
+    let Played { how, input, out } = eval_list(
+        alloc, condition, shell, session, tree, input, out, err,
+    );
+    if !goes_on(&how) {
+        leave_condition(&how, shell);
+        return Played { how, input, out };
+    }
+    if shell.status == 0 {
+        shell.status = shell.body_status;
+        return Played {
+            how: How::Gone(Flow::Break(1)),
+            input,
+            out,
+        };
+    }
+    eval_loop_body(alloc, body, shell, session, tree, input, out, err)
+}
+
+/// Evaluates the body of a loop, whose status is kept.
+#[cycle(evaluation)]
+fn eval_loop_body<T: Tree, I: Source, O: Sink, E: Sink>(
+    alloc: Global,
+    body: &List,
+    shell: &mut Shell,
+    session: &mut Session,
+    tree: &mut T,
+    input: I,
+    out: O,
+    err: &mut E,
+) -> Played<I, O>
+    requires sound { IsSound session.old (T.state tree.old) }
+    ensures { Evaluates (λ expansions state. noted (list_means expansions pages (list_tree body.now) state))
+        (point_of shell.old session.old (T.state tree.old) (seen_of (I.left input) (O.taken out) (E.taken err.old))
+        (faults_of (I.faults input) (O.faults out) (E.faults err.old) (T.faults tree.old)))
+        result.how
+        (point_of shell.new session.new (T.state tree.new) (seen_of (I.left result.input) (O.taken result.out) (E.taken err.new))
+        (faults_of (I.faults result.input) (O.faults result.out) (E.faults err.new) (T.faults tree.new))) }
+{
+    let Played { how, input, out } = eval_list(alloc, body, shell, session, tree, input, out, err);
+    note_body(&how, shell);
+    Played { how, input, out }
 }
 
 /// Evaluates a list in a subshell.
@@ -532,7 +1083,7 @@ fn eval_subshell<T: Tree, I: Source, O: Sink, E: Sink>(
     out: O,
     err: &mut E,
 ) -> Played<I, O>
-    requires whole { IfSome (T.state tree.old).held NoWriterOut }
+    requires sound { IsSound session.old (T.state tree.old) }
     ensures { Evaluates (λ expansions. subshell (list_means expansions pages (list_tree list.now)))
         (point_of shell.old session.old (T.state tree.old) (seen_of (I.left input) (O.taken out) (E.taken err.old))
         (faults_of (I.faults input) (O.faults out) (E.faults err.old) (T.faults tree.old)))

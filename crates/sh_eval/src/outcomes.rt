@@ -1,13 +1,14 @@
 //! How the evaluation of a command came out.
-ghost use Rattle.std.specs.Prelude.{◌≡◌, ◌<◌, [], true};
-ghost use Rattle.sh_tree.specs.declared.commands.Command.TheViews.{out-Tail};
-ghost use Rattle.sh_eval.specs.Commands.{goes_on_behind, negated_status, position_at};
-ghost use Rattle.sh_eval.specs.Contract.{goes_on as goes_on_lem, settled_how};
+ghost use Rattle.std.specs.Prelude.{◌≡◌, ◌<◌, [], false, true};
+ghost use Rattle.sh_tree.specs.declared.commands.Command.TheViews.{out-List, out-Tail};
+ghost use Rattle.sh_eval.specs.Commands.{goes_on_behind, goes_round as goes_round_lem, kept_by, left_by as left_by_lem, negated_status, position_at};
+ghost use Rattle.sh_eval.specs.Contract.{changed_by, goes_on as goes_on_lem, going, gone_by, settled_how};
+ghost use Rattle.sh_eval.specs.Inner.Loops.{condition_left};
 ghost use Rattle.sh_eval.specs.Shells.{with_status};
 
 use crate::flows::Flow;
 use crate::shell::Shell;
-use sh_tree::{Join, Tail};
+use sh_tree::{Join, List, Tail};
 
 /// How the evaluation of a command came out.
 #[derive(Debug, Drop)]
@@ -89,9 +90,59 @@ pub(crate) fn negate(negated: bool, shell: &mut Shell)
     }
 }
 
-/// Whether a compound command has no redirection and no substitution.
-pub(crate) fn is_bare(tail: &Tail) -> bool
-    ensures { result ≡ true → ((out-Tail tail.now).redirs.items ≡ []) × ((out-Tail tail.now).subs.items ≡ []) }
+/// Whether a loop goes on with its next round behind this one.
+pub(crate) fn goes_round(how: &How) -> bool
+    ensures { result ≡ gone_by goes_round_lem how.now }
 {
-    tail.redirs.is_empty() && tail.subs.is_empty()
+    matches!(how, How::Gone(Flow::On | Flow::Continue(0 | 1)))
+}
+
+/// How the command behind a loop goes on, where a round has ended the loop.
+pub(crate) fn left_by(how: How) -> How
+    ensures { result ≡ going left_by_lem how }
+{
+    match how {
+        How::Gone(Flow::Break(0 | 1) | Flow::Continue(0 | 1)) => How::Gone(Flow::On),
+        How::Gone(Flow::Break(count)) => How::Gone(Flow::Break(count - 1)),
+        How::Gone(Flow::Continue(count)) => How::Gone(Flow::Continue(count - 1)),
+        other => other,
+    }
+}
+
+/// Keeps the status of a loop's body, which is the loop's if no other body runs.
+pub(crate) fn note_body(how: &How, shell: &mut Shell)
+    ensures { shell.new ≡ changed_by kept_by how.now shell.old }
+{
+    if matches!(
+        how,
+        How::Gone(Flow::On | Flow::Break(_) | Flow::Continue(_))
+    ) {
+        shell.body_status = shell.status;
+    }
+}
+
+/// Gives a loop the status of its last body, where its condition has left it.
+pub(crate) fn leave_condition(how: &How, shell: &mut Shell)
+    ensures { shell.new ≡ changed_by condition_left how.now shell.old }
+{
+    match how {
+        How::Gone(Flow::Continue(0 | 1)) => {}
+        How::Gone(Flow::Break(_) | Flow::Continue(_)) => shell.status = shell.body_status,
+        _ => {}
+    }
+}
+
+/// Whether a compound command has no redirection.
+pub(crate) fn is_bare(tail: &Tail) -> bool
+    ensures { result ≡ true → (out-Tail tail.now).redirs.items ≡ [] }
+{
+    tail.redirs.is_empty()
+}
+
+/// Whether a list has a command.
+pub(crate) fn has_command(list: &List) -> bool
+    ensures some { result ≡ true → (out-List list.now).items.items ≡ [] → ⊥ }
+    ensures none { result ≡ false → (out-List list.now).items.items ≡ [] }
+{
+    !list.items.is_empty()
 }

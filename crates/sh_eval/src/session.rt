@@ -84,6 +84,16 @@ impl Session {
         self.streams.to = place;
     }
 
+    /// Closes the pipe, and gives what it has taken in; the output goes to `place`.
+    pub(crate) fn close_pipe(&mut self, alloc: Global, place: To) -> Vec<u8>
+        ensures text { result.items ≡ innermost self.old }
+        ensures session { self.new ≡ unpiped place self.old }
+    {
+        let text = self.pipes.close(alloc);
+        self.streams.to = place;
+        text
+    }
+
     /// Reads what the stage before has written, and gives what was read until now.
     pub(crate) fn read_piped(&mut self, alloc: Global) -> From
         ensures from { result ≡ self.old.streams.from }

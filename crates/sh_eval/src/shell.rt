@@ -1,10 +1,11 @@
 //! What a shell keeps for itself.
-ghost use Rattle.std.specs.Prelude.{◌≡◌, [], IfOk};
+ghost use Rattle.std.specs.Prelude.{◌≡◌, [], IfNone, IfOk, IfSome, OnOk};
 ghost use Rattle.std.specs.FinMap as map;
 ghost use Rattle.ps_lines.specs.Texts.{texts_of};
 ghost use Rattle.sh_eval.specs.Shells.{started, inside as inside_lem};
-ghost use Rattle.sh_eval.specs.Commands.{none_substituted};
+ghost use Rattle.sh_eval.specs.Commands.{entered, none_substituted, with_kept};
 
+use crate::newlines::without_newlines;
 use ps_lines::{Memory, Text};
 use sh_arith::Env;
 use std::alloc::Global;
@@ -29,6 +30,13 @@ pub struct Shell {
     pub(crate) substituted: Texts,
     /// The status of the last of them, 0 where none has run.
     pub(crate) substitution_status: u8,
+}
+
+/// What a shell keeps of the loops around one that it enters.
+#[derive(Drop)]
+pub(crate) struct Around {
+    loops: u64,
+    body_status: u8,
 }
 
 impl Shell {
@@ -67,11 +75,43 @@ impl Shell {
         })
     }
 
+    /// Keeps the text of a substitution, without the newlines at its end, and its status.
+    pub(crate) fn keep_text(&mut self, alloc: Global, text: &[u8], status: u8) -> Result<(), Memory>
+        ensures { OnOk result (self.new ≡ with_kept text.now status self.old) }
+    {
+        self.substituted.push(alloc, without_newlines(text))?;
+        self.substitution_status = status;
+        Ok(())
+    }
+
     /// Begins a command, which has no substitutions yet.
     pub(crate) fn begin_command(&mut self, alloc: Global)
         ensures { self.new ≡ none_substituted self.old }
     {
         self.substituted = Texts::new(alloc);
         self.substitution_status = 0;
+    }
+
+    /// Enters a loop, in which no body has run yet, and gives what is put back behind it; None where there are 2^64-1 of them.
+    pub(crate) fn enter_loop(&mut self) -> Option<Around>
+        ensures shell { IfSome result (λ around. self.new ≡ entered self.old) }
+        ensures around { IfSome result (λ around. (around.loops ≡ self.old.loops) × (around.body_status ≡ self.old.body_status)) }
+        ensures none { IfNone result (self.new ≡ self.old) }
+    {
+        let around = Around {
+            loops: self.loops,
+            body_status: self.body_status,
+        };
+        self.loops = self.loops.checked_add(1)?;
+        self.body_status = 0;
+        Some(around)
+    }
+
+    /// Leaves a loop.
+    pub(crate) fn leave_loop(&mut self, around: Around)
+        ensures { self.new ≡ record self.old { loops = around.loops; body_status = around.body_status } }
+    {
+        self.loops = around.loops;
+        self.body_status = around.body_status;
     }
 }

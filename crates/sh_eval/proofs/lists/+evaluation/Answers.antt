@@ -1,16 +1,21 @@
-use Rattle.std.proofs.Common.{rules, ◌+◌, refl, sym, ap, ◌∙◌}
-use Rattle.sh_eval.specs.Commands.{its_status, subshell, first_stage, middle_stage, last_stage, handed_on, reading_piped, unchanged}
-use Rattle.sh_eval.specs.States.{piping, reading}
-use Rattle.sh_eval.specs.Meaning.{list_means, command_means}
+use Rattle.std.proofs.Common.{rules, ◌+◌, ◌==◌, not, ℕ, List, refl, sym, ap, ◌∙◌}
+use Rattle.sh_eval.specs.Commands.{all_turns, failed, goes_round, in_loop, its_status, some_command, substitution, subshell, succeeded, first_stage, middle_stage, last_stage, handed_on, reading_piped, unchanged, with_kept, with_text}
+use Rattle.sh_eval.specs.declared.outcomes.How.TheVariants as how
+use Rattle.sh_eval.specs.declared.shell.Shell.{Shell}
+use Rattle.sh_eval.specs.Inner.Bodies.{body_means, turn_means}
+use Rattle.sh_eval.specs.States.{piping, reading, unpiped}
+use Rattle.sh_eval.specs.Meaning.{has_item, list_means, command_means}
 use Rattle.sh_eval.specs.Table.{pages}
 use Rattle.sh_tree.specs.Views.{list_tree, command_tree}
-use Rattle.sh_eval.proofs.Growing.{same-turns, list-adds, command-adds, adds-subshell, adds-first_stage, adds-middle_stage, adds-last_stage}
-use Rattle.sh_eval.proofs.ListSteps.{items-followed, items-stopped, items-done, and_or-followed, and_or-stopped, joined-followed, joined-stopped, joined-done, next-runs, next-skipped, pipeline-followed, pipeline-stopped, within, wanted-at, stages-followed, stages-stopped, stages-done, staged-at, bare-tail, bare-subshell, bare-group}
-use Rattle.sh_eval.proofs.Steps.{goes-gone, wanted}
+use Rattle.sh_eval.proofs.Growing.{adds-some_command, adds-substitution, same-turns, list-adds, command-adds, adds-subshell, adds-first_stage, adds-middle_stage, adds-last_stage}
+use Rattle.sh_eval.proofs.ListSteps.{items-followed, items-stopped, items-done, and_or-followed, and_or-stopped, joined-followed, joined-stopped, joined-done, next-runs, next-skipped, pipeline-followed, pipeline-stopped, within, wanted-at, stages-followed, stages-stopped, stages-done, staged-at}
+use Rattle.sh_eval.proofs.CommandSteps.{succeeds-so, fails-so, wanted-behind, subs-followed, subs-stopped, subs-done, subs-begun, substituted-empty, substituted-some, simple-followed, simple-stopped, if-stopped, if-taken, if-passed, if-else, if-none, if-body, compound-stopped, compound-bare, compound-wanted, body-adds, while-body, until-body, while-turn, until-turn, turn-adds, turns-add, loop-adds}
+use Rattle.sh_eval.proofs.LoopSteps.{in-loop, turns-over, turns-left, turns-again, turn-left, turn-held, turn-failed, body-noted}
+use Rattle.sh_eval.proofs.Steps.{failed-early, goes-gone, gone-so, no-fewer, wanted, sound-behind}
 use Rattle.sh_eval.proofs.lists.+evaluation.Goals as goal
 
 pub eval_items-loop-item-init : goal.eval_items-loop-item-init
-eval_items-loop-item-init g t c = record { rest = λ came new all. all; whole = c.requires.whole }
+eval_items-loop-item-init g t c = record { rest = λ came new all. all; sound = c.requires.sound }
 
 pub eval_items-returns-then-not-goes_on : goal.eval_items-returns-then-not-goes_on
 eval_items-returns-then-not-goes_on g t c =
@@ -22,7 +27,7 @@ eval_items-loop-item-preserved g t c =
     record {
       rest = λ came new rest. c.loop-item.invariant.rest came new (items-followed c.args.items.now c.loop-item.item-index c.item-item.result _ _ _ _ _ c.item-item.is c.loop-item-test.true
           (sym c.goes_on.ensures ∙ c.if-not-goes_on.false) c.eval_and_or-how.ensures rest);
-      whole = c.eval_and_or-how.ensures.whole (goes-gone _ (sym c.goes_on.ensures ∙ c.if-not-goes_on.false)) c.loop-item.invariant.whole;
+      sound = sound-behind _ _ (c.eval_and_or-how.ensures.keeps (goes-gone _ (sym c.goes_on.ensures ∙ c.if-not-goes_on.false))) c.loop-item.invariant.sound;
     }
 
 pub eval_items-returns : goal.eval_items-returns
@@ -35,7 +40,7 @@ pub eval_and_or-returns : goal.eval_and_or-returns
 eval_and_or-returns g t c = and_or-followed c.args.item.now _ _ _ _ _ _ c.as_slice.ensures.value (sym c.goes_on.ensures ∙ c.if-not-goes_on.false) c.eval_pipeline-how.ensures c.eval_joined.ensures
 
 pub eval_joined-loop-join-init : goal.eval_joined-loop-join-init
-eval_joined-loop-join-init g t c = record { rest = λ came new all. all; whole = c.requires.whole }
+eval_joined-loop-join-init g t c = record { rest = λ came new all. all; sound = c.requires.sound }
 
 pub eval_joined-returns-then-not-goes_on : goal.eval_joined-returns-then-not-goes_on
 eval_joined-returns-then-not-goes_on g t c =
@@ -47,7 +52,7 @@ eval_joined-loop-join-preserved g t c =
     record {
       rest = λ came new rest. c.loop-join.invariant.rest came new (joined-followed c.args.rest.now c.loop-join.join-index _ _ _ _ _ _ c.loop-join-item.is c.loop-join-test.true
           (sym c.goes_on.ensures ∙ c.if-not-goes_on.false) c.eval_next-how.ensures rest);
-      whole = c.eval_next-how.ensures.whole (goes-gone _ (sym c.goes_on.ensures ∙ c.if-not-goes_on.false)) c.loop-join.invariant.whole;
+      sound = sound-behind _ _ (c.eval_next-how.ensures.keeps (goes-gone _ (sym c.goes_on.ensures ∙ c.if-not-goes_on.false))) c.loop-join.invariant.sound;
     }
 
 pub eval_joined-returns : goal.eval_joined-returns
@@ -68,16 +73,12 @@ eval_pipeline-returns g t c = pipeline-followed c.args.pipeline.now _ _ _ _ c.as
 pub eval_subshell-returns : goal.eval_subshell-returns
 eval_subshell-returns g t c =
     within (λ expansions. list_means expansions pages (list_tree c.args.list.now)) (λ session. session) (λ old new. new) its_status _ _ _ _ _ _ _ _ _ _ _ _
-    c.in-Ok.ensures refl refl refl c.settled.ensures same-turns (λ old new. same-turns new) c.eval_list-how.ensures
+    c.in-Ok.ensures refl refl refl c.settled.ensures same-turns (λ old new. same-turns new) (λ old new same. same) c.eval_list-how.ensures
 
 pub eval_subshell-returns-in_default : goal.eval_subshell-returns-in_default
 eval_subshell-returns-in_default g t c =
     wanted (λ expansions. subshell (list_means expansions pages (list_tree c.args.list.now))) _
     (λ expansions. adds-subshell (list_means expansions pages (list_tree c.args.list.now)) (list-adds expansions pages (list_tree c.args.list.now)))
-
-pub eval_command-returns-in_default : goal.eval_command-returns-in_default
-eval_command-returns-in_default g t c =
-    wanted (λ expansions. command_means expansions pages (command_tree c.args.command.now)) _ (λ expansions. command-adds expansions pages (command_tree c.args.command.now))
 
 pub eval_first_stage-returns-in_default : goal.eval_first_stage-returns-in_default
 eval_first_stage-returns-in_default g t c =
@@ -92,7 +93,7 @@ eval_first_stage-returns-in_default-open_pipe g t c =
 pub eval_first_stage-returns : goal.eval_first_stage-returns
 eval_first_stage-returns g t c =
     within (λ expansions. command_means expansions pages (command_tree c.args.command.now)) piping handed_on unchanged _ _ _ _ _ _ _ _ _ _ _ _
-    (search rules) (search rules) refl (search rules) c.settled.ensures same-turns (λ old new. same-turns new) c.eval_command-how.ensures
+    (search rules) (search rules) refl (search rules) c.settled.ensures same-turns (λ old new. same-turns new) (λ old new same. record { output = refl; errors = same.errors }) c.eval_command-how.ensures
 
 pub eval_middle_stage-returns-in_default : goal.eval_middle_stage-returns-in_default
 eval_middle_stage-returns-in_default g t c =
@@ -108,7 +109,7 @@ pub eval_middle_stage-returns : goal.eval_middle_stage-returns
 eval_middle_stage-returns g t c =
     within (λ expansions. command_means expansions pages (command_tree c.args.command.now)) (λ session. piping (reading_piped session)) (λ old new. reading old.streams.from (handed_on old new)) unchanged
     _ _ _ _ _ _ _ _ _ _ _ _
-    (search rules) (search rules) refl (search rules) c.settled.ensures same-turns (λ old new. same-turns new) c.eval_command-how.ensures
+    (search rules) (search rules) refl (search rules) c.settled.ensures same-turns (λ old new. same-turns new) (λ old new same. record { output = refl; errors = same.errors }) c.eval_command-how.ensures
 
 pub eval_last_stage-returns-in_default : goal.eval_last_stage-returns-in_default
 eval_last_stage-returns-in_default g t c =
@@ -118,10 +119,10 @@ eval_last_stage-returns-in_default g t c =
 pub eval_last_stage-returns : goal.eval_last_stage-returns
 eval_last_stage-returns g t c =
     within (λ expansions. command_means expansions pages (command_tree c.args.command.now)) reading_piped (λ old new. reading old.streams.from new) its_status _ _ _ _ _ _ _ _ _ _ _ _
-    (search rules) (search rules) refl (search rules) c.settled.ensures same-turns (λ old new. same-turns new) c.eval_command-how.ensures
+    (search rules) (search rules) refl (search rules) c.settled.ensures same-turns (λ old new. same-turns new) (λ old new same. record { output = same.output; errors = same.errors }) c.eval_command-how.ensures
 
 pub eval_several-loop-stage-init : goal.eval_several-loop-stage-init
-eval_several-loop-stage-init g t c = record { counted = refl; rest = λ came new all. all; whole = c.requires.whole }
+eval_several-loop-stage-init g t c = record { counted = refl; rest = λ came new all. all; sound = c.requires.sound }
 
 pub eval_several-returns-then-not-goes_on : goal.eval_several-returns-then-not-goes_on
 eval_several-returns-then-not-goes_on g t c =
@@ -136,17 +137,179 @@ eval_several-loop-stage-preserved g t c =
       rest = λ came new rest. c.loop-stage.invariant.rest came new (stages-followed c.args.stages.now c.loop-stage.stage-index c.stage-item.result _ _ _ _ _ c.stage-item.is c.loop-stage-test.true c.requires.several
           (sym c.goes_on.ensures ∙ c.if-not-goes_on.false)
           (staged-at c.position_of-position.result c.loop-stage.place c.loop-stage.stage-index _ c.stage-item.result _ _ _ c.position_of-position.ensures c.loop-stage.invariant.counted c.eval_stage-how.ensures) rest);
-      whole = c.eval_stage-how.ensures.whole (goes-gone _ (sym c.goes_on.ensures ∙ c.if-not-goes_on.false)) c.loop-stage.invariant.whole;
+      sound = sound-behind _ _ (c.eval_stage-how.ensures.keeps (goes-gone _ (sym c.goes_on.ensures ∙ c.if-not-goes_on.false))) c.loop-stage.invariant.sound;
     }
 
 pub eval_several-returns : goal.eval_several-returns
 eval_several-returns g t c = c.loop-stage.invariant.rest _ _ (stages-done c.args.stages.now c.loop-stage.stage-index _ c.loop-stage-test.false)
 
-pub eval_command-returns-in-Group : goal.eval_command-returns-in-Group
-eval_command-returns-in-Group g t c =
-    let bare = c.is_bare.ensures c.if-is_bare.true in
-    rw c.in-Group.is (bare-group _ _ _ _ _ (bare-tail (λ expansions. list_means expansions pages (list_tree _)) _ _ _ _ _ _ _ _ _ bare.0 bare.1 c.begin_command.ensures c.eval_list.ensures))
+pub eval_subs-loop-list-init : goal.eval_subs-loop-list-init
+eval_subs-loop-list-init g t c = record { rest = λ came new all. all; sound = c.requires.sound }
 
-pub eval_command-returns-in-Subshell : goal.eval_command-returns-in-Subshell
-eval_command-returns-in-Subshell g t c =
-    rw c.in-Subshell.is (bare-subshell _ _ _ _ _ (bare-tail (λ expansions. subshell (list_means expansions pages (list_tree _))) _ _ _ _ _ _ _ _ _ (search rules) (search rules) c.begin_command-in-Subshell.ensures c.eval_subshell.ensures))
+pub eval_subs-returns-then-not-goes_on : goal.eval_subs-returns-then-not-goes_on
+eval_subs-returns-then-not-goes_on g t c =
+    c.loop-list.invariant.rest _ _ (subs-stopped c.args.subs.now c.loop-list.list-index c.list-item.result _ _ _ c.list-item.is c.loop-list-test.true
+    (sym c.goes_on.ensures ∙ c.if-not-goes_on.true) c.eval_substitution-how.ensures)
+
+pub eval_subs-loop-list-preserved : goal.eval_subs-loop-list-preserved
+eval_subs-loop-list-preserved g t c =
+    record {
+      rest = λ came new rest. c.loop-list.invariant.rest came new (subs-followed c.args.subs.now c.loop-list.list-index c.list-item.result _ _ _ _ _ c.list-item.is c.loop-list-test.true
+          (sym c.goes_on.ensures ∙ c.if-not-goes_on.false) c.eval_substitution-how.ensures rest);
+      sound = sound-behind _ _ (c.eval_substitution-how.ensures.keeps (goes-gone _ (sym c.goes_on.ensures ∙ c.if-not-goes_on.false))) c.loop-list.invariant.sound;
+    }
+
+pub eval_subs-returns : goal.eval_subs-returns
+eval_subs-returns g t c = c.loop-list.invariant.rest _ _ (subs-done c.args.subs.now c.loop-list.list-index _ c.loop-list-test.false)
+
+pub eval_body-returns-in-While : goal.eval_body-returns-in-While
+eval_body-returns-in-While g t c = while-body c.args.command.now _ _ _ _ _ _ c.in-While.is c.eval_while.ensures
+
+pub eval_body-returns-in-Until : goal.eval_body-returns-in-Until
+eval_body-returns-in-Until g t c = until-body c.args.command.now _ _ _ _ _ _ c.in-Until.is c.eval_while-in-Until.ensures
+
+pub eval_body-returns-in_default : goal.eval_body-returns-in_default
+eval_body-returns-in_default g t c = wanted (λ expansions. body_means expansions pages (command_tree c.args.command.now)) _ (λ expansions. body-adds expansions (command_tree c.args.command.now))
+
+pub eval_command-returns-else-not-is_bare : goal.eval_command-returns-else-not-is_bare
+eval_command-returns-else-not-is_bare g t c =
+    compound-bare c.args.command.now _ c.in-Group.is _ _ _ _ _ (sym c.goes_on.ensures ∙ c.if-not-goes_on.false) (c.is_bare.ensures c.if-not-is_bare.false) c.eval_tail-how.ensures c.eval_body.ensures
+
+pub eval_command-returns-then-not-goes_on : goal.eval_command-returns-then-not-goes_on
+eval_command-returns-then-not-goes_on g t c = compound-stopped c.args.command.now _ c.in-Group.is _ _ _ (sym c.goes_on.ensures ∙ c.if-not-goes_on.true) c.eval_tail-how.ensures
+
+pub eval_command-returns-then-not-is_bare : goal.eval_command-returns-then-not-is_bare
+eval_command-returns-then-not-is_bare g t c =
+    compound-wanted c.args.command.now _ c.in-Group.is _ _ _ _ _ _ _ _ (sym c.goes_on.ensures ∙ c.if-not-goes_on.false) c.eval_tail-how.ensures
+
+pub eval_if-eval_list-how-requires-clause-sound : goal.eval_if-eval_list-how-requires-clause-sound
+eval_if-eval_list-how-requires-clause-sound g t c κs outlive = c.loop-condition.invariant.sound
+
+pub eval_if-eval_list-requires-clause-sound : goal.eval_if-eval_list-requires-clause-sound
+eval_if-eval_list-requires-clause-sound g t c κs outlive = sound-behind _ _ (c.eval_list-how.ensures.keeps (goes-gone _ (sym c.goes_on.ensures ∙ c.if-not-goes_on.false))) c.loop-condition.invariant.sound
+
+pub eval_if-eval_list-requires-in-Some-clause-sound : goal.eval_if-eval_list-requires-in-Some-clause-sound
+eval_if-eval_list-requires-in-Some-clause-sound g t c κs outlive = c.loop-condition.invariant.sound
+
+pub eval_if-loop-condition-init : goal.eval_if-loop-condition-init
+eval_if-loop-condition-init g t c =
+    record {
+      rest = λ came new all. if-body c.args.command.now _ _ _ _ _ _ _ c.in-If.is c.as_slice-condition-items.ensures.value all;
+      sound = c.requires.sound;
+    }
+
+pub eval_if-loop-condition-preserved : goal.eval_if-loop-condition-preserved
+eval_if-loop-condition-preserved g t c =
+    record {
+      rest = λ came new rest. c.loop-condition.invariant.rest came new (if-passed _ _ c.loop-condition.condition-index _ c.loop-condition-item.is c.loop-condition-test.true _ _ _ _ _ (sym c.goes_on.ensures ∙ c.if-not-goes_on.false) c.if-shell-eq0.false c.eval_list-how.ensures rest);
+      sound = sound-behind _ _ (c.eval_list-how.ensures.keeps (goes-gone _ (sym c.goes_on.ensures ∙ c.if-not-goes_on.false))) c.loop-condition.invariant.sound;
+    }
+
+pub eval_if-returns-in-None : goal.eval_if-returns-in-None
+eval_if-returns-in-None g t c = c.loop-condition.invariant.rest _ _ (if-none _ _ c.loop-condition.condition-index _ _ _ _ _ _ c.loop-condition-test.false c.in-None.is refl)
+
+pub eval_if-returns-in-Some : goal.eval_if-returns-in-Some
+eval_if-returns-in-Some g t c = c.loop-condition.invariant.rest _ _ (if-else _ _ _ c.loop-condition.condition-index _ _ _ c.loop-condition-test.false c.in-Some.is c.eval_list-in-Some.ensures)
+
+pub eval_if-returns-in_default : goal.eval_if-returns-in_default
+eval_if-returns-in_default g t c = wanted (λ expansions. body_means expansions pages (command_tree c.args.command.now)) _ (λ expansions. body-adds expansions (command_tree c.args.command.now))
+
+pub eval_if-returns-then-not-goes_on : goal.eval_if-returns-then-not-goes_on
+eval_if-returns-then-not-goes_on g t c =
+    c.loop-condition.invariant.rest _ _ (if-stopped _ _ c.loop-condition.condition-index _ c.loop-condition-item.is c.loop-condition-test.true _ _ _ (sym c.goes_on.ensures ∙ c.if-not-goes_on.true) c.eval_list-how.ensures)
+
+pub eval_if-returns-then-shell-eq0 : goal.eval_if-returns-then-shell-eq0
+eval_if-returns-then-shell-eq0 g t c =
+    c.loop-condition.invariant.rest _ _ (if-taken _ _ c.loop-condition.condition-index _ c.loop-condition-item.is c.loop-condition-test.true _ _ _ _ _ (sym c.goes_on.ensures ∙ c.if-not-goes_on.false) c.if-shell-eq0.true c.eval_list-how.ensures c.eval_list.ensures)
+
+pub eval_loop_body-returns : goal.eval_loop_body-returns
+eval_loop_body-returns g t c = body-noted (λ expansions. list_means expansions pages (list_tree c.args.body.now)) _ _ _ _ _ _ _ _ c.note_body.ensures c.eval_list-how.ensures
+
+pub eval_simple-returns : goal.eval_simple-returns
+eval_simple-returns g t c =
+    simple-followed c.args.simple.now _ _ _ _ c.as_slice.ensures.value c.as_slice-2.ensures.value c.as_slice-3.ensures.value c.as_slice-4.ensures.value _ _ _ _ _ _ _ _ _ _ c.begin_command.ensures (sym c.goes_on.ensures ∙ c.if-not-goes_on.false) c.eval_subs-how.ensures c.run_simple.ensures
+
+pub eval_simple-returns-then-not-goes_on : goal.eval_simple-returns-then-not-goes_on
+eval_simple-returns-then-not-goes_on g t c = simple-stopped c.args.simple.now _ c.as_slice.ensures.value _ _ _ _ _ _ _ _ c.begin_command.ensures (sym c.goes_on.ensures ∙ c.if-not-goes_on.true) c.eval_subs-how.ensures
+
+pub eval_substituted-returns : goal.eval_substituted-returns
+eval_substituted-returns g t c = substituted-some c.args.list.now _ _ _ (c.has_command.ensures.some c.if-not-has_command.false) c.eval_list.ensures
+
+pub eval_substituted-returns-then-not-has_command : goal.eval_substituted-returns-then-not-has_command
+eval_substituted-returns-then-not-has_command g t c = substituted-empty c.args.list.now _ _ _ _ _ _ (c.has_command.ensures.none c.if-not-has_command.true) refl
+
+pub eval_substitution-returns : goal.eval_substitution-returns
+eval_substitution-returns g t c =
+    within (λ expansions. some_command (has_item (list_tree c.args.list.now)) (list_means expansions pages (list_tree c.args.list.now))) piping (λ old new. unpiped old.streams.to new) with_text _ _ _ _ _ _ _ _ _ _ _ _
+    c.in-Ok.ensures (search rules) (c.in-Ok-keep_text.ensures ∙ ap (λ (text : List ℕ). with_kept text c.eval_substituted-how.new.shell.status c.args.shell.now) (c.as_slice.ensures.value ∙ c.close_pipe-text.ensures.text)) (search rules) c.settled.ensures same-turns (λ old new. same-turns new) (λ old new same. record { output = refl; errors = same.errors }) c.eval_substituted-how.ensures
+
+pub eval_substitution-returns-in_default : goal.eval_substitution-returns-in_default
+eval_substitution-returns-in_default g t c = wanted (λ expansions. substitution (some_command (has_item (list_tree c.args.list.now)) (list_means expansions pages (list_tree c.args.list.now)))) _ (λ expansions. adds-substitution (some_command (has_item (list_tree c.args.list.now)) (list_means expansions pages (list_tree c.args.list.now))) (adds-some_command (has_item (list_tree c.args.list.now)) (list_means expansions pages (list_tree c.args.list.now)) (list-adds expansions pages (list_tree c.args.list.now))))
+
+pub eval_substitution-returns-in_default-open_pipe : goal.eval_substitution-returns-in_default-open_pipe
+eval_substitution-returns-in_default-open_pipe g t c = wanted-at (λ expansions. substitution (some_command (has_item (list_tree c.args.list.now)) (list_means expansions pages (list_tree c.args.list.now)))) _ _ _ _ _ _ (search rules) (λ expansions. adds-substitution (some_command (has_item (list_tree c.args.list.now)) (list_means expansions pages (list_tree c.args.list.now))) (adds-some_command (has_item (list_tree c.args.list.now)) (list_means expansions pages (list_tree c.args.list.now)) (list-adds expansions pages (list_tree c.args.list.now))))
+
+pub eval_substitution-returns-in_default-keep_text : goal.eval_substitution-returns-in_default-keep_text
+eval_substitution-returns-in_default-keep_text g t c =
+    wanted-behind (λ expansions. substitution (some_command (has_item (list_tree c.args.list.now)) (list_means expansions pages (list_tree c.args.list.now)))) _ _ _ _ _ _ _ _
+    (within (λ expansions. some_command (has_item (list_tree c.args.list.now)) (list_means expansions pages (list_tree c.args.list.now))) piping (λ old new. unpiped old.streams.to new) with_text _ _ _ _ _ _ _ _ _ _ _ _
+    c.in-Ok.ensures (search rules) refl (search rules) refl same-turns (λ old new. same-turns new) (λ old new same. record { output = refl; errors = same.errors }) c.eval_substituted-how.ensures)
+
+pub eval_turn-returns-in_default : goal.eval_turn-returns-in_default
+eval_turn-returns-in_default g t c = wanted (λ expansions. turn_means expansions pages (command_tree c.args.command.now)) _ (λ expansions. turn-adds expansions (command_tree c.args.command.now))
+
+pub eval_turns-loop-session-preserved-else-not-goes_round-7 : goal.eval_turns-loop-session-preserved-else-not-goes_round-7
+eval_turns-loop-session-preserved-else-not-goes_round-7 g t c =
+    record {
+      rest = λ came new rest. c.loop-session.invariant.rest came new (turns-again (λ expansions. turn_means expansions pages (command_tree c.args.command.now)) (λ expansions. turn-adds expansions (command_tree c.args.command.now)) _ _ _ _ _ _ _ _ _ _ c.loop-session-test.true refl (sym c.goes_round.ensures ∙ c.if-not-goes_round.false) c.eval_turn-how.ensures rest);
+      sound = sound-behind _ _ (c.eval_turn-how.ensures.keeps (gone-so goes_round _ (sym c.goes_round.ensures ∙ c.if-not-goes_round.false))) c.loop-session.invariant.sound;
+    }
+
+pub eval_turns-returns : goal.eval_turns-returns
+eval_turns-returns g t c = c.loop-session.invariant.rest _ _ (turns-over (λ expansions. turn_means expansions pages (command_tree c.args.command.now)) (λ expansions. turn-adds expansions (command_tree c.args.command.now)) _ _ _ _ _ c.loop-session-test.false)
+
+pub eval_turns-returns-then-not-goes_round : goal.eval_turns-returns-then-not-goes_round
+eval_turns-returns-then-not-goes_round g t c =
+    c.loop-session.invariant.rest _ _ (turns-left (λ expansions. turn_means expansions pages (command_tree c.args.command.now)) (λ expansions. turn-adds expansions (command_tree c.args.command.now)) _ _ _ _ _ _ _ _ _ c.loop-session-test.true refl (sym c.goes_round.ensures ∙ c.if-not-goes_round.true) c.left_by.ensures c.eval_turn-how.ensures)
+
+pub eval_until_turn-returns : goal.eval_until_turn-returns
+eval_until_turn-returns g t c =
+    until-turn c.args.command.now _ _ _ _ _ _ c.in-Until.is (turn-held failed (λ expansions. list_means expansions pages (list_tree _)) (λ expansions. list_means expansions pages (list_tree _)) (λ expansions. list-adds expansions pages (list_tree _)) _ _ _ _ _ (sym c.goes_on.ensures ∙ c.if-not-goes_on.false)
+    (λ state same. ap not (fails-so _ state same c.if-shell-eq0.false)) c.eval_list-how.ensures c.eval_loop_body.ensures)
+
+pub eval_until_turn-returns-in_default : goal.eval_until_turn-returns-in_default
+eval_until_turn-returns-in_default g t c = wanted (λ expansions. turn_means expansions pages (command_tree c.args.command.now)) _ (λ expansions. turn-adds expansions (command_tree c.args.command.now))
+
+pub eval_until_turn-returns-then-not-goes_on : goal.eval_until_turn-returns-then-not-goes_on
+eval_until_turn-returns-then-not-goes_on g t c =
+    until-turn c.args.command.now _ _ _ _ _ _ c.in-Until.is (turn-left failed (λ expansions. list_means expansions pages (list_tree _)) (λ expansions. list_means expansions pages (list_tree _)) (λ expansions. list-adds expansions pages (list_tree _)) _ _ _ _ _ _ _ _ (sym c.goes_on.ensures ∙ c.if-not-goes_on.true) c.leave_condition.ensures c.eval_list-how.ensures)
+
+pub eval_until_turn-returns-then-shell-eq0 : goal.eval_until_turn-returns-then-shell-eq0
+eval_until_turn-returns-then-shell-eq0 g t c =
+    until-turn c.args.command.now _ _ _ _ _ _ c.in-Until.is (turn-failed failed (λ expansions. list_means expansions pages (list_tree _)) (λ expansions. list_means expansions pages (list_tree _)) (λ expansions. list-adds expansions pages (list_tree _)) _ _ _ _ _ _ _ _ (sym c.goes_on.ensures ∙ c.if-not-goes_on.false)
+    (λ state same. ap not (succeeds-so _ state same c.if-shell-eq0.true)) refl c.eval_list-how.ensures)
+
+pub eval_while_turn-returns : goal.eval_while_turn-returns
+eval_while_turn-returns g t c =
+    while-turn c.args.command.now _ _ _ _ _ _ c.in-While.is (turn-held succeeded (λ expansions. list_means expansions pages (list_tree _)) (λ expansions. list_means expansions pages (list_tree _)) (λ expansions. list-adds expansions pages (list_tree _)) _ _ _ _ _ (sym c.goes_on.ensures ∙ c.if-not-goes_on.false)
+    (λ state same. succeeds-so _ state same c.if-shell-ne0.false) c.eval_list-how.ensures c.eval_loop_body.ensures)
+
+pub eval_while_turn-returns-in_default : goal.eval_while_turn-returns-in_default
+eval_while_turn-returns-in_default g t c = wanted (λ expansions. turn_means expansions pages (command_tree c.args.command.now)) _ (λ expansions. turn-adds expansions (command_tree c.args.command.now))
+
+pub eval_while_turn-returns-then-not-goes_on : goal.eval_while_turn-returns-then-not-goes_on
+eval_while_turn-returns-then-not-goes_on g t c =
+    while-turn c.args.command.now _ _ _ _ _ _ c.in-While.is (turn-left succeeded (λ expansions. list_means expansions pages (list_tree _)) (λ expansions. list_means expansions pages (list_tree _)) (λ expansions. list-adds expansions pages (list_tree _)) _ _ _ _ _ _ _ _ (sym c.goes_on.ensures ∙ c.if-not-goes_on.true) c.leave_condition.ensures c.eval_list-how.ensures)
+
+pub eval_while_turn-returns-then-shell-ne0 : goal.eval_while_turn-returns-then-shell-ne0
+eval_while_turn-returns-then-shell-ne0 g t c =
+    while-turn c.args.command.now _ _ _ _ _ _ c.in-While.is (turn-failed succeeded (λ expansions. list_means expansions pages (list_tree _)) (λ expansions. list_means expansions pages (list_tree _)) (λ expansions. list-adds expansions pages (list_tree _)) _ _ _ _ _ _ _ _ (sym c.goes_on.ensures ∙ c.if-not-goes_on.false)
+    (λ state same. fails-so _ state same c.if-shell-ne0.true) refl c.eval_list-how.ensures)
+
+pub eval_while-returns : goal.eval_while-returns
+eval_while-returns g t c = in-loop (λ expansions. all_turns (turn_means expansions pages (command_tree c.args.command.now))) _ _ _ _ _ _ _ _ _ _ _ _ _ (search rules) (search rules) c.eval_turns-how.ensures
+
+pub eval_while-returns-in_default : goal.eval_while-returns-in_default
+eval_while-returns-in_default g t c =
+    failed-early (λ expansions. in_loop (all_turns (turn_means expansions pages (command_tree c.args.command.now))))
+    (λ expansions. loop-adds (all_turns (turn_means expansions pages (command_tree c.args.command.now))) (turns-add expansions (command_tree c.args.command.now))) _ _ _ _ _ _ _ how.Memory (λ gone. gone) (no-fewer _) tt

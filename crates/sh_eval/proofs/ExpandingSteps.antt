@@ -1,0 +1,172 @@
+-- What is evaluated of a command comes of what is evaluated behind its words.
+use Rattle.std.proofs.Common.{◌≡◌, ◌⊎◌, inl, inr, ◌<◌, ◌≤◌, ◌+◌, ◌∷◌, ◌++◌, [], ℕ, List, Option, Some, None, Result, Ok, Err, length, get_or, drop, map, refl, sym, ap, ◌∙◌, subst, add-one, arith}
+use Rattle.std.specs.FinMap as finite
+use Rattle.std.proofs.lemmas.List.{map-append}
+use Rattle.std.proofs.Math.Seq.{drop-cons}
+use Rattle.std.proofs.Math.ListN.{drop_of_length-le}
+use Rattle.ps_lines.specs.declared.text.Text.{Text}
+use Rattle.ps_world.specs.Counts.{Rose}
+use Rattle.ps_world.specs.Files.{Files}
+use Rattle.ps_world.specs.TreeState.{TreeState, Balanced}
+use Rattle.ps_world.proofs.TreeStateLemmas.{balanced-none}
+use Rattle.sh_arith.specs.Variables.{Variables}
+use Rattle.sh_tree.specs.Trees.{WordTree}
+use Rattle.sh_tree.specs.Views.{word_tree}
+use Rattle.sh_tree.specs.declared.words.Word.{Word}
+use Rattle.sh_expand.specs.declared.faults.ExpandFault.{ExpandFault}
+use Rattle.sh_expand.specs.declared.faults.ExpandFault.TheVariants as fault
+use Rattle.sh_expand.specs.Fields.{IsOutside}
+use Rattle.sh_expand.specs.Outcomes.{Expansions, AreExpansions, Answer, told_fields, told_of}
+use Rattle.sh_eval.specs.declared.flows.Flow.TheVariants as flow
+use Rattle.sh_eval.specs.declared.outcomes.How.{How}
+use Rattle.sh_eval.specs.declared.outcomes.How.TheVariants as how
+use Rattle.sh_eval.specs.declared.session.Session.{Session}
+use Rattle.sh_eval.specs.declared.shell.Shell.{Shell}
+use Rattle.sh_eval.specs.Shells.{with_env}
+use Rattle.sh_eval.specs.States.{State, Ends, Means}
+use Rattle.sh_eval.specs.Contract.{Seen, Faults, Point, point_of, Base, Has, Comes, IsBehind, NoFewer, HasCause, IsGone, Keeps, Meaning, Evaluates, PassesOn, StopsAt}
+use Rattle.sh_eval.specs.Commands.{set_to}
+use Rattle.sh_eval.specs.Inner.Bodies.{assign_tree}
+use Rattle.sh_eval.specs.Simple.{put_back, restored}
+use Rattle.sh_eval.specs.Expanding.{assigning, given_by, with_variables, stops_at, goes_on_with, with_fields, with_text}
+use Rattle.sh_eval.specs.Growth.{Adds}
+use Rattle.sh_eval.proofs.Growing.{adds-assigning}
+use Rattle.sh_eval.proofs.Steps.{behind-told, changed-before}
+
+-- the meaning of a part whose variables are these then
+answers-has : (base : Base) (shell : Shell) (session : Session) (tree : TreeState) (seen : Seen) (faults : Faults) (state : State) (after : Variables) → Has base (point_of shell session tree seen faults) state
+    → Has base (point_of (with_env after shell) session tree seen faults) (with_variables after state)
+answers-has base shell session tree seen faults state after has =
+    record { shell = ap (with_env after) has.shell; session = has.session; home = has.home; held = has.held; seen = has.seen }
+
+-- an answer is gone on with, where the tree and what is written are as they were
+pub answered : (first second : Meaning) (shell shell' : Shell) (session : Session) (tree : TreeState) (seen : Seen) (faults : Faults) (came : How) (new : Point) → shell' ≡ with_env shell'.variables shell
+    → ((expansions : Expansions) → AreExpansions expansions → (base : Base) (state : State) → Has base (point_of shell session tree seen faults) state
+    → first expansions state ≡ second expansions (with_variables shell'.variables state))
+    → Evaluates second (point_of shell' session tree seen faults) came new → Evaluates first (point_of shell session tree seen faults) came new
+answered first second shell shell' session tree seen faults came new others same found =
+    let one : Evaluates second (point_of (with_env shell'.variables shell) session tree seen faults) came new =
+    subst (λ (it : Shell). Evaluates second (point_of it session tree seen faults) came new) others found in
+    record {
+      comes = λ expansions are base state has. subst (λ (left : Ends). Comes base came new left) (sym (same expansions are base state has))
+          (one.comes expansions are base (with_variables shell'.variables state) (answers-has base shell session tree seen faults state shell'.variables has));
+      keeps = λ gone. let keeps = one.keeps gone in record { whole = keeps.whole; files = keeps.files; output = keeps.output; errors = keeps.errors };
+      turns = one.turns;
+      later = one.later;
+      cause = one.cause;
+      lent = one.lent;
+    }
+
+-- a fault that words mean isn't one of the outside
+abbrev is-meant : ExpandFault → Type 0
+is-meant (fault.Unset name text) = Unit {0}
+is-meant (fault.Arith why) = Unit {0}
+is-meant fault.ArgsTooMany = Unit {0}
+is-meant fault.Failed = ⊥
+is-meant fault.Memory = ⊥
+
+meant-so : {A : Type 0} (why : ExpandFault) → is-meant why → IsOutside why ⊎ A → A
+meant-so why meant (inl (inl same)) = absurd (subst is-meant same meant)
+meant-so why meant (inl (inr same)) = absurd (subst is-meant same meant)
+meant-so why meant (inr it) = it
+
+-- FIELDS of words
+module _ (words : List WordTree) (shell shell' : Shell) (session : Session) (tree : TreeState) (seen : Seen) (faults : Faults) (others : shell' ≡ with_env shell'.variables shell) where
+  abbrev fields_told : Result (List (List ℕ)) ExpandFault → Type 0
+  fields_told answer = (expansions : Expansions) → AreExpansions expansions → (files : Files) → tree.held ≡ Some files
+      → told_fields (expansions.fields files tree.home (given_by shell) shell.variables words) ≡ (answer, shell'.variables)
+
+  fields-so : (answer : Result (List (List ℕ)) ExpandFault) → fields_told answer → (next : List (List ℕ) → Means) (expansions : Expansions) → AreExpansions expansions → (base : Base) (state : State)
+      → Has base (point_of shell session tree seen faults) state → with_fields expansions words next state ≡ goes_on_with next (answer, shell'.variables) state
+  fields-so answer told next expansions are base state has =
+      let by_world = told expansions are state.world.files has.held in
+      let by_state : told_fields (expansions.fields state.world.files state.world.home (given_by state.shell) state.shell.variables words) ≡ (answer, shell'.variables) =
+      subst (λ (home : _). told_fields (expansions.fields state.world.files home (given_by state.shell) state.shell.variables words) ≡ (answer, shell'.variables)) has.home
+      (subst (λ (it : Shell). told_fields (expansions.fields state.world.files tree.home (given_by it) it.variables words) ≡ (answer, shell'.variables)) has.shell by_world) in
+      ap (λ (it : Answer (List (List ℕ))). goes_on_with next it state) by_state
+
+  pub words-pass : (fields : List (List ℕ)) → fields_told (Ok fields)
+      → PassesOn (λ expansions. with_fields expansions words) (point_of shell session tree seen faults) fields (point_of shell' session tree seen faults)
+  words-pass fields told next came new found =
+      answered (λ expansions. with_fields expansions words (next expansions)) (λ expansions. next expansions fields) shell shell' session tree seen faults came new others
+      (λ expansions are base state has. fields-so (Ok fields) told (next expansions) expansions are base state has) found
+
+  pub words-stop : (why : ExpandFault) → fields_told (Err why) → (came : How) (new : Point) → Evaluates (λ expansions. stops_at why) (point_of shell' session tree seen faults) came new
+      → StopsAt (λ expansions. with_fields expansions words) (point_of shell session tree seen faults) came new
+  words-stop why told came new found next adds =
+      answered (λ expansions. with_fields expansions words (next expansions)) (λ expansions. stops_at why) shell shell' session tree seen faults came new others
+      (λ expansions are base state has. fields-so (Err why) told (next expansions) expansions are base state has) found
+
+-- THE TEXT of a word of which nothing is split
+module _ (word : WordTree) (shell shell' : Shell) (session : Session) (tree : TreeState) (seen : Seen) (faults : Faults) (others : shell' ≡ with_env shell'.variables shell) where
+  abbrev text_told : Result (List ℕ) ExpandFault → Type 0
+  text_told answer = (expansions : Expansions) → AreExpansions expansions → told_of (expansions.text (given_by shell) shell.variables word) ≡ (answer, shell'.variables)
+
+  text-so : (answer : Result (List ℕ) ExpandFault) → text_told answer → (next : List ℕ → Means) (expansions : Expansions) → AreExpansions expansions → (base : Base) (state : State)
+      → Has base (point_of shell session tree seen faults) state → with_text expansions word next state ≡ goes_on_with next (answer, shell'.variables) state
+  text-so answer told next expansions are base state has =
+      let by_state : told_of (expansions.text (given_by state.shell) state.shell.variables word) ≡ (answer, shell'.variables) =
+      subst (λ (it : Shell). told_of (expansions.text (given_by it) it.variables word) ≡ (answer, shell'.variables)) has.shell (told expansions are) in
+      ap (λ (it : Answer (List ℕ)). goes_on_with next it state) by_state
+
+  pub text-passes : (text : List ℕ) → text_told (Ok text)
+      → PassesOn (λ expansions. with_text expansions word) (point_of shell session tree seen faults) text (point_of shell' session tree seen faults)
+  text-passes text told next came new found =
+      answered (λ expansions. with_text expansions word (next expansions)) (λ expansions. next expansions text) shell shell' session tree seen faults came new others
+      (λ expansions are base state has. text-so (Ok text) told (next expansions) expansions are base state has) found
+
+  pub text-stops : (why : ExpandFault) → text_told (Err why) → (came : How) (new : Point) → Evaluates (λ expansions. stops_at why) (point_of shell' session tree seen faults) came new
+      → StopsAt (λ expansions. with_text expansions word) (point_of shell session tree seen faults) came new
+  text-stops why told came new found next adds =
+      answered (λ expansions. with_text expansions word (next expansions)) (λ expansions. stops_at why) shell shell' session tree seen faults came new others
+      (λ expansions are base state has. text-so (Err why) told (next expansions) expansions are base state has) found
+
+-- ASSIGNMENTS
+assign-step : (assigns : List (Text × Word)) (place : ℕ) (one : Text × Word) → one ≡ get_or assigns place one → place < length assigns
+    → map assign_tree (drop place assigns) ≡ assign_tree one ∷ map assign_tree (drop (place + 1) assigns)
+assign-step assigns place one here below =
+    let cut : drop place assigns ≡ get_or assigns place one ∷ drop (place + 1) assigns = rw add-one (drop-cons assigns place one below) in
+    ap (map assign_tree) cut ∙ ap (λ (it : Text × Word). assign_tree it ∷ map assign_tree (drop (place + 1) assigns)) (sym here)
+
+module _ (assigns : List (Text × Word)) (place : ℕ) (one : Text × Word) (here : one ≡ get_or assigns place one) (below : place < length assigns)
+    (shell : Shell) (session : Session) (tree : TreeState) (seen : Seen) (faults : Faults) where
+  abbrev behind_text : (Expansions → Means) → Expansions → List ℕ → Means
+  behind_text next expansions text state = assigning expansions (map assign_tree (drop (place + 1) assigns)) (next expansions) (set_to one.0 text state)
+
+  pub assigns-stop : (shell' : Shell) (others : shell' ≡ with_env shell'.variables shell) (why : ExpandFault) → text_told (word_tree one.1) shell shell' session tree seen faults others (Err why) → (came : How) (new : Point)
+      → Evaluates (λ expansions. stops_at why) (point_of shell' session tree seen faults) came new → (next : Expansions → Means) → ((expansions : Expansions) → Adds (next expansions))
+      → Evaluates (λ expansions. assigning expansions (map assign_tree (drop place assigns)) (next expansions)) (point_of shell session tree seen faults) came new
+  assigns-stop shell' others why told came new found next adds =
+      rw (assign-step assigns place one here below)
+      (text-stops (word_tree one.1) shell shell' session tree seen faults others why told came new found (behind_text next)
+      (λ expansions text state. adds-assigning expansions (map assign_tree (drop (place + 1) assigns)) (next expansions) (adds expansions) (set_to one.0 text state)))
+
+  pub assigns-pass : (shell' shell'' : Shell) (others : shell' ≡ with_env shell'.variables shell) (text : List ℕ) → text_told (word_tree one.1) shell shell' session tree seen faults others (Ok text)
+      → shell'' ≡ with_env (finite.insert shell'.variables one.0 text) shell' → (came : How) (new : Point) (next : Expansions → Means)
+      → Evaluates (λ expansions. assigning expansions (map assign_tree (drop (place + 1) assigns)) (next expansions)) (point_of shell'' session tree seen faults) came new
+      → Evaluates (λ expansions. assigning expansions (map assign_tree (drop place assigns)) (next expansions)) (point_of shell session tree seen faults) came new
+  assigns-pass shell' shell'' others text told set came new next rest =
+      rw (assign-step assigns place one here below)
+      (text-passes (word_tree one.1) shell shell' session tree seen faults others text told (behind_text next) came new
+      (changed-before (λ expansions. assigning expansions (map assign_tree (drop (place + 1) assigns)) (next expansions)) (λ shell. with_env (finite.insert shell.variables one.0 text) shell) shell' shell'' session tree seen faults came new set rest))
+
+pub assigns-done : (assigns : List (Text × Word)) (place : ℕ) → length assigns ≤ place → (next : Expansions → Means) (expansions : Expansions)
+    → assigning expansions (map assign_tree (drop place assigns)) (next expansions) ≡ next expansions
+assigns-done assigns place over next expansions = rw (drop_of_length-le assigns over) refl
+
+-- the variables of a command have their old values again, the last first
+restored-last : (front : List (List ℕ × WordTree)) (last : List ℕ × WordTree) (old variables : Variables)
+    → restored (front ++ last ∷ []) old variables ≡ restored front old (put_back last.0 (finite.get old last.0) variables)
+restored-last [] last old variables = refl
+restored-last (first ∷ front) last old variables = ap (put_back first.0 (finite.get old first.0)) (restored-last front last old variables)
+
+trees-last : (front : List (Text × Word)) (last : Text × Word) → map assign_tree (front ++ last ∷ []) ≡ map assign_tree front ++ assign_tree last ∷ []
+trees-last front last = map-append assign_tree front (last ∷ [])
+
+pub restored-some : (front : List (Text × Word)) (last : Text × Word) (old variables : Variables) (text : List ℕ) → finite.get old last.0 ≡ Some text
+    → restored (map assign_tree (front ++ last ∷ [])) old variables ≡ restored (map assign_tree front) old (finite.insert variables last.0 text)
+restored-some front last old variables text is = rw (trees-last front last) rw (restored-last (map assign_tree front) (assign_tree last) old variables) rw is refl
+
+pub restored-none : (front : List (Text × Word)) (last : Text × Word) (old variables : Variables) → finite.get old last.0 ≡ None
+    → restored (map assign_tree (front ++ last ∷ [])) old variables ≡ restored (map assign_tree front) old (finite.remove variables last.0)
+restored-none front last old variables is = rw (trees-last front last) rw (restored-last (map assign_tree front) (assign_tree last) old variables) rw is refl

@@ -1,0 +1,3 @@
+-- Words that the functions of the evaluator need for themselves; what a script means doesn't hang on them.
+pub mod Bodies
+pub mod Loops

@@ -5,3 +5,4 @@ pub mod NewlineLemmas
 pub mod CommandSteps
 pub mod LoopSteps
 pub mod ExpandingSteps
+pub mod WritingLemmas

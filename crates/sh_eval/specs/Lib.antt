@@ -13,5 +13,6 @@ pub mod Simple
 pub mod Meaning
 pub mod Growth
 pub mod Contract
+pub mod Writing
 pub mod Table
 pub mod Inner

@@ -11,6 +11,7 @@
 
 mod flows;
 pub mod laws;
+mod lines;
 mod lists;
 mod newlines;
 mod outcomes;
@@ -22,6 +23,7 @@ mod simple;
 mod streams;
 #[cfg(test)]
 mod tests;
+mod writing;
 
 pub use flows::Flow;
 pub use outcomes::{How, Played, Position};

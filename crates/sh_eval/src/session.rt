@@ -35,6 +35,7 @@ pub struct Session {
 
 impl Pipes {
     ghost use Rattle.std.specs.Prelude.{◌≡◌, [], ◌∷◌, ◌++◌, ◌-◌, get_or, length, take, OnOk, OnErr};
+    ghost use Rattle.sh_eval.specs.States.{grown_at};
 
     /// How many pipes are open.
     fn count(&self) -> u64
@@ -49,6 +50,18 @@ impl Pipes {
         ensures err { OnErr result (self.new ≡ self.old) }
     {
         Ok(self.texts.push(Vec::new(alloc))?)
+    }
+
+    /// Puts bytes behind what the pipe of this number has taken in.
+    pub(crate) fn append(&mut self, number: u64, bytes: &[u8]) -> Result<(), Memory>
+        ensures ok { OnOk result (self.new ≡ grown_at number bytes.now self.old) }
+        ensures err { OnErr result (self.new ≡ self.old) }
+    {
+        let place = number as usize;
+        if place < self.texts.len() {
+            self.texts[place].extend_from_slice(bytes)?;
+        }
+        Ok(())
     }
 
     /// Closes the innermost pipe, and gives what it has taken in.

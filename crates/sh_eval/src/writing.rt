@@ -1,0 +1,140 @@
+//! What a shell writes, where its descriptors lead (XCU 2.7).
+ghost use Rattle.std.specs.Prelude.{◌≡◌, ℕ, ◌≤◌, List, Option, IfSome, IsErrOf, OnOk};
+ghost use Rattle.std.specs.Option.{option_map};
+ghost use Rattle.ps_world.specs.Counts.{Rose};
+ghost use Rattle.ps_world.specs.Files.{IsFileAt};
+ghost use Rattle.ps_world.specs.TreeState.{Balanced};
+ghost use Rattle.sh_eval.specs.Contract.{CanTake, Evaluates, IsSound, faults_of, point_of, seen_of};
+ghost use Rattle.sh_eval.specs.States.{on, puts, tells, write};
+ghost use Rattle.sh_eval.specs.Writing.{added_to, kept as kept_lem, written as written_lem};
+ghost use Rattle.sh_eval.specs.declared.session.Session.{Session};
+ghost use Rattle.sh_eval.specs.declared.shell.Shell.{Shell};
+
+use crate::flows::Flow;
+use crate::outcomes::How;
+use crate::session::{Pipes, Session};
+use crate::streams::To;
+use ps_world::{Mode, Path, Sink, Tree, WorldErr, write_all};
+
+/// Writes a command's output.
+pub(crate) fn put<T: Tree, O: Sink, E: Sink>(
+    bytes: &[u8],
+    session: &mut Session,
+    tree: &mut T,
+    out: &mut O,
+    err: &mut E,
+) -> How
+    requires sound { IsSound session.old (T.state tree.old) }
+    ensures { (shell : Shell) (left : Option (List ℕ)) (input : ℕ) → Evaluates (λ expansions state. on (puts bytes.now state))
+        (point_of shell session.old (T.state tree.old) (seen_of left (O.taken out.old) (E.taken err.old))
+        (faults_of input (O.faults out.old) (E.faults err.old) (T.faults tree.old)))
+        result
+        (point_of shell session.new (T.state tree.new) (seen_of left (O.taken out.new) (E.taken err.new))
+        (faults_of input (O.faults out.new) (E.faults err.new) (T.faults tree.new))) }
+{
+    write_to(
+        &session.streams.to,
+        bytes,
+        &mut session.pipes,
+        tree,
+        out,
+        err,
+    )
+}
+
+/// Writes a command's diagnostics.
+pub(crate) fn tell<T: Tree, O: Sink, E: Sink>(
+    line: &[u8],
+    session: &mut Session,
+    tree: &mut T,
+    out: &mut O,
+    err: &mut E,
+) -> How
+    requires sound { IsSound session.old (T.state tree.old) }
+    ensures { (shell : Shell) (left : Option (List ℕ)) (input : ℕ) → Evaluates (λ expansions state. on (tells line.now state))
+        (point_of shell session.old (T.state tree.old) (seen_of left (O.taken out.old) (E.taken err.old))
+        (faults_of input (O.faults out.old) (E.faults err.old) (T.faults tree.old)))
+        result
+        (point_of shell session.new (T.state tree.new) (seen_of left (O.taken out.new) (E.taken err.new))
+        (faults_of input (O.faults out.new) (E.faults err.new) (T.faults tree.new))) }
+{
+    write_to(
+        &session.streams.errors_to,
+        line,
+        &mut session.pipes,
+        tree,
+        out,
+        err,
+    )
+}
+
+/// Writes bytes to a place.
+fn write_to<T: Tree, O: Sink, E: Sink>(
+    place: &To,
+    bytes: &[u8],
+    pipes: &mut Pipes,
+    tree: &mut T,
+    out: &mut O,
+    err: &mut E,
+) -> How
+    requires there { IfSome (T.state tree.old).held (λ files. CanTake files place.now) }
+    ensures { (shell : Shell) (session : Session) (left : Option (List ℕ)) (input : ℕ) → session.pipes ≡ pipes.old
+        → Evaluates (λ expansions state. on (write place.now bytes.now state))
+        (point_of shell session (T.state tree.old) (seen_of left (O.taken out.old) (E.taken err.old))
+        (faults_of input (O.faults out.old) (E.faults err.old) (T.faults tree.old)))
+        result
+        (point_of shell (record session { pipes = pipes.new }) (T.state tree.new) (seen_of left (O.taken out.new) (E.taken err.new))
+        (faults_of input (O.faults out.new) (E.faults err.new) (T.faults tree.new))) }
+{
+    match place {
+        To::Output => written(write_all(out, bytes)),
+        To::Errors => written(write_all(err, bytes)),
+        To::Pipe(number) => match pipes.append(*number, bytes) {
+            Ok(()) => How::Gone(Flow::On),
+            Err(_) => How::Memory,
+        },
+        To::File(path) => kept(append_to(tree, path, bytes)),
+        To::Null => How::Gone(Flow::On),
+    }
+}
+
+/// How a command goes on behind what it wrote to the standard output or error.
+fn written(outcome: Result<(), WorldErr>) -> How
+    ensures { result ≡ written_lem outcome }
+{
+    match outcome {
+        Ok(()) => How::Gone(Flow::On),
+        Err(WorldErr::Failed) => How::WriteFault,
+        Err(WorldErr::Memory) => How::Memory,
+    }
+}
+
+/// How a command goes on behind what it wrote to a file.
+fn kept(outcome: Result<(), WorldErr>) -> How
+    ensures { result ≡ kept_lem outcome }
+{
+    match outcome {
+        Ok(()) => How::Gone(Flow::On),
+        Err(WorldErr::Failed) => How::TreeFault,
+        Err(WorldErr::Memory) => How::Memory,
+    }
+}
+
+/// Writes bytes behind those of a file. The writer comes back on every way out.
+fn append_to<T: Tree>(tree: &mut T, path: &Path, bytes: &[u8]) -> Result<(), WorldErr>
+    requires there { IfSome (T.state tree.old).held (λ files. IsFileAt files path.now) }
+    ensures held { OnOk result ((T.state tree.new).held ≡ option_map (added_to path.now bytes.now) (T.state tree.old).held) }
+    ensures lent { Balanced (T.state tree.old) (T.state tree.new) }
+    ensures later { T.faults tree.old ≤ T.faults tree.new }
+    ensures ok { OnOk result (T.faults tree.new ≡ T.faults tree.old) }
+    ensures failed { IsErrOf result WorldErr.Failed → Rose (T.faults tree.old) (T.faults tree.new) }
+{
+    let mut writer = tree.create(path, Mode::Append)?;
+    match write_all(&mut writer, bytes) {
+        Ok(()) => tree.end_write(path, writer),
+        Err(error) => {
+            let _ = tree.end_write(path, writer);
+            Err(error)
+        }
+    }
+}

@@ -6,3 +6,6 @@ pub mod CommandSteps
 pub mod LoopSteps
 pub mod ExpandingSteps
 pub mod WritingLemmas
+pub mod EndingLemmas
+pub mod BuiltinLemmas
+pub mod ReadingLemmas

@@ -4,11 +4,10 @@ use Rattle.std.specs.Global.{Vec}
 use Rattle.std.specs.FinMap as map
 use Rattle.std.specs.Option.{option_map}
 use Rattle.std.specs.Ordering.{eq_by_cmp}
-use Rattle.ps_lines.specs.Texts.{texts_of, BeginsWith}
-use Rattle.ps_lines.proofs.TextsLemmas.{begins-append, begins-self}
+use Rattle.ps_lines.specs.Texts.{texts_of}
 use Rattle.ps_world.specs.Counts.{Counts, Rose}
 use Rattle.ps_world.specs.Paths.{Components, path_cmp, path_cmp_total}
-use Rattle.ps_world.specs.Files.{Files, Bytes, IsFile, IsFileAt, NoWriterOut, Node, bytes_at}
+use Rattle.ps_world.specs.Files.{Files, Bytes, IsFile, NoWriterOut, Node, bytes_at}
 use Rattle.ps_world.specs.Told.{then_bytes, GrewByPrefix}
 use Rattle.ps_world.specs.TreeState.{TreeState, Balanced, IsFilled, lend, take_out, take_back, fill}
 use Rattle.ps_world.specs.declared.error.WorldErr.{WorldErr}
@@ -17,7 +16,6 @@ use Rattle.ps_world.proofs.ToldLemmas.{then_bytes-append, grew_by_more, grew_by_
 use Rattle.ps_world.proofs.TreeStateLemmas.{balanced-none, balanced-written}
 use Rattle.ps_world.proofs.WritingLemmas.{no_writer_out-filled, fill-take_out}
 use Rattle.sh_expand.specs.Outcomes.{Expansions}
-use Rattle.sh_eval.specs.declared.flows.Flow.{Flow}
 use Rattle.sh_eval.specs.declared.flows.Flow.TheVariants as flow
 use Rattle.sh_eval.specs.declared.outcomes.How.{How}
 use Rattle.sh_eval.specs.declared.outcomes.How.TheVariants as how
@@ -25,11 +23,11 @@ use Rattle.sh_eval.specs.declared.session.Session.{Session}
 use Rattle.sh_eval.specs.declared.shell.Shell.{Shell}
 use Rattle.sh_eval.specs.declared.streams.To.{To}
 use Rattle.sh_eval.specs.declared.streams.To.TheVariants as to
-use Rattle.sh_eval.specs.States.{World, State, Ends, on, write, puts, tells, grown_at}
-use Rattle.sh_eval.specs.Contract.{Seen, Faults, Point, point_of, seen_of, faults_of, Base, told, Has, HasEnd, IsBehind, Comes, HasCause, IsGone, CanTake, Stay, StayIn, HeldStays, Keeps, NoFewer, Meaning, Evaluates}
+use Rattle.sh_eval.specs.States.{State, Ends, on, write, puts, tells, grown_at}
+use Rattle.sh_eval.specs.Contract.{Seen, Faults, Point, point_of, seen_of, faults_of, Base, Has, IsBehind, Comes, HasCause, IsGone, Stay, HeldStays, NoFewer, Meaning, Evaluates}
 use Rattle.sh_eval.specs.Writing.{written, kept, added_to}
 use Rattle.sh_eval.proofs.Growing.{grows-write}
-use Rattle.sh_eval.proofs.Steps.{nothing, wanted, no-fewer, held-none, keeps-none}
+use Rattle.sh_eval.proofs.Steps.{nothing, wanted, no-fewer, held-none}
 
 -- what is meant may be said otherwise, where it is the same at every state of the point
 pub meant : (first second : Meaning) (old new : Point) (came : How) → ((expansions : Expansions) (base : Base) (state : State) → Has base old state → first expansions state ≡ second expansions state)

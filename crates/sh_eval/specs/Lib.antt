@@ -14,5 +14,7 @@ pub mod Meaning
 pub mod Growth
 pub mod Contract
 pub mod Writing
+pub mod Ending
+pub mod Reading
 pub mod Table
 pub mod Inner

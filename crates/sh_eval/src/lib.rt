@@ -9,12 +9,14 @@
 //! redirection, `if` and loops want memory. The program doesn't call it yet.
 #![tactic(auto)]
 
+mod builtins;
 mod flows;
 pub mod laws;
 mod lines;
 mod lists;
 mod newlines;
 mod outcomes;
+mod reading;
 mod refusals;
 mod rests;
 mod session;

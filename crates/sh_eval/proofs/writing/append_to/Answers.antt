@@ -1,4 +1,4 @@
-use Rattle.std.proofs.Common.{rules, Result, Ok, Err, OnOk}
+use Rattle.std.proofs.Common.{rules}
 use Rattle.sh_eval.proofs.WritingLemmas.{held-filled-where, given-back}
 use Rattle.sh_eval.proofs.writing.append_to.Goals as goal
 

@@ -1,4 +1,4 @@
-use Rattle.std.proofs.Common.{rules, ◌≡◌, ℕ, List, ap, ◌∙◌, subst, OnErr}
+use Rattle.std.proofs.Common.{rules, ◌≡◌, ℕ, List, ap, ◌∙◌, subst}
 use Rattle.ps_world.proofs.ToldLemmas.{on_any_err}
 use Rattle.sh_eval.specs.States.{grown_at}
 use Rattle.sh_eval.proofs.WritingLemmas.{grown_at-set, grown_at-past, texts-same}

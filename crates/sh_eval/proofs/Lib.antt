@@ -9,3 +9,4 @@ pub mod WritingLemmas
 pub mod EndingLemmas
 pub mod BuiltinLemmas
 pub mod ReadingLemmas
+pub mod RedirectionLemmas

@@ -16,5 +16,6 @@ pub mod Contract
 pub mod Writing
 pub mod Ending
 pub mod Reading
+pub mod Leading
 pub mod Table
 pub mod Inner

@@ -20,16 +20,13 @@ use Rattle.sh_eval.specs.declared.streams.Streams.{Streams}
 use Rattle.sh_eval.specs.States.{World, State, Ends, Means, ends, refused, in_session, in_world, in_streams, leaves, tells}
 use Rattle.sh_eval.specs.Lines.{diagnostic, no_such_file, is_a_directory}
 use Rattle.sh_eval.specs.Targets.{Target}
+pub use Rattle.sh_eval.specs.declared.busy.Use.{Use}
 
 -- what a path as written names
 abbrev pub named_by : State → List ℕ → Place
 named_by state text = resolve state.world.files state.world.home text
 
 -- PATHS THAT ARE BUSY. A command uses a path: it reads or writes it
-pub record Use : Type 0 where
-  pub text : List ℕ
-  pub place : Place
-  pub writes : Bool
 
 -- the path of a place, whether or not a file is there
 abbrev pub path_at : Place → Option Components

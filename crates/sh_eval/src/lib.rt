@@ -10,6 +10,8 @@
 #![tactic(auto)]
 
 mod builtins;
+mod busy;
+mod files;
 mod flows;
 pub mod laws;
 mod lines;
@@ -23,10 +25,12 @@ mod session;
 mod shell;
 mod simple;
 mod streams;
+mod targets;
 #[cfg(test)]
 mod tests;
 mod writing;
 
+pub use busy::Use;
 pub use flows::Flow;
 pub use outcomes::{How, Played, Position};
 pub use refusals::Refusal;
@@ -34,3 +38,4 @@ pub use rests::Rest;
 pub use session::{Pipes, Session};
 pub use shell::Shell;
 pub use streams::{From, Held, HeldPaths, Streams, To};
+pub use targets::Target;

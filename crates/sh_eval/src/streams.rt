@@ -1,5 +1,6 @@
 //! Where a shell's descriptors lead.
 use crate::rests::Rest;
+use ps_lines::Memory;
 use ps_world::Path;
 use std::marker::Model;
 
@@ -56,4 +57,32 @@ pub struct Streams {
     pub to: To,
     pub errors_to: To,
     pub held: HeldPaths,
+}
+
+impl To {
+    ghost use Rattle.std.specs.Prelude.{◌≡◌, IfOk};
+
+    /// The same place.
+    pub(crate) fn copy(&self) -> Result<To, Memory>
+        ensures { IfOk result (λ place. place ≡ self.now) }
+    {
+        match self {
+            To::Output => Ok(To::Output),
+            To::Errors => Ok(To::Errors),
+            To::Pipe(number) => Ok(To::Pipe(*number)),
+            To::File(path) => Ok(To::File(path.copy()?)),
+            To::Null => Ok(To::Null),
+        }
+    }
+}
+
+impl HeldPaths {
+    ghost use Rattle.std.specs.Prelude.{◌≡◌};
+
+    /// The paths.
+    pub(crate) fn as_slice(&self) -> &[Held]
+        ensures { result.now ≡ self.now }
+    {
+        self.paths.as_slice()
+    }
 }

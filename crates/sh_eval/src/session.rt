@@ -92,9 +92,8 @@ impl Session {
     pub(crate) fn hand_on(&mut self, alloc: Global, place: To)
         ensures { self.new ≡ unpiped place (record self.old { piped = innermost self.old }) }
     {
-        let text = self.pipes.close(alloc);
+        let text = self.close_pipe(alloc, place);
         self.piped = Text::from_vec(text);
-        self.streams.to = place;
     }
 
     /// Closes the pipe, and gives what it has taken in; the output goes to `place`.

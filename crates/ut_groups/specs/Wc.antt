@@ -13,5 +13,5 @@ count_on line = unwrap_or (number_of (take (length line - 1) line)) 0
 -- the counts of parts are added up
 abbrev pub wc : WcArgs → Utility
 wc args = record (each_by_itself line_count (λ text. false)) {
-  aggregate = λ first second. count_line (count_on first + count_on second)
+  aggregate = λ first second. count_line (count_on first + count_on second);
 }

@@ -10,3 +10,4 @@ pub mod EndingLemmas
 pub mod BuiltinLemmas
 pub mod ReadingLemmas
 pub mod RedirectionLemmas
+pub mod RedirectionSteps

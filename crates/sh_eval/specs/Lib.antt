@@ -17,5 +17,6 @@ pub mod Writing
 pub mod Ending
 pub mod Reading
 pub mod Leading
+pub mod Redirecting
 pub mod Table
 pub mod Inner

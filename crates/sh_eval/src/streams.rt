@@ -2,6 +2,7 @@
 use crate::rests::Rest;
 use ps_lines::Memory;
 use ps_world::Path;
+use std::alloc::Global;
 use std::marker::Model;
 
 /// What descriptor 0 reads.
@@ -77,7 +78,21 @@ impl To {
 }
 
 impl HeldPaths {
-    ghost use Rattle.std.specs.Prelude.{◌≡◌};
+    ghost use Rattle.std.specs.Prelude.{◌≡◌, IfOk};
+
+    /// The same paths.
+    pub(crate) fn copy(&self, alloc: Global) -> Result<HeldPaths, Memory>
+        ensures { IfOk result (λ held. held ≡ self.now) }
+    {
+        let mut paths = Vec::new(alloc);
+        for held in &self.paths {
+            paths.push(Held {
+                path: held.path.copy()?,
+                writes: held.writes,
+            })?;
+        }
+        Ok(HeldPaths { paths })
+    }
 
     /// The paths.
     pub(crate) fn as_slice(&self) -> &[Held]

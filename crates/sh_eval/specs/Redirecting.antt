@@ -1,0 +1,64 @@
+-- What is left of a redirection that is done, and of one that stops (XCU 2.7, 2.8.1).
+use Rattle.std.specs.Prelude.{◌≡◌, ℕ, ◌≤◌, List, [], ◌∷◌, Option, Some, IfSome, Result, Ok, Err}
+use Rattle.ps_world.specs.Counts.{Rose}
+use Rattle.ps_world.specs.declared.error.WorldErr.{WorldErr}
+use Rattle.ps_world.specs.declared.error.WorldErr.TheVariants as error
+use Rattle.ps_world.specs.TreeState.{Balanced}
+use Rattle.ps_world.specs.Files.{NoWriterOut}
+use Rattle.sh_eval.specs.declared.stops.Stop.{Stop}
+use Rattle.sh_eval.specs.declared.stops.Stop.TheVariants as stop
+use Rattle.sh_eval.specs.declared.streams.From.{From}
+use Rattle.sh_eval.specs.Targets.{Target}
+use Rattle.sh_eval.specs.States.{State, Means}
+use Rattle.sh_eval.specs.Redirections.{Redirected, led, stopped, redirecting, skipped}
+use Rattle.sh_eval.specs.Contract.{Point, Base, Has, NoFewer, IsSound, HeldStays, Meaning}
+
+-- the state behind a redirection
+pub record LedAt (base : Base) (does : State → Redirected) (state : State) (new : Point) : Type 0 where
+  pub behind : State
+  pub has : Has base new behind
+  pub same : does state ≡ led behind
+
+-- what a redirection leaves to the next
+pub record LeavesOn (old new : Point) : Type 0 where
+  pub whole : IfSome old.tree.held NoWriterOut → IfSome new.tree.held NoWriterOut
+  pub files : HeldStays old.tree.held new.tree.held
+  pub sound : IsSound old.session old.tree → IsSound new.session new.tree
+  pub turns : old.session.turns ≤ new.session.turns
+  pub faults : new.faults ≡ old.faults
+  pub lent : Balanced old.tree new.tree
+
+-- a redirection is done
+pub record Led (does : State → Redirected) (old new : Point) : Type 0 where
+  pub at : (base : Base) (state : State) → Has base old state → LedAt base does state new
+  pub leaves_on : LeavesOn old new
+
+-- a line tells why it isn't done, and nothing was changed
+pub record TellsWhy (does : State → Redirected) (line : List ℕ) (old new : Point) : Type 0 where
+  pub at : (base : Base) (state : State) → Has base old state → does state ≡ stopped line
+  pub same : new ≡ old
+
+-- the tree failed, or memory was wanted
+pub record Breaks (old new : Point) : Type 0 where
+  pub taken : new.seen ≡ old.seen
+  pub turns : old.session.turns ≤ new.session.turns
+  pub later : NoFewer old.faults new.faults
+  pub lent : Balanced old.tree new.tree
+
+-- a redirection is done, or stops
+abbrev pub Does : (State → Redirected) → Point → Point → Result (Option From) Stop → Type 0
+Does does old new (Ok value) = Led does old new
+Does does old new (Err (stop.Line line)) = TellsWhy does line old new
+Does does old new (Err stop.Tree) = Breaks old new × Rose old.faults.tree new.faults.tree
+Does does old new (Err stop.Memory) = Breaks old new
+
+-- a line tells why, unless memory is wanted
+abbrev pub TellsLine : Stop → List ℕ → Type 0
+TellsLine (stop.Line line) wanted = line ≡ wanted
+TellsLine stop.Tree wanted = ⊥
+TellsLine stop.Memory wanted = Unit {0}
+
+-- why a redirection isn't done where the tree failed
+abbrev pub of_tree : WorldErr → Stop
+of_tree error.Failed = stop.Tree
+of_tree error.Memory = stop.Memory

@@ -11,3 +11,4 @@ pub mod BuiltinLemmas
 pub mod ReadingLemmas
 pub mod RedirectionLemmas
 pub mod RedirectionSteps
+pub mod RedirectionLoops

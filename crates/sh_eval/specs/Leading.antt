@@ -18,6 +18,10 @@ before_in streams = record { from = None; to = streams.to; errors_to = streams.e
 abbrev pub keeping : From → Before → Before
 keeping read before = record before { from = Some (unwrap_or before.from read) }
 
+abbrev pub kept_by : Option From → Before → Before
+kept_by None before = before
+kept_by (Some read) before = keeping read before
+
 -- and it reads that again
 abbrev pub read_again : Option From → Streams → Streams
 read_again from streams = record streams { from = unwrap_or from streams.from }

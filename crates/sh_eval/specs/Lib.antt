@@ -18,5 +18,6 @@ pub mod Ending
 pub mod Reading
 pub mod Leading
 pub mod Redirecting
+pub mod Reaching
 pub mod Table
 pub mod Inner

@@ -1,7 +1,7 @@
 //! Where descriptors lead before, within and behind a command's redirections (XCU 2.7).
 ghost use Rattle.std.specs.Prelude.{◌≡◌, IfOk};
 ghost use Rattle.std.specs.Option.{unwrap_or};
-ghost use Rattle.sh_eval.specs.Leading.{before_in, keeping, put_back, read_again as read_again_lem};
+ghost use Rattle.sh_eval.specs.Leading.{before_in, keeping, kept_by, put_back, read_again as read_again_lem};
 ghost use Rattle.sh_eval.specs.Redirections.{leads_to, led_to as led_to_lem};
 ghost use Rattle.sh_eval.specs.States.{in_streams, reading};
 
@@ -46,6 +46,16 @@ impl Before {
             return;
         }
         self.from = Some(read);
+    }
+
+    /// Keeps what descriptor 0 read, where it reads something else now.
+    pub(crate) fn keep_read(&mut self, read: Option<From>)
+        ensures { self.new ≡ kept_by read self.old }
+    {
+        match read {
+            Some(read) => self.keep(read),
+            None => {}
+        }
     }
 
     /// Has the descriptors lead where they led. What was read of the shell's own input stays read.

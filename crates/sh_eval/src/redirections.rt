@@ -1,9 +1,10 @@
 //! Redirections, one after the other (XCU 2.7).
-ghost use Rattle.std.specs.Prelude.{◌≡◌, ℕ, codes, false, IfOk, IfSome, OnOk, None, Some, if◌then◌else◌};
+ghost use Rattle.std.specs.Prelude.{◌≡◌, ℕ, codes, false, IfOk, IfSome, OnErr, OnOk, None, Some, if◌then◌else◌};
 ghost use Rattle.ps_world.specs.Files.{CanBeMade, NoWriterOut};
 ghost use Rattle.ps_world.specs.Places.{StandsIn};
 ghost use Rattle.sh_eval.specs.Contract.{Faults, Seen, faults_of, point_of};
 ghost use Rattle.sh_eval.specs.Lines.{diagnostic as diagnostic_lem};
+ghost use Rattle.sh_eval.specs.Reaching.{DoesAll, Remembers, RemembersSome, has_read};
 ghost use Rattle.sh_eval.specs.Redirecting.{Does, TellsLine, of_tree as of_tree_lem};
 ghost use Rattle.sh_eval.specs.Redirections.{file_begun, is_read, leading, led_to as led_to_lem, named_by, reading_at, redirected, writing_at};
 ghost use Rattle.sh_eval.specs.States.{in_world};
@@ -11,7 +12,7 @@ ghost use Rattle.ps_world.specs.TreeState.{TreeState};
 ghost use Rattle.sh_eval.specs.declared.shell.Shell.{Shell};
 
 use crate::files::{begin_file, read_file};
-use crate::leading::{lead, led_to, read_instead};
+use crate::leading::{Before, lead, led_to, read_instead};
 use crate::lines::{IS_A_DIRECTORY, NO_SUCH_FILE, diagnostic};
 use crate::rests::Rest;
 use crate::session::Session;
@@ -23,8 +24,33 @@ use ps_world::{Path, Place, Tree, WorldErr, look};
 use sh_tree::How;
 use std::alloc::Global;
 
+/// Does redirections, one after the other, up to the first that stops. `before` keeps what descriptor 0 read.
+pub(crate) fn redirect_all<T: Tree>(
+    alloc: Global,
+    targets: &[Target],
+    before: &mut Before,
+    session: &mut Session,
+    tree: &mut T,
+) -> Result<(), Stop>
+    requires whole { IfSome (T.state tree.old).held NoWriterOut }
+    requires fresh { before.old.from ≡ None }
+    ensures does { (shell : Shell) (seen : Seen) (input output errors : ℕ) → DoesAll targets.now
+        (point_of shell session.old (T.state tree.old) seen (faults_of input output errors (T.faults tree.old)))
+        (point_of shell session.new (T.state tree.new) seen (faults_of input output errors (T.faults tree.new))) result }
+    ensures ok { OnOk result (Remembers (has_read targets.now) session.old.streams.from session.new.streams.from before.old before.new) }
+    ensures err { OnErr result (RemembersSome targets.now session.old.streams.from session.new.streams.from before.old before.new) }
+{
+    for target in targets {
+        match redirect(alloc, target, session, tree) {
+            Ok(read) => before.keep_read(read),
+            Err(stop) => return Err(stop),
+        }
+    }
+    Ok(())
+}
+
 /// Does a redirection, and gives what descriptor 0 read where it reads something else now.
-pub(crate) fn redirect<T: Tree>(
+fn redirect<T: Tree>(
     alloc: Global,
     target: &Target,
     session: &mut Session,
@@ -35,7 +61,8 @@ pub(crate) fn redirect<T: Tree>(
         (point_of shell session.old (T.state tree.old) seen (faults_of input output errors (T.faults tree.old)))
         (point_of shell session.new (T.state tree.new) seen (faults_of input output errors (T.faults tree.new))) result }
     ensures from { IfOk result (λ read. read ≡ (if is_read target.now.how then Some session.old.streams.from else None)) }
-    ensures kept { is_read target.now.how ≡ false → OnOk result (session.new.streams.from ≡ session.old.streams.from) }
+    ensures kept { OnOk result (is_read target.now.how ≡ false → session.new.streams.from ≡ session.old.streams.from) }
+    ensures unchanged { OnErr result (session.new ≡ session.old) }
 {
     let text = target.text.as_slice();
     match target.how {
@@ -58,6 +85,7 @@ fn read_from<T: Tree>(
         (point_of shell session.old (T.state tree.old) seen (faults_of input output errors (T.faults tree.old)))
         (point_of shell session.new (T.state tree.new) seen (faults_of input output errors (T.faults tree.new))) result }
     ensures from { IfOk result (λ read. read ≡ Some session.old.streams.from) }
+    ensures unchanged { OnErr result (session.new ≡ session.old) }
 {
     match look(alloc, tree, text) {
         Ok(place) => read_at(alloc, text, &place, session, tree),
@@ -79,6 +107,7 @@ fn read_at<T: Tree>(
         (point_of shell session.old (T.state tree.old) seen (faults_of input output errors (T.faults tree.old)))
         (point_of shell session.new (T.state tree.new) seen (faults_of input output errors (T.faults tree.new))) result }
     ensures from { IfOk result (λ read. read ≡ Some session.old.streams.from) }
+    ensures unchanged { OnErr result (session.new ≡ session.old) }
 {
     match place {
         Place::Missing => Err(line_of(alloc, text, NO_SUCH_FILE)),
@@ -107,6 +136,7 @@ fn write_to_file<T: Tree>(
         (point_of shell session.new (T.state tree.new) seen (faults_of input output errors (T.faults tree.new))) result }
     ensures from { IfOk result (λ read. read ≡ None) }
     ensures kept { OnOk result (session.new.streams.from ≡ session.old.streams.from) }
+    ensures unchanged { OnErr result (session.new ≡ session.old) }
 {
     match look(alloc, tree, text) {
         Ok(place) => write_at(alloc, anew, number, text, place, session, tree),
@@ -131,6 +161,7 @@ fn write_at<T: Tree>(
         (point_of shell session.new (T.state tree.new) seen (faults_of input output errors (T.faults tree.new))) result }
     ensures from { IfOk result (λ read. read ≡ None) }
     ensures kept { OnOk result (session.new.streams.from ≡ session.old.streams.from) }
+    ensures unchanged { OnErr result (session.new ≡ session.old) }
 {
     match place {
         Place::Missing => Err(line_of(alloc, text, NO_SUCH_FILE)),
@@ -158,6 +189,7 @@ fn lead_to_file<T: Tree>(
         (point_of shell session.new (T.state tree.new) seen (faults_of input output errors (T.faults tree.new))) result }
     ensures from { IfOk result (λ read. read ≡ None) }
     ensures kept { OnOk result (session.new.streams.from ≡ session.old.streams.from) }
+    ensures unchanged { OnErr result (session.new ≡ session.old) }
 {
     match begin_file(anew, &path, tree) {
         Ok(()) => {
@@ -174,6 +206,7 @@ fn copy(number: u8, text: &[u8], session: &mut Session) -> Result<Option<From>, 
         (point_of shell session.old tree seen faults) (point_of shell session.new tree seen faults) result }
     ensures from { IfOk result (λ read. read ≡ None) }
     ensures kept { OnOk result (session.new.streams.from ≡ session.old.streams.from) }
+    ensures unchanged { OnErr result (session.new ≡ session.old) }
 {
     match led_to(text, &session.streams) {
         Ok(place) => {

@@ -12,3 +12,4 @@ pub mod ReadingLemmas
 pub mod RedirectionLemmas
 pub mod RedirectionSteps
 pub mod RedirectionLoops
+pub mod SkippingLemmas

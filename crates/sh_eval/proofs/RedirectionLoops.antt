@@ -179,7 +179,7 @@ all-stopped-at targets place one old mid new why here below seen reaches does =
     (subst (λ (it : List Target). Reaches (λ way. redirecting way targets) (λ way. redirecting way it) old mid) (cut targets place one here below) reaches) does
 
 -- AROUND A COMMAND. Behind it the descriptors lead where they led
-put-back : (reads : Bool) (streams new : Streams) (before : Before) → before ≡ (if reads then record (before_in streams) { from = Some streams.from } else before_in streams)
+pub put-back : (reads : Bool) (streams new : Streams) (before : Before) → before ≡ (if reads then record (before_in streams) { from = Some streams.from } else before_in streams)
     → put_back before new ≡ (if reads then streams else record streams { from = new.from })
 put-back true streams new before is = ap (λ (it : Before). put_back it new) is
 put-back false streams new before is = ap (λ (it : Before). put_back it new) is
@@ -208,7 +208,7 @@ comes-back targets streams base how.TreeFault last session left is comes = comes
 comes-back targets streams base how.Memory last session left is comes = comes
 
 -- a command that is evaluated in its redirections, or the line of the one that stops. `second` is what comes of them at the state behind
-around-back : (way : Flow) (target : Target) (targets : List Target) (second : Flow → Means → Means) (next : Meaning) (old mid last : Point) (came : How) (session : Session)
+pub around-back : (way : Flow) (target : Target) (targets : List Target) (second : Flow → Means → Means) (next : Meaning) (old mid last : Point) (came : How) (session : Session)
     → Reaches (λ way. redirecting way (target ∷ targets)) second old mid → Evaluates (λ expansions. second way (next expansions)) mid came last
     → session ≡ in_streams (led_back (target ∷ targets) old.session.streams) last.session
     → Evaluates (λ expansions. in_redirections way (target ∷ targets) (next expansions)) old came (point_of last.shell session last.tree last.seen last.faults)

@@ -5,12 +5,14 @@ use Rattle.sh_eval.specs.declared.leading.Before.{Before}
 use Rattle.sh_eval.specs.declared.streams.From.{From}
 use Rattle.ps_world.specs.Counts.{Rose}
 use Rattle.sh_eval.specs.declared.flows.Flow.{Flow}
+use Rattle.sh_eval.specs.declared.outcomes.How.{How}
+use Rattle.sh_eval.specs.declared.outcomes.How.TheVariants as how
 use Rattle.sh_eval.specs.declared.stops.Stop.{Stop}
 use Rattle.sh_eval.specs.declared.stops.Stop.TheVariants as stop
 use Rattle.sh_eval.specs.Targets.{Target}
 use Rattle.sh_eval.specs.States.{State, Means}
 use Rattle.sh_eval.specs.Redirections.{redirecting, skipped, is_read}
-use Rattle.sh_eval.specs.Contract.{Point, Base, Has}
+use Rattle.sh_eval.specs.Contract.{Point, Base, Has, Evaluates}
 use Rattle.sh_eval.specs.Redirecting.{LeavesOn, Breaks}
 
 -- what is meant at a state is what another command means at the state behind
@@ -45,3 +47,9 @@ pub record RemembersSome (targets : List Target) (from now : From) (first before
   pub reads_other : Bool
   pub of_them : reads_other ≡ true → has_read targets ≡ true
   pub remembers : Remembers reads_other from now first before
+
+-- a command is skipped where one of its redirections stopped
+abbrev pub Skips : Stop → Flow → Point → How → Point → Type 0
+Skips (stop.Line line) way old came new = Evaluates (λ expansions. skipped way line) old came new
+Skips stop.Tree way old came new = (came ≡ how.TreeFault) × (new ≡ old)
+Skips stop.Memory way old came new = (came ≡ how.Memory) × (new ≡ old)

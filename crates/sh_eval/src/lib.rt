@@ -26,6 +26,7 @@ mod rests;
 mod session;
 mod shell;
 mod simple;
+mod skipping;
 mod stops;
 mod streams;
 mod targets;

@@ -25,7 +25,8 @@ pub(crate) fn put<T: Tree, O: Sink, E: Sink>(
     err: &mut E,
 ) -> How
     requires sound { IsSound session.old (T.state tree.old) }
-    ensures { (shell : Shell) (left : Option (List ℕ)) (input : ℕ) → Evaluates (λ expansions state. on (puts bytes.now state))
+    ensures streams { session.new.streams ≡ session.old.streams }
+    ensures evaluates { (shell : Shell) (left : Option (List ℕ)) (input : ℕ) → Evaluates (λ expansions state. on (puts bytes.now state))
         (point_of shell session.old (T.state tree.old) (seen_of left (O.taken out.old) (E.taken err.old))
         (faults_of input (O.faults out.old) (E.faults err.old) (T.faults tree.old)))
         result
@@ -51,7 +52,8 @@ pub(crate) fn tell<T: Tree, O: Sink, E: Sink>(
     err: &mut E,
 ) -> How
     requires sound { IsSound session.old (T.state tree.old) }
-    ensures { (shell : Shell) (left : Option (List ℕ)) (input : ℕ) → Evaluates (λ expansions state. on (tells line.now state))
+    ensures streams { session.new.streams ≡ session.old.streams }
+    ensures evaluates { (shell : Shell) (left : Option (List ℕ)) (input : ℕ) → Evaluates (λ expansions state. on (tells line.now state))
         (point_of shell session.old (T.state tree.old) (seen_of left (O.taken out.old) (E.taken err.old))
         (faults_of input (O.faults out.old) (E.faults err.old) (T.faults tree.old)))
         result

@@ -10,4 +10,4 @@ returns-in_default g c = λ left input. wanted (λ expansions. misused c.args.fl
 
 pub returns : goal.returns
 returns g c =
-    λ left input. misused-so c.args.flow c.args.name.now _ _ _ _ _ _ _ _ _ _ _ _ _ (c.as_slice.ensures.value ∙ c.in-Ok.ensures) c.leave.ensures.shell c.leave.ensures.how (c.tell-how.ensures c.args.shell.now left input)
+    λ left input. misused-so c.args.flow c.args.name.now _ _ _ _ _ _ _ _ _ _ _ _ _ (c.as_slice.ensures.value ∙ c.in-Ok.ensures) c.leave.ensures.shell c.leave.ensures.how (c.tell-how.ensures.evaluates c.args.shell.now left input)

@@ -9,4 +9,4 @@ returns-in_default g c = λ left input. wanted (λ expansions. echoes c.args.ope
 
 pub returns : goal.returns
 returns g c =
-    λ left input. echoed-so c.args.operands.now _ _ _ _ _ _ _ _ _ _ _ _ _ (search rules) c.leave.ensures.shell c.leave.ensures.how (c.put-how.ensures c.args.shell.now left input)
+    λ left input. echoed-so c.args.operands.now _ _ _ _ _ _ _ _ _ _ _ _ _ (search rules) c.leave.ensures.shell c.leave.ensures.how (c.put-how.ensures.evaluates c.args.shell.now left input)

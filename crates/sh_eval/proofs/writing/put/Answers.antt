@@ -2,5 +2,5 @@ use Rattle.std.proofs.Common.{refl}
 use Rattle.sh_eval.proofs.WritingLemmas.{put-there}
 use Rattle.sh_eval.proofs.writing.put.Goals as goal
 
-pub returns : goal.returns
-returns g c = λ shell left input. put-there c.args.bytes.now _ _ _ _ refl (c.write_to.ensures shell c.args.session.now left input refl)
+pub returns-clause-evaluates : goal.returns-clause-evaluates
+returns-clause-evaluates g c = λ shell left input. put-there c.args.bytes.now _ _ _ _ refl (c.write_to.ensures shell c.args.session.now left input refl)

@@ -1,5 +1,5 @@
 -- All redirections of a command.
-use Rattle.std.proofs.Common.{◌≡◌, ℕ, ◌≤◌, ◌<◌, ◌+◌, add-one, Bool, true, false, ◌||◌, if◌then◌else◌, List, [], ◌∷◌, drop, length, get_or, Option, Some, None, IfSome, Result, Ok, Err, refl, sym, ap, ◌∙◌, subst, arith}
+use Rattle.std.proofs.Common.{◌≡◌, ℕ, ◌≤◌, ◌<◌, ◌+◌, add-one, Bool, true, false, ◌||◌, if◌then◌else◌, List, ◌∷◌, drop, length, get_or, Option, Some, None, Err, refl, sym, ap, ◌∙◌, subst, arith}
 use Rattle.std.proofs.Math.ListN.{drop_of_length-le}
 use Rattle.std.proofs.Math.Seq.{drop-cons}
 use Rattle.std.proofs.lemmas.Bool.{true≢false}
@@ -17,12 +17,12 @@ use Rattle.sh_eval.specs.declared.outcomes.How.TheVariants as how
 use Rattle.sh_eval.specs.Targets.{Target}
 use Rattle.sh_eval.specs.States.{State, Means, Ends, in_streams}
 use Rattle.sh_eval.specs.Redirections.{Redirected, redirected, named_by, redirecting, goes_on_in, skipped, is_read, led_back, within, in_redirections}
-use Rattle.sh_eval.specs.Contract.{Faults, Point, point_of, Base, Has, HasCause, Comes, NoFewer, Meaning, Evaluates}
-use Rattle.sh_eval.specs.Redirecting.{LedAt, LeavesOn, Led, TellsWhy, Breaks, Does}
-use Rattle.sh_eval.specs.Reaching.{ReachesAt, Reaches, DoesAll, Remembers, RemembersSome, has_read}
+use Rattle.sh_eval.specs.Contract.{Faults, Point, point_of, Base, HasCause, Comes, NoFewer, Meaning, Evaluates}
+use Rattle.sh_eval.specs.Redirecting.{LeavesOn, Led, TellsWhy, Breaks, Does}
+use Rattle.sh_eval.specs.Reaching.{Reaches, DoesAll, Remembers, RemembersSome, has_read}
 use Rattle.sh_eval.specs.Leading.{kept_by, keeping, before_in, put_back}
 use Rattle.sh_eval.specs.declared.leading.Before.{Before}
-use Rattle.sh_eval.proofs.Steps.{no-fewer, held-none, held-more}
+use Rattle.sh_eval.proofs.Steps.{held-none, held-more}
 
 pub leaves-none : (at : Point) → LeavesOn at at
 leaves-none at = record { whole = λ whole. whole; files = held-none at.tree.held; sound = λ sound. sound; turns = omega arith; faults = refl; lent = balanced-none at.tree }

@@ -1,5 +1,5 @@
 -- Redirections, one after the other.
-use Rattle.std.proofs.Common.{◌≡◌, ℕ, ◌≤◌, ◌==◌, List, [], ◌∷◌, ◌++◌, Bool, true, false, if◌then◌else◌, Option, Some, None, IfSome, Result, Ok, Err, codes, nat_eq, refl, sym, ap, ◌∙◌, subst, arith}
+use Rattle.std.proofs.Common.{◌≡◌, ℕ, ◌≤◌, ◌==◌, List, [], Bool, true, false, if◌then◌else◌, Option, Some, None, IfSome, Result, Ok, Err, codes, nat_eq, refl, sym, ap, ◌∙◌, subst, arith}
 use Rattle.std.specs.FinMap as map
 use Rattle.std.specs.Option.{option_map}
 use Rattle.ps_world.specs.Counts.{Rose}
@@ -23,13 +23,13 @@ use Rattle.sh_eval.specs.declared.streams.Streams.{Streams}
 use Rattle.sh_eval.specs.declared.streams.To.{To}
 use Rattle.sh_eval.specs.declared.streams.To.TheVariants as to
 use Rattle.sh_eval.specs.States.{State, in_session, in_streams, in_world, reading}
-use Rattle.sh_eval.specs.Redirections.{Redirected, led, stopped, named_by, read_from, reading_at, writing_at, leads_to, led_to, leading, file_begun, redirected}
+use Rattle.sh_eval.specs.Redirections.{Redirected, led, stopped, named_by, read_from, reading_at, leads_to, led_to, leading, file_begun, redirected}
 use Rattle.sh_eval.specs.Targets.{Target}
 use Rattle.sh_tree.specs.declared.commands.How.{How}
 use Rattle.std.specs.Cmp.Lexicographic.{pointwise}
-use Rattle.sh_eval.specs.Contract.{Seen, Faults, Point, point_of, faults_of, Base, Has, NoFewer, CanTake, Stands, IsSound, Stay, HeldStays}
+use Rattle.sh_eval.specs.Contract.{Seen, Faults, Point, point_of, faults_of, Base, Has, CanTake, Stands, Stay, HeldStays}
 use Rattle.sh_eval.specs.Leading.{begun_at}
-use Rattle.sh_eval.specs.Redirecting.{LedAt, LeavesOn, Led, TellsWhy, Breaks, Does, TellsLine, of_tree}
+use Rattle.sh_eval.specs.Redirecting.{Led, Breaks, Does, TellsLine, of_tree}
 use Rattle.sh_eval.proofs.Steps.{no-fewer, held-none}
 use Rattle.sh_eval.proofs.WritingLemmas.{stay-filled}
 

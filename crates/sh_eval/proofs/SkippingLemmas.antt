@@ -1,5 +1,5 @@
 -- Commands that are skipped.
-use Rattle.std.proofs.Common.{◌≡◌, ℕ, ◌≤◌, List, [], ◌∷◌, Bool, true, false, if◌then◌else◌, Option, Some, None, Result, Ok, Err, refl, sym, ap, ◌∙◌, subst, arith}
+use Rattle.std.proofs.Common.{◌≡◌, ℕ, ◌≤◌, List, ◌∷◌, Bool, true, false, if◌then◌else◌, Some, Err, refl, sym, ap, ◌∙◌, subst}
 use Rattle.std.proofs.lemmas.Bool.{true≢false}
 use Rattle.ps_world.specs.Counts.{Rose}
 use Rattle.ps_world.specs.TreeState.{TreeState}
@@ -15,14 +15,14 @@ use Rattle.sh_eval.specs.declared.streams.From.{From}
 use Rattle.sh_eval.specs.declared.streams.Streams.{Streams}
 use Rattle.sh_eval.specs.declared.leading.Before.{Before}
 use Rattle.sh_eval.specs.Targets.{Target}
-use Rattle.sh_eval.specs.States.{State, Means, on, tells, in_streams}
+use Rattle.sh_eval.specs.States.{on, tells, in_streams}
 use Rattle.sh_eval.specs.Growth.{Adds}
 use Rattle.sh_eval.specs.Redirections.{skipped, led_back, in_redirections}
 use Rattle.sh_eval.specs.Contract.{Seen, Faults, Point, point_of, Meaning, Evaluates}
 use Rattle.sh_eval.specs.Ending.{how_behind, status_behind}
 use Rattle.sh_eval.specs.Leading.{before_in, put_back}
 use Rattle.sh_eval.specs.Redirecting.{Breaks}
-use Rattle.sh_eval.specs.Reaching.{DoesAll, Remembers, RemembersSome, Skips, has_read}
+use Rattle.sh_eval.specs.Reaching.{DoesAll, RemembersSome, Skips, has_read}
 use Rattle.sh_eval.proofs.EndingLemmas.{ended, blamed}
 use Rattle.sh_eval.proofs.RedirectionLoops.{around-back, put-back}
 

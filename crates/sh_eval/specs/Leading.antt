@@ -1,5 +1,5 @@
 -- Redirections as they are done (XCU 2.7): a file is begun, a descriptor leads elsewhere, and behind the command all is as it was.
-use Rattle.std.specs.Prelude.{ℕ, List, [], ◌++◌, Bool, true, false, Option, Some, None, if◌then◌else◌}
+use Rattle.std.specs.Prelude.{[], Bool, Option, Some, None, if◌then◌else◌}
 use Rattle.std.specs.Option.{unwrap_or}
 use Rattle.sh_eval.specs.declared.leading.Before.{Before}
 use Rattle.sh_eval.specs.declared.streams.From.{From}

@@ -1,5 +1,5 @@
 -- What is left of a redirection that is done, and of one that stops (XCU 2.7, 2.8.1).
-use Rattle.std.specs.Prelude.{◌≡◌, ℕ, ◌≤◌, List, [], ◌∷◌, Option, Some, IfSome, Result, Ok, Err}
+use Rattle.std.specs.Prelude.{◌≡◌, ℕ, ◌≤◌, List, Option, IfSome, Result, Ok, Err}
 use Rattle.ps_world.specs.Counts.{Rose}
 use Rattle.ps_world.specs.declared.error.WorldErr.{WorldErr}
 use Rattle.ps_world.specs.declared.error.WorldErr.TheVariants as error
@@ -8,10 +8,9 @@ use Rattle.ps_world.specs.Files.{NoWriterOut}
 use Rattle.sh_eval.specs.declared.stops.Stop.{Stop}
 use Rattle.sh_eval.specs.declared.stops.Stop.TheVariants as stop
 use Rattle.sh_eval.specs.declared.streams.From.{From}
-use Rattle.sh_eval.specs.Targets.{Target}
-use Rattle.sh_eval.specs.States.{State, Means}
-use Rattle.sh_eval.specs.Redirections.{Redirected, led, stopped, redirecting, skipped}
-use Rattle.sh_eval.specs.Contract.{Point, Base, Has, NoFewer, IsSound, HeldStays, Meaning}
+use Rattle.sh_eval.specs.States.{State}
+use Rattle.sh_eval.specs.Redirections.{Redirected, led, stopped}
+use Rattle.sh_eval.specs.Contract.{Point, Base, Has, NoFewer, IsSound, HeldStays}
 
 -- the state behind a redirection
 pub record LedAt (base : Base) (does : State → Redirected) (state : State) (new : Point) : Type 0 where

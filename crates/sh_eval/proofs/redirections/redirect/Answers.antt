@@ -1,16 +1,9 @@
-use Rattle.std.proofs.Common.{rules, true, false, ◌≡◌, ℕ, List, Option, Some, None, Result, Ok, Err, codes, refl, sym, ap, ◌∙◌, subst}
-use Rattle.ps_world.specs.TreeState.{TreeState, Balanced}
-use Rattle.ps_world.proofs.TreeStateLemmas.{balanced-none, balanced-only_lent}
-use Rattle.ps_world.specs.declared.places.Place.{Place}
-use Rattle.ps_world.specs.declared.places.Place.TheVariants as place
+use Rattle.std.proofs.Common.{true, false, ℕ, List, refl, subst}
 use Rattle.sh_tree.specs.declared.commands.How.TheVariants as how
-use Rattle.sh_eval.specs.declared.streams.To.TheVariants as to
-use Rattle.sh_eval.specs.declared.streams.From.TheVariants as from
-use Rattle.sh_eval.specs.States.{State, in_world, reading}
-use Rattle.sh_eval.specs.Lines.{diagnostic, no_such_file, is_a_directory}
+use Rattle.sh_eval.specs.States.{State}
 use Rattle.sh_eval.specs.Contract.{point_of, faults_of}
-use Rattle.sh_eval.specs.Redirections.{reading_at, writing_at, named_by, leading, led_to, file_begun}
-use Rattle.sh_eval.proofs.RedirectionSteps.{led-file, led-null, led-begun, led-still, breaks-tree, stops-tree, does-looked, at-place, at-how, line-at, copied, wants-memory}
+use Rattle.sh_eval.specs.Redirections.{reading_at, writing_at, named_by, leading, led_to}
+use Rattle.sh_eval.proofs.RedirectionSteps.{at-how}
 use Rattle.sh_eval.specs.Redirecting.{Does}
 use Rattle.sh_eval.proofs.redirections.redirect.Goals as goal
 

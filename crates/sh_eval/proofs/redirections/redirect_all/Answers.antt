@@ -1,9 +1,9 @@
-use Rattle.std.proofs.Common.{rules, ◌≡◌, ℕ, List, [], None, refl, ap}
+use Rattle.std.proofs.Common.{[], None, refl, ap}
 use Rattle.sh_eval.specs.declared.session.Session.{Session}
 use Rattle.sh_eval.specs.Shells.{started}
 use Rattle.sh_eval.specs.Contract.{seen_of}
 use Rattle.sh_eval.specs.Redirections.{redirecting}
-use Rattle.sh_eval.proofs.RedirectionLoops.{reaches-none, all-led, all-done, all-stopped-at, kept-none, kept-more, kept-all, kept-some, around}
+use Rattle.sh_eval.proofs.RedirectionLoops.{reaches-none, all-led, all-done, all-stopped-at, kept-none, kept-more, kept-all, kept-some}
 use Rattle.sh_eval.proofs.redirections.redirect_all.Goals as goal
 
 pub loop-target-init : goal.loop-target-init

@@ -1,5 +1,4 @@
-use Rattle.std.proofs.Common.{rules, ◌≡◌, refl}
-use Rattle.sh_eval.proofs.SkippingLemmas.{skips-line, skips-tree, skips-memory, around-stopped}
+use Rattle.sh_eval.proofs.SkippingLemmas.{skips-line, skips-tree, skips-memory}
 use Rattle.sh_eval.proofs.skipping.skip.Goals as goal
 
 pub returns-in-Line-clause-skips : goal.returns-in-Line-clause-skips

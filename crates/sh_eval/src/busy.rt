@@ -3,12 +3,12 @@ ghost use Rattle.std.specs.Prelude.{◌≡◌, [], ◌∷◌, ◌++◌, Some, On
 ghost use Rattle.std.specs.List.{list_any};
 ghost use Rattle.std.specs.Option.{option_copied};
 ghost use Rattle.ps_world.specs.Counts.{Counts};
-ghost use Rattle.sh_eval.specs.Redirections.{clashes as clashes_lem, first_busy as first_busy_lem, is_busy as is_busy_lem, named_by, path_at as path_at_lem, uses_by, uses_of, writes_by as writes_by_lem};
+ghost use Rattle.sh_eval.specs.Redirections.{clashes as clashes_lem, first_busy as first_busy_lem, held_at, held_by, is_busy as is_busy_lem, named_by, path_at as path_at_lem, uses_by, uses_of, writes_by as writes_by_lem};
 ghost use Rattle.sh_eval.specs.States.{State};
 
 use crate::streams::{Held, HeldPaths};
 use crate::targets::Target;
-use ps_lines::Text;
+use ps_lines::{Memory, Text};
 use ps_world::{Path, Place, Tree, WorldErr, look};
 use sh_tree::How;
 use std::alloc::Global;
@@ -152,5 +152,25 @@ fn clashes(writes: bool, path: &Path, also: bool, other: Option<&Path>) -> bool
     match other {
         Some(other) => path == other && (writes || also),
         None => false,
+    }
+}
+
+/// Has a compound command hold the paths that its redirections use.
+pub(crate) fn hold(uses: &[Use], held: &mut HeldPaths) -> Result<(), Memory>
+    ensures { OnOk result (held.new ≡ held.old ++ held_by uses.now) }
+{
+    for used in uses {
+        hold_use(used, held)?;
+    }
+    Ok(())
+}
+
+/// Has a compound command hold the path of a use.
+fn hold_use(used: &Use, held: &mut HeldPaths) -> Result<(), Memory>
+    ensures { OnOk result (held.new ≡ held.old ++ held_at (path_at_lem used.now.place) used.now.writes) }
+{
+    match path_at(&used.place) {
+        Some(path) => held.push(path, used.writes),
+        None => Ok(()),
     }
 }

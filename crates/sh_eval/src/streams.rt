@@ -78,7 +78,7 @@ impl To {
 }
 
 impl HeldPaths {
-    ghost use Rattle.std.specs.Prelude.{◌≡◌, IfOk};
+    ghost use Rattle.std.specs.Prelude.{◌≡◌, [], ◌∷◌, ◌++◌, IfOk, OnOk};
 
     /// The same paths.
     pub(crate) fn copy(&self, alloc: Global) -> Result<HeldPaths, Memory>
@@ -92,6 +92,15 @@ impl HeldPaths {
             })?;
         }
         Ok(HeldPaths { paths })
+    }
+
+    /// Holds a path more.
+    pub(crate) fn push(&mut self, path: &Path, writes: bool) -> Result<(), Memory>
+        ensures { OnOk result (self.new ≡ self.old ++ record { path = path.now; writes = writes } ∷ []) }
+    {
+        let path = path.copy()?;
+        self.paths.push(Held { path, writes })?;
+        Ok(())
     }
 
     /// The paths.

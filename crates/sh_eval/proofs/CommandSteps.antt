@@ -1,5 +1,6 @@
 -- What is evaluated of simple and compound commands comes of what is evaluated of the parts of them.
 use Rattle.std.proofs.Common.{◌≡◌, ◌⊎◌, inl, inr, ◌<◌, ◌≤◌, ◌+◌, ◌-◌, ◌==◌, not, if◌then◌else◌, ℕ, List, [], ◌∷◌, Bool, true, false, Option, Some, None, length, get_or, drop, map, refl, sym, ap, ◌∙◌, subst, add-one, arith}
+use Rattle.std.specs.FinMap as finite
 use Rattle.std.proofs.Math.Seq.{drop-cons}
 use Rattle.std.proofs.Math.ListN.{drop_of_length-le}
 use Rattle.std.proofs.lemmas.Bool.{cond-true, cond-false, eq-eqb, ne_eqb}
@@ -8,35 +9,36 @@ use Rattle.std.specs.declared.alloc.Global.{Global}
 use Rattle.std.specs.declared.vec.Vec.{Vec}
 use Rattle.ps_lines.specs.declared.text.Text.{Text}
 use Rattle.ps_world.specs.TreeState.{TreeState}
-use Rattle.sh_tree.specs.Trees.{ListTree, CommandTree, simple, group, subshell, if_branches, while_loop, until_loop, for_loop, BranchTrees, SubTrees, sub, branch}
-use Rattle.sh_tree.specs.Views.{items_tree, word_tree, redir_tree, list_tree, command_tree, simple_tree, branches_tree, subs_tree, else_of, in_of}
+use Rattle.sh_tree.specs.Trees.{ListTree, CommandTree, simple, group, subshell, if_branches, while_loop, until_loop, for_loop, BranchTrees, SubTrees, no_in, in_words, words, WordsTree, sub, branch}
+use Rattle.sh_tree.specs.Views.{items_tree, word_tree, redir_tree, list_tree, command_tree, simple_tree, tail_tree, words_tree, branches_tree, subs_tree, else_of, in_of}
 use Rattle.sh_tree.specs.declared.commands.List as declared_list
 use Rattle.sh_tree.specs.declared.commands.AndOr.{AndOr}
 use Rattle.sh_tree.specs.declared.commands.Command.{Command}
 use Rattle.sh_tree.specs.declared.commands.Command.TheVariants as command
-use Rattle.sh_tree.specs.declared.commands.Command.TheViews.{out-List, out-Simple, out-Tail}
+use Rattle.sh_tree.specs.declared.commands.Command.TheViews.{out-List, out-Simple, out-Tail, out-Words}
 use Rattle.sh_tree.specs.declared.commands.Redir.{Redir}
 use Rattle.sh_tree.specs.declared.commands.Simple.{Simple}
 use Rattle.sh_tree.specs.declared.commands.Tail.{Tail}
 use Rattle.sh_tree.specs.declared.commands.Words.{Words}
 use Rattle.sh_tree.specs.declared.words.Word.{Word}
-use Rattle.sh_tree.proofs.TreeLemmas.{list_tree-is, simple_tree-is, tail_tree-is, command_tree-simple, command_tree-group, command_tree-subshell, command_tree-if, command_tree-while, command_tree-until, command_tree-for}
+use Rattle.sh_tree.proofs.TreeLemmas.{list_tree-is, simple_tree-is, tail_tree-is, command_tree-simple, command_tree-group, command_tree-subshell, command_tree-if, command_tree-while, command_tree-until, command_tree-for, words_tree-is}
 use Rattle.sh_expand.specs.Outcomes.{Expansions}
 use Rattle.sh_eval.specs.declared.flows.Flow.TheVariants as flow
 use Rattle.sh_eval.specs.declared.outcomes.How.{How}
 use Rattle.sh_eval.specs.declared.outcomes.How.TheVariants as how
 use Rattle.sh_eval.specs.declared.session.Session.{Session}
 use Rattle.sh_eval.specs.declared.shell.Shell.{Shell}
-use Rattle.sh_eval.specs.Shells.{with_status}
+use Rattle.sh_eval.specs.Expanding.{with_fields}
+use Rattle.sh_eval.specs.Shells.{with_env, with_status}
 use Rattle.sh_eval.specs.States.{State, Ends, Means, ends, on, after, leaves, in_shell}
-use Rattle.sh_eval.specs.Commands.{all_turns, entered, in_loop, most_turns, turn, succeeded, failed, none_substituted, substitution, some_command, for_fields}
+use Rattle.sh_eval.specs.Commands.{all_turns, entered, in_loop, most_turns, turn, succeeded, failed, none_substituted, noted, set_to, substitution, some_command, for_fields}
 use Rattle.sh_eval.specs.Contract.{Seen, Faults, Point, point_of, Base, Has, HasEnd, IsBehind, Comes, goes_on, Meaning, Evaluates}
 use Rattle.sh_eval.specs.Growth.{Grows, Adds}
-use Rattle.sh_eval.specs.Inner.Bodies.{assign_tree, body_means, subs_begun, turn_means}
+use Rattle.sh_eval.specs.Inner.Bodies.{assign_tree, body_means, for_body, name_of, round_means, rounds_mean, subs_begun, turn_means}
 use Rattle.sh_eval.specs.Meaning.{has_item, list_means, branches_mean, command_means, else_means, simple_means, subs_mean, tail_means, held_in}
 use Rattle.sh_eval.specs.Simple.{runs_simple}
 use Rattle.sh_eval.specs.Table.{pages}
-use Rattle.sh_eval.proofs.Growing.{grows-self, adds-choice, adds-turn, adds-turns, adds-subshell, adds-while_holds, adds-for_fields, adds-held_in, adds-runs_simple, list-adds, subs-adds, branches-adds, else-adds, in-adds, simple-adds}
+use Rattle.sh_eval.proofs.Growing.{grows-self, adds-choice, adds-noted, adds-rounds, adds-turn, adds-turns, adds-subshell, adds-while_holds, adds-for_fields, adds-held_in, adds-runs_simple, adds-with_fields, list-adds, subs-adds, branches-adds, else-adds, in-adds, simple-adds}
 use Rattle.sh_eval.proofs.Steps.{changed, changed-before, failed-early, no-fewer, followed, stopped, nothing, behind-told}
 use Rattle.sh_eval.proofs.ListSteps.{meant}
 
@@ -334,3 +336,99 @@ turns-add expansions tree state = adds-turns (most_turns - state.session.turns) 
 
 pub loop-adds : (means : Means) → Adds means → Adds (in_loop means)
 loop-adds means adds state = adds (in_shell entered state)
+
+-- `for`, by the tree that it is
+pub for_body-adds : (expansions : Expansions) (tree : CommandTree) → Adds (for_body expansions pages tree)
+for_body-adds expansions (simple it) state = grows-self state
+for_body-adds expansions (group list behind) state = grows-self state
+for_body-adds expansions (subshell list behind) state = grows-self state
+for_body-adds expansions (if_branches branches otherwise behind) state = grows-self state
+for_body-adds expansions (while_loop condition body behind) state = grows-self state
+for_body-adds expansions (until_loop condition body behind) state = grows-self state
+for_body-adds expansions (for_loop name list body behind) state = list-adds expansions pages body state
+
+pub round-adds : (expansions : Expansions) (tree : CommandTree) (field : List ℕ) → Adds (round_means expansions pages tree field)
+round-adds expansions tree field state = adds-noted (for_body expansions pages tree) (for_body-adds expansions tree) (set_to (name_of tree) field state)
+
+pub rounds-add : (expansions : Expansions) (tree : CommandTree) (fields : List (List ℕ)) → Adds (rounds_mean expansions pages tree fields)
+rounds-add expansions tree fields state = adds-rounds (name_of tree) (for_body expansions pages tree) (for_body-adds expansions tree) fields state
+
+for-tree : (it : Command) (name : Text) (list : Option Words) (body : declared_list.List) (behind : Tail) → it ≡ command.For name list body behind
+    → command_tree it ≡ for_loop name (in_of (option_map words_tree list)) (list_tree body) (tail_tree behind)
+for-tree it name list body behind is = ap command_tree is ∙ command_tree-for name list body behind
+
+-- one round
+pub round-of : (it : Command) (name : Text) (list : Option Words) (body : declared_list.List) (behind : Tail) (field : List ℕ) (shell inner : Shell) (session : Session) (tree : TreeState) (seen : Seen) (faults : Faults) (came : How) (new : Point)
+    → it ≡ command.For name list body behind → inner ≡ with_env (finite.insert shell.variables name field) shell
+    → Evaluates (λ expansions state. noted (list_means expansions pages (list_tree body) state)) (point_of inner session tree seen faults) came new
+    → Evaluates (λ expansions. round_means expansions pages (command_tree it) field) (point_of shell session tree seen faults) came new
+round-of it name list body behind field shell inner session tree seen faults came new is set one =
+    subst (λ (it : CommandTree). Evaluates (λ expansions. round_means expansions pages it field) (point_of shell session tree seen faults) came new) (sym (for-tree it name list body behind is))
+    (changed-before (λ expansions state. noted (list_means expansions pages (list_tree body) state)) (λ shell. with_env (finite.insert shell.variables name field) shell) shell inner session tree seen faults came new set one)
+
+-- over the arguments
+pub for-arguments : (it : Command) (name : Text) (list : Option Words) (body : declared_list.List) (behind : Tail) (fields : List (List ℕ)) (old new : Point) (came : How) → it ≡ command.For name list body behind → list ≡ None → fields ≡ old.shell.arguments
+    → Evaluates (λ expansions. in_loop (rounds_mean expansions pages (command_tree it) fields)) old came new
+    → Evaluates (λ expansions. body_means expansions pages (command_tree it)) old came new
+for-arguments it name list body behind fields old new came is none same one =
+    let tree : command_tree it ≡ for_loop name no_in (list_tree body) (tail_tree behind) =
+    for-tree it name list body behind is ∙ ap (λ (it : Option Words). for_loop name (in_of (option_map words_tree it)) (list_tree body) (tail_tree behind)) none in
+    let over : Evaluates (λ expansions. in_loop (rounds_mean expansions pages (for_loop name no_in (list_tree body) (tail_tree behind)) fields)) old came new =
+    subst (λ (it : CommandTree). Evaluates (λ expansions. in_loop (rounds_mean expansions pages it fields)) old came new) tree one in
+    subst (λ (it : CommandTree). Evaluates (λ expansions. body_means expansions pages it) old came new) (sym tree)
+    (meant (λ expansions. in_loop (rounds_mean expansions pages (for_loop name no_in (list_tree body) (tail_tree behind)) fields))
+    (λ expansions. body_means expansions pages (for_loop name no_in (list_tree body) (tail_tree behind))) old new came
+    (λ expansions state same_shell. ap (λ (it : List (List ℕ)). for_fields name (list_means expansions pages (list_tree body)) it state) (same ∙ ap (λ (it : Shell). it.arguments) same_shell)) over)
+
+-- over what words mean
+abbrev for_over : CommandTree → Expansions → List (List ℕ) → Means
+for_over tree expansions fields = in_loop (rounds_mean expansions pages tree fields)
+
+abbrev pub for_behind : Command → Expansions → List (List ℕ) → Means
+for_behind it = for_over (command_tree it)
+
+pub for-adds : (it : Command) (expansions : Expansions) (fields : List (List ℕ)) → Adds (for_behind it expansions fields)
+for-adds it expansions fields = loop-adds (rounds_mean expansions pages (command_tree it) fields) (rounds-add expansions (command_tree it) fields)
+
+abbrev for_words_over : CommandTree → Words → Meaning
+for_words_over tree list = λ expansions state.
+    after (subs_begun expansions pages (subs_tree (out-Words list).subs.items) state) (with_fields expansions (map word_tree (out-Words list).words.items) (for_over tree expansions))
+
+abbrev for_words : Command → Words → Meaning
+for_words it list = for_words_over (command_tree it) list
+
+for-words-so : (it : Command) (name : Text) (found : Option Words) (list : Words) (body : declared_list.List) (behind : Tail) → it ≡ command.For name found body behind → found ≡ Some list → (expansions : Expansions) (state : State)
+    → for_words it list expansions state ≡ body_means expansions pages (command_tree it) state
+for-words-so it name found list body behind is some expansions state =
+    let tree : command_tree it ≡ for_loop name (in_words (words (map word_tree (out-Words list).words.items) (subs_tree (out-Words list).subs.items))) (list_tree body) (tail_tree behind) =
+    for-tree it name found body behind is ∙ ap (λ (it : Option Words). for_loop name (in_of (option_map words_tree it)) (list_tree body) (tail_tree behind)) some
+    ∙ ap (λ (it : WordsTree). for_loop name (in_words it) (list_tree body) (tail_tree behind)) (words_tree-is list) in
+    ap (λ (it : CommandTree). for_words_over it list expansions state) tree ∙ sym (ap (λ (it : CommandTree). body_means expansions pages it state) tree)
+
+pub for-stopped : (it : Command) (name : Text) (found : Option Words) (list : Words) (body : declared_list.List) (behind : Tail) (subs : List declared_list.List) → it ≡ command.For name found body behind → found ≡ Some list → subs ≡ (out-Words list).subs.items
+    → (shell inner : Shell) (session : Session) (tree : TreeState) (seen : Seen) (faults : Faults) (new : Point) (came : How) → inner ≡ none_substituted shell → goes_on came ≡ false
+    → Evaluates (λ expansions. subs_mean expansions pages (subs_tree subs)) (point_of inner session tree seen faults) came new
+    → Evaluates (λ expansions. body_means expansions pages (command_tree it)) (point_of shell session tree seen faults) came new
+for-stopped it name found list body behind subs is some same shell inner session tree seen faults new came begun off first =
+    meant (for_words it list) (λ expansions. body_means expansions pages (command_tree it)) (point_of shell session tree seen faults) new came (λ expansions state shells. for-words-so it name found list body behind is some expansions state)
+    (stopped (λ expansions. subs_begun expansions pages (subs_tree (out-Words list).subs.items)) (λ expansions. with_fields expansions (map word_tree (out-Words list).words.items) (for_behind it expansions))
+    (point_of shell session tree seen faults) new came off (λ expansions. adds-with_fields expansions (map word_tree (out-Words list).words.items) (for_behind it expansions) (for-adds it expansions))
+    (subst (λ (it : List declared_list.List). Evaluates (λ expansions. subs_begun expansions pages (subs_tree it)) (point_of shell session tree seen faults) came new) same
+    (subs-begun (subs_tree subs) shell inner session tree seen faults came new begun first)))
+
+pub for-followed : (it : Command) (name : Text) (found : Option Words) (list : Words) (body : declared_list.List) (behind : Tail) (subs : List declared_list.List) (list_words : List Word) → it ≡ command.For name found body behind → found ≡ Some list
+    → subs ≡ (out-Words list).subs.items → list_words ≡ (out-Words list).words.items
+    → (shell inner : Shell) (session : Session) (tree : TreeState) (seen : Seen) (faults : Faults) (mid new : Point) (came then_how : How) → inner ≡ none_substituted shell → goes_on came ≡ true
+    → Evaluates (λ expansions. subs_mean expansions pages (subs_tree subs)) (point_of inner session tree seen faults) came mid
+    → Evaluates (λ expansions. with_fields expansions (map word_tree list_words) (for_behind it expansions)) mid then_how new
+    → Evaluates (λ expansions. body_means expansions pages (command_tree it)) (point_of shell session tree seen faults) then_how new
+for-followed it name found list body behind subs list_words is some same words_same shell inner session tree seen faults mid new came then_how begun on first rest =
+    meant (for_words it list) (λ expansions. body_means expansions pages (command_tree it)) (point_of shell session tree seen faults) new then_how (λ expansions state shells. for-words-so it name found list body behind is some expansions state)
+    (followed (λ expansions. subs_begun expansions pages (subs_tree (out-Words list).subs.items)) (λ expansions. with_fields expansions (map word_tree (out-Words list).words.items) (for_behind it expansions))
+    (point_of shell session tree seen faults) mid new came then_how on
+    (subst (λ (it : List declared_list.List). Evaluates (λ expansions. subs_begun expansions pages (subs_tree it)) (point_of shell session tree seen faults) came mid) same
+    (subs-begun (subs_tree subs) shell inner session tree seen faults came mid begun first))
+    (subst (λ (found : List Word). Evaluates (λ expansions. with_fields expansions (map word_tree found) (for_behind it expansions)) mid then_how new) words_same rest))
+
+pub for-fields : (it : Command) (fields given : List (List ℕ)) (old new : Point) (came : How) → fields ≡ given → Evaluates (λ expansions. for_behind it expansions fields) old came new → Evaluates (λ expansions. for_behind it expansions given) old came new
+for-fields it fields given old new came same one = subst (λ (texts : List (List ℕ)). Evaluates (λ expansions. for_behind it expansions texts) old came new) same one

@@ -15,7 +15,7 @@ use Rattle.sh_tree.specs.Views.{word_tree}
 use Rattle.sh_tree.specs.declared.words.Word.{Word}
 use Rattle.sh_expand.specs.declared.faults.ExpandFault.{ExpandFault}
 use Rattle.sh_expand.specs.declared.faults.ExpandFault.TheVariants as fault
-use Rattle.sh_expand.specs.Fields.{IsOutside}
+use Rattle.sh_expand.specs.Fields.{IsOfWords, IsOutside}
 use Rattle.sh_expand.specs.Outcomes.{Expansions, AreExpansions, Answer, told_fields, told_of}
 use Rattle.sh_eval.specs.declared.flows.Flow.TheVariants as flow
 use Rattle.sh_eval.specs.declared.outcomes.How.{How}
@@ -23,15 +23,18 @@ use Rattle.sh_eval.specs.declared.outcomes.How.TheVariants as how
 use Rattle.sh_eval.specs.declared.session.Session.{Session}
 use Rattle.sh_eval.specs.declared.shell.Shell.{Shell}
 use Rattle.sh_eval.specs.Shells.{with_env}
-use Rattle.sh_eval.specs.States.{State, Ends, Means}
-use Rattle.sh_eval.specs.Contract.{Seen, Faults, Point, point_of, Base, Has, Comes, IsBehind, NoFewer, HasCause, IsGone, Keeps, Meaning, Evaluates, PassesOn, StopsAt}
+use Rattle.sh_eval.specs.Ending.{how_behind, status_behind}
+use Rattle.sh_eval.specs.States.{State, Ends, Means, on, tells}
+use Rattle.sh_eval.specs.Contract.{Seen, Faults, Point, faults_of, point_of, Base, Has, Comes, IsBehind, NoFewer, HasCause, IsGone, Keeps, Meaning, Evaluates, PassesOn, StopsAt}
 use Rattle.sh_eval.specs.Commands.{set_to}
 use Rattle.sh_eval.specs.Inner.Bodies.{assign_tree}
+use Rattle.sh_eval.specs.Inner.Faults.{EndsSo, Undone}
 use Rattle.sh_eval.specs.Simple.{put_back, restored}
-use Rattle.sh_eval.specs.Expanding.{assigning, given_by, with_variables, stops_at, goes_on_with, with_fields, with_text}
+use Rattle.sh_eval.specs.Expanding.{assigning, ends_told, given_by, with_variables, stops_at, goes_on_with, with_fields, with_text}
 use Rattle.sh_eval.specs.Growth.{Adds}
-use Rattle.sh_eval.proofs.Growing.{adds-assigning}
-use Rattle.sh_eval.proofs.Steps.{behind-told, changed-before}
+use Rattle.sh_eval.proofs.EndingLemmas.{ended}
+use Rattle.sh_eval.proofs.Growing.{adds-assigning, adds-with_fields}
+use Rattle.sh_eval.proofs.Steps.{changed-before, failed-early}
 
 -- the meaning of a part whose variables are these then
 answers-has : (base : Base) (shell : Shell) (session : Session) (tree : TreeState) (seen : Seen) (faults : Faults) (state : State) (after : Variables) → Has base (point_of shell session tree seen faults) state
@@ -58,21 +61,21 @@ answered first second shell shell' session tree seen faults came new others same
     }
 
 -- a fault that words mean isn't one of the outside
-abbrev is-meant : ExpandFault → Type 0
+abbrev pub is-meant : ExpandFault → Type 0
 is-meant (fault.Unset name text) = Unit {0}
 is-meant (fault.Arith why) = Unit {0}
 is-meant fault.ArgsTooMany = Unit {0}
 is-meant fault.Failed = ⊥
 is-meant fault.Memory = ⊥
 
-meant-so : {A : Type 0} (why : ExpandFault) → is-meant why → IsOutside why ⊎ A → A
+pub meant-so : {A : Type 0} (why : ExpandFault) → is-meant why → IsOutside why ⊎ A → A
 meant-so why meant (inl (inl same)) = absurd (subst is-meant same meant)
 meant-so why meant (inl (inr same)) = absurd (subst is-meant same meant)
 meant-so why meant (inr it) = it
 
 -- FIELDS of words
 module _ (words : List WordTree) (shell shell' : Shell) (session : Session) (tree : TreeState) (seen : Seen) (faults : Faults) (others : shell' ≡ with_env shell'.variables shell) where
-  abbrev fields_told : Result (List (List ℕ)) ExpandFault → Type 0
+  abbrev pub fields_told : Result (List (List ℕ)) ExpandFault → Type 0
   fields_told answer = (expansions : Expansions) → AreExpansions expansions → (files : Files) → tree.held ≡ Some files
       → told_fields (expansions.fields files tree.home (given_by shell) shell.variables words) ≡ (answer, shell'.variables)
 
@@ -97,9 +100,34 @@ module _ (words : List WordTree) (shell shell' : Shell) (session : Session) (tre
       answered (λ expansions. with_fields expansions words (next expansions)) (λ expansions. stops_at why) shell shell' session tree seen faults came new others
       (λ expansions are base state has. fields-so (Err why) told (next expansions) expansions are base state has) found
 
+-- the call that asked the tree leaves its state and its count
+pub words-passed : (words : List WordTree) (shell shell' : Shell) (session : Session) (tree tree' : TreeState) (seen : Seen) (faults faults' : Faults) (others : shell' ≡ with_env shell'.variables shell) (fields : List (List ℕ))
+    → fields_told words shell shell' session tree seen faults others (Ok fields) → tree' ≡ tree → faults' ≡ faults
+    → PassesOn (λ expansions. with_fields expansions words) (point_of shell session tree seen faults) fields (point_of shell' session tree' seen faults')
+words-passed words shell shell' session tree tree' seen faults faults' others fields told tree_is faults_is =
+    rw tree_is rw faults_is (words-pass words shell shell' session tree seen faults others fields told)
+
+pub words-stopped : (words : List WordTree) (shell shell' : Shell) (session : Session) (tree tree' : TreeState) (seen : Seen) (faults faults' : Faults) (others : shell' ≡ with_env shell'.variables shell) (why : ExpandFault)
+    → fields_told words shell shell' session tree seen faults others (Err why) → tree' ≡ tree → faults' ≡ faults → (came : How) (new : Point)
+    → Evaluates (λ expansions. stops_at why) (point_of shell' session tree' seen faults') came new
+    → StopsAt (λ expansions. with_fields expansions words) (point_of shell session tree seen faults) came new
+words-stopped words shell shell' session tree tree' seen faults faults' others why told tree_is faults_is came new found =
+    words-stop words shell shell' session tree seen faults others why told came new
+    (subst (λ (it : TreeState). Evaluates (λ expansions. stops_at why) (point_of shell' session it seen faults) came new) tree_is
+    (subst (λ (it : Faults). Evaluates (λ expansions. stops_at why) (point_of shell' session tree' seen it) came new) faults_is found))
+
+-- the tree failed, or memory was wanted
+pub asked-in-vain : (means : Meaning) → ((expansions : Expansions) → Adds (means expansions)) → (shell shell' : Shell) (session : Session) (tree tree' : TreeState) (seen : Seen) (input output errors before now : ℕ) (came : How) → (IsGone came → ⊥)
+    → tree' ≡ tree → before ≤ now → HasCause came (faults_of input output errors before) (faults_of input output errors now)
+    → Evaluates means (point_of shell session tree seen (faults_of input output errors before)) came (point_of shell' session tree' seen (faults_of input output errors now))
+asked-in-vain means adds shell shell' session tree tree' seen input output errors before now came off tree_is later cause =
+    rw tree_is
+    (failed-early means adds shell shell' session tree seen (faults_of input output errors before) (faults_of input output errors now) came off
+    (record { input = omega arith; output = omega arith; errors = omega arith; tree = later }) cause)
+
 -- THE TEXT of a word of which nothing is split
 module _ (word : WordTree) (shell shell' : Shell) (session : Session) (tree : TreeState) (seen : Seen) (faults : Faults) (others : shell' ≡ with_env shell'.variables shell) where
-  abbrev text_told : Result (List ℕ) ExpandFault → Type 0
+  abbrev pub text_told : Result (List ℕ) ExpandFault → Type 0
   text_told answer = (expansions : Expansions) → AreExpansions expansions → told_of (expansions.text (given_by shell) shell.variables word) ≡ (answer, shell'.variables)
 
   text-so : (answer : Result (List ℕ) ExpandFault) → text_told answer → (next : List ℕ → Means) (expansions : Expansions) → AreExpansions expansions → (base : Base) (state : State)
@@ -120,6 +148,42 @@ module _ (word : WordTree) (shell shell' : Shell) (session : Session) (tree : Tr
   text-stops why told came new found next adds =
       answered (λ expansions. with_text expansions word (next expansions)) (λ expansions. stops_at why) shell shell' session tree seen faults came new others
       (λ expansions are base state has. text-so (Err why) told (next expansions) expansions are base state has) found
+
+-- A FAULT of words, whatever it is
+calm-so : (why : ExpandFault) (before now : ℕ) → is-meant why → ((why ≡ fault.Failed) ⊎ (now ≡ before)) → now ≡ before
+calm-so why before now meant (inl failed) = absurd (subst is-meant failed meant)
+calm-so why before now meant (inr same) = same
+
+undone-so : (means : Meaning) → ((expansions : Expansions) → Adds (means expansions)) → (shell shell' : Shell) (session : Session) (tree tree' : TreeState) (seen : Seen) (input output errors before now : ℕ) (came why : How) (new : Point) → (IsGone why → ⊥)
+    → tree' ≡ tree → before ≤ now → HasCause why (faults_of input output errors before) (faults_of input output errors now) → Undone came (point_of shell' session tree' seen (faults_of input output errors now)) new why
+    → Evaluates means (point_of shell session tree seen (faults_of input output errors before)) came new
+undone-so means adds shell shell' session tree tree' seen input output errors before now came why new off tree_is later cause undone =
+    rw undone.came_is rw undone.same (asked-in-vain means adds shell shell' session tree tree' seen input output errors before now why off tree_is later cause)
+
+module _ (words : List WordTree) (shell shell' : Shell) (session : Session) (tree tree' : TreeState) (seen : Seen) (input output errors before now : ℕ) (others : shell' ≡ with_env shell'.variables shell) (tree_is : tree' ≡ tree) where
+  abbrev pub tells_fields : ExpandFault → Type 0
+  tells_fields why = (expansions : Expansions) → AreExpansions expansions → (files : Files) → tree.held ≡ Some files
+      → IsOutside why ⊎ (told_fields (expansions.fields files tree.home (given_by shell) shell.variables words) ≡ (Err why, shell'.variables))
+
+  words-end-meant : (why : ExpandFault) → is-meant why → tells_fields why → ((why ≡ fault.Failed) ⊎ (now ≡ before)) → (came : How) (new : Point)
+      → Evaluates (λ expansions. stops_at why) (point_of shell' session tree' seen (faults_of input output errors now)) came new
+      → StopsAt (λ expansions. with_fields expansions words) (point_of shell session tree seen (faults_of input output errors before)) came new
+  words-end-meant why meant tells count came new found =
+      words-stopped words shell shell' session tree tree' seen (faults_of input output errors before) (faults_of input output errors now) others why
+      (λ expansions are files held. meant-so why meant (tells expansions are files held)) tree_is (ap (faults_of input output errors) (calm-so why before now meant count)) came new found
+
+  pub words-end : (why : ExpandFault) → tells_fields why → before ≤ now → (why ≡ fault.Failed → Rose before now) → ((why ≡ fault.Failed) ⊎ (now ≡ before)) → (came : How) (new : Point)
+      → EndsSo why (point_of shell' session tree' seen (faults_of input output errors now)) came new
+      → StopsAt (λ expansions. with_fields expansions words) (point_of shell session tree seen (faults_of input output errors before)) came new
+  words-end (fault.Unset name text) tells later rose count came new found = words-end-meant (fault.Unset name text) tt tells count came new found
+  words-end (fault.Arith why) tells later rose count came new found = words-end-meant (fault.Arith why) tt tells count came new found
+  words-end fault.ArgsTooMany tells later rose count came new found = words-end-meant fault.ArgsTooMany tt tells count came new found
+  words-end fault.Failed tells later rose count came new found = λ next adds.
+      undone-so (λ expansions. with_fields expansions words (next expansions)) (λ expansions. adds-with_fields expansions words (next expansions) (adds expansions))
+      shell shell' session tree tree' seen input output errors before now came how.TreeFault new (λ gone. gone) tree_is later (rose refl) found
+  words-end fault.Memory tells later rose count came new found = λ next adds.
+      undone-so (λ expansions. with_fields expansions words (next expansions)) (λ expansions. adds-with_fields expansions words (next expansions) (adds expansions))
+      shell shell' session tree tree' seen input output errors before now came how.Memory new (λ gone. gone) tree_is later tt found
 
 -- ASSIGNMENTS
 assign-step : (assigns : List (Text × Word)) (place : ℕ) (one : Text × Word) → one ≡ get_or assigns place one → place < length assigns
@@ -150,6 +214,22 @@ module _ (assigns : List (Text × Word)) (place : ℕ) (one : Text × Word) (her
       (text-passes (word_tree one.1) shell shell' session tree seen faults others text told (behind_text next) came new
       (changed-before (λ expansions. assigning expansions (map assign_tree (drop (place + 1) assigns)) (next expansions)) (λ shell. with_env (finite.insert shell.variables one.0 text) shell) shell' shell'' session tree seen faults came new set rest))
 
+-- an assignment ends at a fault of its word
+pub assigns-end : (assigns : List (Text × Word)) (place : ℕ) (one : Text × Word) → one ≡ get_or assigns place one → place < length assigns
+    → (shell shell' : Shell) (session : Session) (tree : TreeState) (seen : Seen) (input output errors of_tree : ℕ) (others : shell' ≡ with_env shell'.variables shell) (why : ExpandFault) → IsOfWords why
+    → ((expansions : Expansions) → AreExpansions expansions → IsOutside why ⊎ (told_of (expansions.text (given_by shell) shell.variables (word_tree one.1)) ≡ (Err why, shell'.variables)))
+    → (came : How) (new : Point) → EndsSo why (point_of shell' session tree seen (faults_of input output errors of_tree)) came new → (next : Expansions → Means) → ((expansions : Expansions) → Adds (next expansions))
+    → Evaluates (λ expansions. assigning expansions (map assign_tree (drop place assigns)) (next expansions)) (point_of shell session tree seen (faults_of input output errors of_tree)) came new
+assigns-end assigns place one here below shell shell' session tree seen input output errors of_tree others (fault.Unset name text) of_words tells came new found next adds =
+    assigns-stop assigns place one here below shell session tree seen (faults_of input output errors of_tree) shell' others (fault.Unset name text) (λ expansions are. meant-so (fault.Unset name text) tt (tells expansions are)) came new found next adds
+assigns-end assigns place one here below shell shell' session tree seen input output errors of_tree others (fault.Arith why) of_words tells came new found next adds =
+    assigns-stop assigns place one here below shell session tree seen (faults_of input output errors of_tree) shell' others (fault.Arith why) (λ expansions are. meant-so (fault.Arith why) tt (tells expansions are)) came new found next adds
+assigns-end assigns place one here below shell shell' session tree seen input output errors of_tree others fault.ArgsTooMany of_words tells came new found next adds = absurd of_words
+assigns-end assigns place one here below shell shell' session tree seen input output errors of_tree others fault.Failed of_words tells came new found next adds = absurd of_words
+assigns-end assigns place one here below shell shell' session tree seen input output errors of_tree others fault.Memory of_words tells came new found next adds =
+    undone-so (λ expansions. assigning expansions (map assign_tree (drop place assigns)) (next expansions)) (λ expansions. adds-assigning expansions (map assign_tree (drop place assigns)) (next expansions) (adds expansions))
+    shell shell' session tree tree seen input output errors of_tree of_tree came how.Memory new (λ gone. gone) refl (omega arith) tt found
+
 pub assigns-done : (assigns : List (Text × Word)) (place : ℕ) → length assigns ≤ place → (next : Expansions → Means) (expansions : Expansions)
     → assigning expansions (map assign_tree (drop place assigns)) (next expansions) ≡ next expansions
 assigns-done assigns place over next expansions = rw (drop_of_length-le assigns over) refl
@@ -170,3 +250,13 @@ restored-some front last old variables text is = rw (trees-last front last) rw (
 pub restored-none : (front : List (Text × Word)) (last : Text × Word) (old variables : Variables) → finite.get old last.0 ≡ None
     → restored (map assign_tree (front ++ last ∷ [])) old variables ≡ restored (map assign_tree front) old (finite.remove variables last.0)
 restored-none front last old variables is = rw (trees-last front last) rw (restored-last (map assign_tree front) (assign_tree last) old variables) rw is refl
+
+pub ruleset restored_steps = (restored-some, restored-none)
+
+-- the shell ends behind a line
+pub told-so : (text line : List ℕ) (shell shell' : Shell) (session session' : Session) (tree tree' : TreeState) (seen seen' : Seen) (faults faults' : Faults) (came came' : How) → line ≡ text
+    → shell' ≡ status_behind came 1 shell → came' ≡ how_behind came flow.Exit → Evaluates (λ expansions state. on (tells line state)) (point_of shell session tree seen faults) came (point_of shell session' tree' seen' faults')
+    → Evaluates (λ expansions. ends_told text) (point_of shell session tree seen faults) came' (point_of shell' session' tree' seen' faults')
+told-so text line shell shell' session session' tree tree' seen seen' faults faults' came came' is shell_is came_is one =
+    ended (λ expansions state. on (tells text state)) flow.Exit 1 shell shell' session session' tree tree' seen seen' faults faults' came came' shell_is came_is
+    (subst (λ (it : List ℕ). Evaluates (λ expansions state. on (tells it state)) (point_of shell session tree seen faults) came (point_of shell session' tree' seen' faults')) is one)

@@ -229,7 +229,7 @@ adds-for_fields name body adds fields state = adds-rounds name body adds fields 
 adds-tells : (line : List ℕ) → Adds (λ state. on (tells line state))
 adds-tells line state = grows-write state.session.streams.errors_to line state
 
-adds-ends_told : (line : List ℕ) → Adds (ends_told line)
+pub adds-ends_told : (line : List ℕ) → Adds (ends_told line)
 adds-ends_told line state = grows-write state.session.streams.errors_to line state
 
 pub adds-stops_at : (why : ExpandFault) → Adds (stops_at why)
@@ -251,7 +251,7 @@ module _ (expansions : Expansions) where
   pub adds-with_text : (word : WordTree) (next : List ℕ → Means) → ((text : List ℕ) → Adds (next text)) → Adds (with_text_of expansions word next)
   adds-with_text word next adds state = adds-goes_on_with next adds (told_of (expansions.text (given_by state.shell) state.shell.variables word)) state
 
-  adds-with_targets : (redirs : List RedirTree) (next : List Target → Means) → ((targets : List Target) → Adds (next targets)) → Adds (with_targets expansions redirs next)
+  pub adds-with_targets : (redirs : List RedirTree) (next : List Target → Means) → ((targets : List Target) → Adds (next targets)) → Adds (with_targets expansions redirs next)
   adds-with_targets [] next adds = adds []
   adds-with_targets (redir ∷ redirs) next adds =
       adds-with_text redir.word
@@ -308,7 +308,7 @@ adds-redirecting flow (target ∷ targets) next adds state =
     adds-goes_on_in flow (redirecting flow targets next) (adds-redirecting flow targets next adds) (redirected target target.how (named_by state target.text) state) state
     (grows-redirected target target.how (named_by state target.text) state)
 
-adds-in_redirections : (flow : Flow) (targets : List Target) (next : Means) → Adds next → Adds (in_redirections flow targets next)
+pub adds-in_redirections : (flow : Flow) (targets : List Target) (next : Means) → Adds next → Adds (in_redirections flow targets next)
 adds-in_redirections flow [] next adds state = adds state
 adds-in_redirections flow (target ∷ targets) next adds state = adds-redirecting flow (target ∷ targets) next adds state
 
@@ -416,7 +416,7 @@ adds-reads names state =
     grows-set_all state names (fields_read (ifs_of state.shell.variables) (line_in (to_read state)) (length names)) (reads_to rest state) (grows-reads_to state rest state (grows-self state))
 
 -- WHAT IS ASKED FOR
-abbrev AddsAsked : Asked → Type 0
+abbrev pub AddsAsked : Asked → Type 0
 AddsAsked no_name = Unit {0}
 AddsAsked (unknown name) = Unit {0}
 AddsAsked (unlisted name letter) = Unit {0}
@@ -424,7 +424,7 @@ AddsAsked (unusable is_special name) = Unit {0}
 AddsAsked (utility name called) = Unit {0}
 AddsAsked (builtin is_special means) = Adds means
 
-does-adds : (name : List ℕ) (given : List (List ℕ)) (asked : Command) → AddsAsked (does name given asked)
+pub does-adds : (name : List ℕ) (given : List (List ℕ)) (asked : Command) → AddsAsked (does name given asked)
 does-adds name given command.True = λ state. grows-self state
 does-adds name given command.False = λ state. grows-self state
 does-adds name given command.Colon = λ state. grows-self state
@@ -450,20 +450,20 @@ does-adds name given (command.Sort args) = tt
 does-adds name given (command.Paste args) = tt
 does-adds name given (command.Tee args) = tt
 
-asked_as-adds : (name : List ℕ) (given : List (List ℕ)) (found : Result Command ArgFault) → AddsAsked (asked_as name given found)
+pub asked_as-adds : (name : List ℕ) (given : List (List ℕ)) (found : Result Command ArgFault) → AddsAsked (asked_as name given found)
 asked_as-adds name given (Ok asked) = does-adds name given asked
 asked_as-adds name given (Err (arg.UnknownCommand other)) = tt
 asked_as-adds name given (Err (arg.UnsupportedFlag other letter)) = tt
 asked_as-adds name given (Err (arg.BadUsage other)) = tt
 asked_as-adds name given (Err arg.Memory) = tt
 
-asked-adds : (given : List (List ℕ)) → AddsAsked (asked_by given)
+pub asked-adds : (given : List (List ℕ)) → AddsAsked (asked_by given)
 asked-adds [] = tt
 asked-adds (name ∷ given) = asked_as-adds name (name ∷ given) (invocation (name ∷ given))
 
 -- SIMPLE COMMANDS
 module _ (expansions : Expansions) where
-  adds-assigned_for : (stay : Bool) (assigns : List (List ℕ × WordTree)) (next : Means) → Adds next → Adds (assigned_for expansions stay assigns next)
+  pub adds-assigned_for : (stay : Bool) (assigns : List (List ℕ × WordTree)) (next : Means) → Adds next → Adds (assigned_for expansions stay assigns next)
   adds-assigned_for true assigns next adds state = adds-assigning expansions assigns next adds state
   adds-assigned_for false assigns next adds state = adds-assigning expansions assigns next adds state
 
@@ -484,7 +484,7 @@ module _ (expansions : Expansions) where
     adds-by_patterns name called assigns targets wrong state = adds-done false assigns (λ state. []) targets (misused flow.On name) (adds-misused flow.On name) state
     adds-by_patterns name called assigns targets (refers_back pattern) state = grows-self state
 
-    adds-checked : (assigns : List (List ℕ × WordTree)) (targets : List Target) (asked : Asked) → AddsAsked asked → Adds (checked expansions pages assigns targets asked)
+    pub adds-checked : (assigns : List (List ℕ × WordTree)) (targets : List Target) (asked : Asked) → AddsAsked asked → Adds (checked expansions pages assigns targets asked)
     adds-checked assigns targets no_name adds state =
         let bare : Means = assigning expansions assigns (λ state. on (leaves state.shell.substitution_status state)) in
         adds-where_free (λ state. uses_of state targets) (in_redirections flow.On targets bare)

@@ -13,3 +13,4 @@ pub mod RedirectionLemmas
 pub mod RedirectionSteps
 pub mod RedirectionLoops
 pub mod SkippingLemmas
+pub mod SimpleSteps

@@ -1,7 +1,13 @@
 -- What is evaluated of loops comes of what is evaluated of their turns and rounds.
-use Rattle.std.proofs.Common.{◌≡◌, ◌<◌, ◌≤◌, ◌+◌, ◌-◌, ◌==◌, nat_le, not, if◌then◌else◌, ℕ, zero, suc, List, [], ◌∷◌, Bool, true, false, refl, sym, ap, ◌∙◌, subst, arith}
+use Rattle.std.proofs.Common.{◌≡◌, ◌<◌, ◌≤◌, ◌+◌, ◌-◌, ◌==◌, nat_le, not, if◌then◌else◌, ℕ, zero, suc, List, [], ◌∷◌, length, get_or, drop, add-one, Bool, true, false, refl, sym, ap, ◌∙◌, subst, arith}
 use Rattle.std.proofs.lemmas.Bool.{cond-true, cond-false, true≢false, le-leb, leb-false, lt-leb}
+use Rattle.std.proofs.Math.Seq.{drop-cons}
+use Rattle.std.proofs.Math.ListN.{drop_of_length-le}
+use Rattle.std.specs.declared.alloc.Global.{Global}
+use Rattle.std.specs.declared.vec.Vec.{Vec}
+use Rattle.ps_lines.specs.Texts.{texts_of}
 use Rattle.ps_world.specs.TreeState.{TreeState}
+use Rattle.sh_tree.specs.Trees.{CommandTree}
 use Rattle.sh_expand.specs.Outcomes.{Expansions}
 use Rattle.sh_eval.specs.declared.flows.Flow.{Flow}
 use Rattle.sh_eval.specs.declared.flows.Flow.TheVariants as flow
@@ -12,10 +18,13 @@ use Rattle.sh_eval.specs.declared.session.Session.{Session}
 use Rattle.sh_eval.specs.declared.shell.Shell.{Shell}
 use Rattle.sh_eval.specs.Shells.{with_status}
 use Rattle.sh_eval.specs.States.{State, Ends, Means, ends, refused, in_shell, in_session}
-use Rattle.sh_eval.specs.Commands.{most_turns, turns, all_turns, rounds, turn_used, is_over, goes_round, left_by, entered, restored, in_loop, noted, kept_by, of_body, turn, tested_by}
+use Rattle.sh_eval.specs.Commands.{most_turns, turns, all_turns, rounds, turn_used, is_over, goes_round, left_by, entered, restored, in_loop, noted, set_to, kept_by, of_body, turn, tested_by}
 use Rattle.sh_eval.specs.Contract.{Seen, Faults, Point, point_of, Base, Has, Comes, gone_by, goes_on, goes_on_by, going, changed_by, Keeps, Meaning, Evaluates}
 use Rattle.sh_eval.specs.Growth.{Grows, Adds}
+use Rattle.sh_eval.specs.Inner.Bodies.{for_body, name_of, round_means, rounds_mean}
 use Rattle.sh_eval.specs.Inner.Loops.{condition_left}
+use Rattle.sh_eval.specs.Table.{pages}
+use Rattle.sh_eval.proofs.CommandSteps.{rounds-add}
 use Rattle.sh_eval.proofs.Growing.{grows-self, grows-trans, grows-turn_used, adds-choice, adds-turns, adds-tested}
 use Rattle.sh_eval.proofs.Steps.{changed, follow, remade, then_by, same-how, same-shell}
 use Rattle.sh_eval.proofs.ListSteps.{meant}
@@ -299,3 +308,51 @@ module _ (named : List ℕ → State → State) (body : Meaning) where
   pub rounds-done : (shell shell' : Shell) (session : Session) (tree : TreeState) (seen : Seen) (faults : Faults) → shell' ≡ with_status shell.body_status shell
       → Evaluates (rounds_of []) (point_of shell session tree seen faults) (how.Gone flow.On) (point_of shell' session tree seen faults)
   rounds-done shell shell' session tree seen faults is = changed flow.On (λ shell. with_status shell.body_status shell) shell shell' session tree seen faults is
+
+-- rounds over the texts of fields
+fields-step : (fields : List (Vec ℕ Global)) (place : ℕ) (one : Vec ℕ Global) (text : List ℕ) → one ≡ get_or fields place one → place < length fields → text ≡ one.items
+    → texts_of (drop place fields) ≡ text ∷ texts_of (drop (place + 1) fields)
+fields-step fields place one text here below is =
+    let cut : drop place fields ≡ get_or fields place one ∷ drop (place + 1) fields = rw add-one (drop-cons fields place one below) in
+    ap texts_of cut ∙ ap (λ (it : Vec ℕ Global). texts_of (it ∷ drop (place + 1) fields)) (sym here) ∙ ap (λ (it : List ℕ). it ∷ texts_of (drop (place + 1) fields)) (sym is)
+
+module _ (tree : CommandTree) (fields : List (Vec ℕ Global)) (place : ℕ) (one : Vec ℕ Global) (text : List ℕ) (here : one ≡ get_or fields place one) (below : place < length fields) (is_text : text ≡ one.items) where
+  abbrev named : List ℕ → State → State
+  named = set_to (name_of tree)
+
+  abbrev body : Meaning
+  body expansions = for_body expansions pages tree
+
+  abbrev from_here : List (List ℕ) → Meaning
+  from_here texts expansions = rounds_mean expansions pages tree texts
+
+  pub over-here : (shell : Shell) (session : Session) (held : TreeState) (seen : Seen) (faults : Faults) → most_turns ≤ session.turns
+      → Evaluates (λ expansions. rounds_mean expansions pages tree (texts_of (drop place fields))) (point_of shell session held seen faults) (how.Gone (flow.Refused refusal.TurnsOver)) (point_of shell session held seen faults)
+  over-here shell session held seen faults over =
+      subst (λ (it : List (List ℕ)). Evaluates (λ expansions. rounds_mean expansions pages tree it) (point_of shell session held seen faults) (how.Gone (flow.Refused refusal.TurnsOver)) (point_of shell session held seen faults))
+      (sym (fields-step fields place one text here below is_text))
+      (rounds-over named body text (texts_of (drop (place + 1) fields)) shell session held seen faults over)
+
+  pub left-here : (shell : Shell) (session session' : Session) (held : TreeState) (seen : Seen) (faults : Faults) (came came' : How) (new : Point) → session.turns < most_turns → session' ≡ turn_used session
+      → gone_by goes_round came ≡ false → came' ≡ going left_by came → Evaluates (λ expansions. round_means expansions pages tree text) (point_of shell session' held seen faults) came new
+      → Evaluates (λ expansions. rounds_mean expansions pages tree (texts_of (drop place fields))) (point_of shell session held seen faults) came' new
+  left-here shell session session' held seen faults came came' new under used is came_is found =
+      subst (λ (it : List (List ℕ)). Evaluates (λ expansions. rounds_mean expansions pages tree it) (point_of shell session held seen faults) came' new)
+      (sym (fields-step fields place one text here below is_text))
+      (rounds-left named body (λ texts expansions. rounds-add expansions tree texts) text (texts_of (drop (place + 1) fields)) shell session session' held seen faults came came' new under used is came_is found)
+
+  pub again-here : (shell : Shell) (session session' : Session) (held : TreeState) (seen : Seen) (faults : Faults) (came then_how : How) (mid new : Point) → session.turns < most_turns → session' ≡ turn_used session
+      → gone_by goes_round came ≡ true → Evaluates (λ expansions. round_means expansions pages tree text) (point_of shell session' held seen faults) came mid
+      → Evaluates (λ expansions. rounds_mean expansions pages tree (texts_of (drop (place + 1) fields))) mid then_how new
+      → Evaluates (λ expansions. rounds_mean expansions pages tree (texts_of (drop place fields))) (point_of shell session held seen faults) then_how new
+  again-here shell session session' held seen faults came then_how mid new under used is found rest =
+      subst (λ (it : List (List ℕ)). Evaluates (λ expansions. rounds_mean expansions pages tree it) (point_of shell session held seen faults) then_how new)
+      (sym (fields-step fields place one text here below is_text))
+      (rounds-again named body text (texts_of (drop (place + 1) fields)) shell session session' held seen faults came then_how mid new under used is found rest)
+
+pub done-here : (tree : CommandTree) (fields : List (Vec ℕ Global)) (place : ℕ) (shell shell' : Shell) (session : Session) (held : TreeState) (seen : Seen) (faults : Faults) → length fields ≤ place → shell' ≡ with_status shell.body_status shell
+    → Evaluates (λ expansions. rounds_mean expansions pages tree (texts_of (drop place fields))) (point_of shell session held seen faults) (how.Gone flow.On) (point_of shell' session held seen faults)
+done-here tree fields place shell shell' session held seen faults over is =
+    subst (λ (it : List (Vec ℕ Global)). Evaluates (λ expansions. rounds_mean expansions pages tree (texts_of it)) (point_of shell session held seen faults) (how.Gone flow.On) (point_of shell' session held seen faults))
+    (sym (drop_of_length-le fields over))
+    (rounds-done (set_to (name_of tree)) (λ expansions. for_body expansions pages tree) shell shell' session held seen faults is)

@@ -52,9 +52,9 @@ does name words other = utility name (record { words = words; command = other })
 
 abbrev pub asked_as : List ℕ → List (List ℕ) → Result Command ArgFault → Asked
 asked_as name words (Ok asked) = does name words asked
-asked_as name words (Err (fault.UnknownCommand other)) = unknown name
-asked_as name words (Err (fault.UnsupportedFlag other letter)) = unlisted name letter
-asked_as name words (Err (fault.BadUsage other)) = unusable (is_special name) name
+asked_as name words (Err (fault.UnknownCommand other)) = unknown other
+asked_as name words (Err (fault.UnsupportedFlag other letter)) = unlisted other letter
+asked_as name words (Err (fault.BadUsage other)) = unusable (is_special other) other
 asked_as name words (Err fault.Memory) = no_name
 
 -- what fields ask for

@@ -1,3 +1,5 @@
 -- Words that the functions of the evaluator need for themselves; what a script means doesn't hang on them.
 pub mod Bodies
 pub mod Loops
+pub mod Doing
+pub mod Faults

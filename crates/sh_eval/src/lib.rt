@@ -11,6 +11,7 @@
 
 mod builtins;
 mod busy;
+mod expanding;
 mod files;
 mod flows;
 pub mod laws;

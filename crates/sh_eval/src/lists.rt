@@ -1,14 +1,16 @@
 //! The evaluation of lists, pipelines and compound commands.
 ghost use Rattle.std.specs.Prelude.{◌≡◌, length};
+ghost use Rattle.ps_lines.specs.Texts.{texts_of};
 ghost use Rattle.sh_tree.specs.Views.{list_tree, items_tree, and_or_tree, joined_tree, pipeline_tree, stages_tree, command_tree};
 ghost use Rattle.sh_tree.specs.Views.{simple_tree, subs_tree};
 ghost use Rattle.sh_tree.specs.declared.commands.Command.TheViews.{out-Tail};
 ghost use Rattle.sh_eval.specs.Commands.{all_turns, in_loop, joined_by, noted, subshell, staged, first_stage, middle_stage, last_stage, some_command, substitution};
-ghost use Rattle.sh_eval.specs.Inner.Bodies.{body_means, subs_begun, turn_means};
+ghost use Rattle.sh_eval.specs.Inner.Bodies.{body_means, round_means, rounds_mean, subs_begun, turn_means};
 ghost use Rattle.sh_eval.specs.Contract.{Evaluates, IsSound, point_of, seen_of, faults_of};
 ghost use Rattle.sh_eval.specs.Meaning.{has_item, list_means, and_or_means, joined_means, pipeline_means, stages_means, command_means, simple_means, subs_mean};
 ghost use Rattle.sh_eval.specs.Table.{pages};
 
+use crate::expanding::expand_words;
 use crate::flows::Flow;
 use crate::outcomes::{
     How, Played, Position, goes_on, goes_round, has_command, is_bare, joins, leave_condition,
@@ -604,7 +606,10 @@ fn eval_body<T: Tree, I: Source, O: Sink, E: Sink>(
         Command::Until(_, _, _) => {
             eval_while(alloc, command, shell, session, tree, input, out, err)
         }
-        _ => Played {
+        Command::For(_, _, _, _) => {
+            eval_for(alloc, command, shell, session, tree, input, out, err)
+        }
+        Command::Simple(_) => Played {
             how: How::Memory,
             input,
             out,
@@ -1069,6 +1074,235 @@ fn eval_loop_body<T: Tree, I: Source, O: Sink, E: Sink>(
     let Played { how, input, out } = eval_list(alloc, body, shell, session, tree, input, out, err);
     note_body(&how, shell);
     Played { how, input, out }
+}
+
+/// Evaluates a `for`: over what its words mean, or over the arguments.
+#[cycle(evaluation)]
+fn eval_for<T: Tree, I: Source, O: Sink, E: Sink>(
+    alloc: Global,
+    command: &Command,
+    shell: &mut Shell,
+    session: &mut Session,
+    tree: &mut T,
+    input: I,
+    out: O,
+    err: &mut E,
+) -> Played<I, O>
+    requires sound { IsSound session.old (T.state tree.old) }
+    ensures { Evaluates (λ expansions. body_means expansions pages (command_tree command.now))
+        (point_of shell.old session.old (T.state tree.old) (seen_of (I.left input) (O.taken out) (E.taken err.old))
+        (faults_of (I.faults input) (O.faults out) (E.faults err.old) (T.faults tree.old)))
+        result.how
+        (point_of shell.new session.new (T.state tree.new) (seen_of (I.left result.input) (O.taken result.out) (E.taken err.new))
+        (faults_of (I.faults result.input) (O.faults result.out) (E.faults err.new) (T.faults tree.new))) }
+{
+    let Command::For(_, words, _, _) = command else {
+        return Played {
+            how: How::Memory,
+            input,
+            out,
+        };
+    };
+    match words {
+        None => {
+            let Ok(arguments) = shell.arguments.copy() else {
+                return Played {
+                    how: How::Memory,
+                    input,
+                    out,
+                };
+            };
+            eval_for_over(
+                alloc,
+                command,
+                arguments.as_slice(),
+                shell,
+                session,
+                tree,
+                input,
+                out,
+                err,
+            )
+        }
+        Some(words) => {
+            shell.begin_command(alloc);
+            let Played { how, input, out } = eval_subs(
+                alloc,
+                words.subs.as_slice(),
+                shell,
+                session,
+                tree,
+                input,
+                out,
+                err,
+            );
+            if !goes_on(&how) {
+                return Played { how, input, out };
+            }
+            let mut out = out;
+            let fields = match expand_words(
+                alloc,
+                words.words.as_slice(),
+                shell,
+                session,
+                tree,
+                &mut out,
+                err,
+            ) {
+                Ok(fields) => fields,
+                Err(how) => return Played { how, input, out },
+            };
+            eval_for_over(
+                alloc,
+                command,
+                fields.as_slice(),
+                shell,
+                session,
+                tree,
+                input,
+                out,
+                err,
+            )
+        }
+    }
+}
+
+/// Evaluates a `for` over fields.
+#[cycle(evaluation)]
+fn eval_for_over<T: Tree, I: Source, O: Sink, E: Sink>(
+    alloc: Global,
+    command: &Command,
+    fields: &[Vec<u8>],
+    shell: &mut Shell,
+    session: &mut Session,
+    tree: &mut T,
+    input: I,
+    out: O,
+    err: &mut E,
+) -> Played<I, O>
+    requires sound { IsSound session.old (T.state tree.old) }
+    ensures { Evaluates (λ expansions. in_loop (rounds_mean expansions pages (command_tree command.now) (texts_of fields.now)))
+        (point_of shell.old session.old (T.state tree.old) (seen_of (I.left input) (O.taken out) (E.taken err.old))
+        (faults_of (I.faults input) (O.faults out) (E.faults err.old) (T.faults tree.old)))
+        result.how
+        (point_of shell.new session.new (T.state tree.new) (seen_of (I.left result.input) (O.taken result.out) (E.taken err.new))
+        (faults_of (I.faults result.input) (O.faults result.out) (E.faults err.new) (T.faults tree.new))) }
+{
+    let Some(around) = shell.enter_loop() else {
+        return Played {
+            how: How::Memory,
+            input,
+            out,
+        };
+    };
+    let Played { how, input, out } = eval_rounds(
+        alloc, command, fields, shell, session, tree, input, out, err,
+    );
+    shell.leave_loop(around);
+    Played { how, input, out }
+}
+
+/// Evaluates the rounds of a `for`, one a field, until one of them ends it, or all turns of the run are used.
+#[cycle(evaluation)]
+fn eval_rounds<T: Tree, I: Source, O: Sink, E: Sink>(
+    alloc: Global,
+    command: &Command,
+    fields: &[Vec<u8>],
+    shell: &mut Shell,
+    session: &mut Session,
+    tree: &mut T,
+    input: I,
+    out: O,
+    err: &mut E,
+) -> Played<I, O>
+    requires sound { IsSound session.old (T.state tree.old) }
+    ensures { Evaluates (λ expansions. rounds_mean expansions pages (command_tree command.now) (texts_of fields.now))
+        (point_of shell.old session.old (T.state tree.old) (seen_of (I.left input) (O.taken out) (E.taken err.old))
+        (faults_of (I.faults input) (O.faults out) (E.faults err.old) (T.faults tree.old)))
+        result.how
+        (point_of shell.new session.new (T.state tree.new) (seen_of (I.left result.input) (O.taken result.out) (E.taken err.new))
+        (faults_of (I.faults result.input) (O.faults result.out) (E.faults err.new) (T.faults tree.new))) }
+{
+    let mut input = input;
+    let mut out = out;
+    for field in fields {
+        if session.turns >= MAX_TURNS {
+            return Played {
+                how: How::Gone(Flow::Refused(Refusal::TurnsOver)),
+                input,
+                out,
+            };
+        }
+        session.turns += 1;
+        let Played {
+            how,
+            input: left,
+            out: sent,
+        } = eval_round(
+            alloc,
+            command,
+            field.as_slice(),
+            shell,
+            session,
+            tree,
+            input,
+            out,
+            err,
+        );
+        input = left;
+        out = sent;
+        if !goes_round(&how) {
+            return Played {
+                how: left_by(how),
+                input,
+                out,
+            };
+        }
+    }
+    shell.status = shell.body_status;
+    Played {
+        how: How::Gone(Flow::On),
+        input,
+        out,
+    }
+}
+
+/// Evaluates one round of a `for`, in which its name has this text.
+#[cycle(evaluation)]
+fn eval_round<T: Tree, I: Source, O: Sink, E: Sink>(
+    alloc: Global,
+    command: &Command,
+    field: &[u8],
+    shell: &mut Shell,
+    session: &mut Session,
+    tree: &mut T,
+    input: I,
+    out: O,
+    err: &mut E,
+) -> Played<I, O>
+    requires sound { IsSound session.old (T.state tree.old) }
+    ensures { Evaluates (λ expansions. round_means expansions pages (command_tree command.now) field.now)
+        (point_of shell.old session.old (T.state tree.old) (seen_of (I.left input) (O.taken out) (E.taken err.old))
+        (faults_of (I.faults input) (O.faults out) (E.faults err.old) (T.faults tree.old)))
+        result.how
+        (point_of shell.new session.new (T.state tree.new) (seen_of (I.left result.input) (O.taken result.out) (E.taken err.new))
+        (faults_of (I.faults result.input) (O.faults result.out) (E.faults err.new) (T.faults tree.new))) }
+{
+    let Command::For(name, _, body, _) = command else {
+        return Played {
+            how: How::Memory,
+            input,
+            out,
+        };
+    };
+    let Ok(()) = shell.variables.set(alloc, name.as_slice(), field) else {
+        return Played {
+            how: How::Memory,
+            input,
+            out,
+        };
+    };
+    eval_loop_body(alloc, body, shell, session, tree, input, out, err)
 }
 
 /// Evaluates a list in a subshell.

@@ -1,22 +1,108 @@
 //! Simple commands, behind their substitutions.
-ghost use Rattle.std.specs.Prelude.{map};
+ghost use Rattle.std.specs.Prelude.{◌≡◌, ◌<◌, [], List, ℕ, length, map, true, Err, Result};
+ghost use Rattle.ps_lines.specs.Texts.{texts_of};
 ghost use Rattle.sh_tree.specs.Views.{redir_tree, word_tree};
-ghost use Rattle.sh_eval.specs.Contract.{Evaluates, IsSound, point_of, seen_of, faults_of};
+ghost use Rattle.ut_args.specs.Invocations.{command_of};
+ghost use Rattle.ut_args.specs.Reading.{invocation};
+ghost use Rattle.ut_args.specs.declared.commands.Command.{Command};
+ghost use Rattle.sh_eval.specs.Asking.{asked_as, asked_by, at_fault, does, is_special as is_special_lem, no_name};
+ghost use Rattle.sh_eval.specs.Contract.{Evaluates, IsSound, faults_of, point_of, seen_of};
+ghost use Rattle.sh_eval.specs.Expanding.{assigning};
 ghost use Rattle.sh_eval.specs.Inner.Bodies.{assign_tree};
-ghost use Rattle.sh_eval.specs.Simple.{runs_simple};
+ghost use Rattle.sh_eval.specs.Inner.Doing.{asked_of, can_be_done, is_own, is_special_of, own_means};
+ghost use Rattle.sh_eval.specs.Simple.{assigned_for, checked, runs_simple};
 ghost use Rattle.sh_eval.specs.Table.{pages};
 
+use crate::builtins::{misuse, run_builtin};
+use crate::expanding::{assign_all, expand_words, restore};
+use crate::flows::Flow;
 use crate::outcomes::{How, Played};
+use crate::refusals::Refusal;
 use crate::session::Session;
 use crate::shell::Shell;
 use ps_lines::Text;
 use ps_world::{Sink, Source, Tree};
 use sh_tree::{Redir, Word};
 use std::alloc::Global;
+use ut_args::{ArgFault, Inv, read_inv};
 
-/// Runs a simple command. None is built: each wants memory.
+/// What a command does once its assignments are done.
+#[derive(Clone, Copy)]
+pub(crate) enum Doing<'name, 'inv> {
+    /// One of the shell's own commands, by its name.
+    Builtin(&'name [u8], &'inv Inv),
+    /// The command of this name tells that its words can't be used.
+    Misuse(&'name [u8]),
+}
+
+/// Whether this is one of the shell's own commands.
+fn is_builtin(inv: &Inv) -> bool
+    ensures { (name : List ℕ) (words : List (List ℕ)) → result ≡ is_own (does name words (command_of inv.now)) }
+{
+    matches!(
+        inv,
+        Inv::True(_)
+            | Inv::False(_)
+            | Inv::Colon(_)
+            | Inv::Break(_)
+            | Inv::Continue(_)
+            | Inv::Exit(_)
+            | Inv::Set(_)
+            | Inv::Shift(_)
+            | Inv::Unset(_)
+            | Inv::Read(_)
+            | Inv::Test(_)
+            | Inv::Bracket(_)
+            | Inv::Echo(_)
+    )
+}
+
+/// Whether this name is that of a special built-in of the table (XCU 2.14).
+fn is_special_name(name: &[u8]) -> bool
+    ensures { result ≡ is_special_lem name.now }
+{
+    name == b":".as_slice()
+        || name == b"break".as_slice()
+        || name == b"continue".as_slice()
+        || name == b"exit".as_slice()
+        || name == b"set".as_slice()
+        || name == b"shift".as_slice()
+        || name == b"unset".as_slice()
+}
+
+/// Whether it is of a special built-in.
+fn is_special(doing: Doing<'_, '_>) -> bool
+    ensures { result ≡ is_special_of (asked_of doing.entry) }
+{
+    match doing {
+        Doing::Builtin(_, inv) => matches!(
+            inv,
+            Inv::Colon(_)
+                | Inv::Break(_)
+                | Inv::Continue(_)
+                | Inv::Exit(_)
+                | Inv::Set(_)
+                | Inv::Shift(_)
+                | Inv::Unset(_)
+        ),
+        Doing::Misuse(name) => is_special_name(name),
+    }
+}
+
+/// How the shell goes on where the command of this name can't be run (XCU 2.8.1).
+fn flow_at_fault(name: &[u8]) -> Flow
+    ensures { result ≡ at_fault (is_special_lem name.now) }
+{
+    if is_special_name(name) {
+        Flow::Exit
+    } else {
+        Flow::On
+    }
+}
+
+/// Runs a simple command. One with redirections wants memory.
 pub(crate) fn run_simple<T: Tree, I: Source, O: Sink, E: Sink>(
-    _alloc: Global,
+    alloc: Global,
     assigns: &[(Text, Word)],
     words: &[Word],
     redirs: &[Redir],
@@ -35,9 +121,277 @@ pub(crate) fn run_simple<T: Tree, I: Source, O: Sink, E: Sink>(
         (point_of shell.new session.new (T.state tree.new) (seen_of (I.left result.input) (O.taken result.out) (E.taken err.new))
         (faults_of (I.faults result.input) (O.faults result.out) (E.faults err.new) (T.faults tree.new))) }
 {
-    Played {
-        how: How::Memory,
+    let mut out = out;
+    let fields = match expand_words(alloc, words, shell, session, tree, &mut out, err) {
+        Ok(fields) => fields,
+        Err(how) => return Played { how, input, out },
+    };
+    let [] = redirs else {
+        return Played {
+            how: How::Memory,
+            input,
+            out,
+        };
+    };
+    run_fields(
+        alloc,
+        assigns,
+        fields.as_slice(),
+        shell,
+        session,
+        tree,
         input,
         out,
+        err,
+    )
+}
+
+/// Runs what the fields of a command ask for.
+fn run_fields<T: Tree, I: Source, O: Sink, E: Sink>(
+    alloc: Global,
+    assigns: &[(Text, Word)],
+    fields: &[Vec<u8>],
+    shell: &mut Shell,
+    session: &mut Session,
+    tree: &mut T,
+    input: I,
+    out: O,
+    err: &mut E,
+) -> Played<I, O>
+    requires sound { IsSound session.old (T.state tree.old) }
+    ensures { Evaluates (λ expansions. checked expansions pages (map assign_tree assigns.now) [] (asked_by (texts_of fields.now)))
+        (point_of shell.old session.old (T.state tree.old) (seen_of (I.left input) (O.taken out) (E.taken err.old))
+        (faults_of (I.faults input) (O.faults out) (E.faults err.old) (T.faults tree.old)))
+        result.how
+        (point_of shell.new session.new (T.state tree.new) (seen_of (I.left result.input) (O.taken result.out) (E.taken err.new))
+        (faults_of (I.faults result.input) (O.faults result.out) (E.faults err.new) (T.faults tree.new))) }
+{
+    match fields {
+        [] => run_assigns(alloc, assigns, shell, session, tree, input, out, err),
+        [name, ..] => run_named(
+            alloc,
+            assigns,
+            name.as_slice(),
+            fields,
+            shell,
+            session,
+            tree,
+            input,
+            out,
+            err,
+        ),
+    }
+}
+
+/// Runs what the fields of a command ask for, of which this is the first. No utility is built.
+fn run_named<T: Tree, I: Source, O: Sink, E: Sink>(
+    alloc: Global,
+    assigns: &[(Text, Word)],
+    name: &[u8],
+    fields: &[Vec<u8>],
+    shell: &mut Shell,
+    session: &mut Session,
+    tree: &mut T,
+    input: I,
+    out: O,
+    err: &mut E,
+) -> Played<I, O>
+    requires named { 0 < length fields.now }
+    requires sound { IsSound session.old (T.state tree.old) }
+    ensures { Evaluates (λ expansions. checked expansions pages (map assign_tree assigns.now) [] (asked_as name.now (texts_of fields.now) (invocation (texts_of fields.now))))
+        (point_of shell.old session.old (T.state tree.old) (seen_of (I.left input) (O.taken out) (E.taken err.old))
+        (faults_of (I.faults input) (O.faults out) (E.faults err.old) (T.faults tree.old)))
+        result.how
+        (point_of shell.new session.new (T.state tree.new) (seen_of (I.left result.input) (O.taken result.out) (E.taken err.new))
+        (faults_of (I.faults result.input) (O.faults result.out) (E.faults err.new) (T.faults tree.new))) }
+{
+    let inv = match read_inv(alloc, fields) {
+        Ok(inv) => inv,
+        Err(fault) => return run_fault(
+            alloc, assigns, fault, shell, session, tree, input, out, err,
+        ),
+    };
+    if !is_builtin(&inv) {
+        return Played {
+            how: How::Gone(Flow::Refused(Refusal::NotBuilt)),
+            input,
+            out,
+        };
+    }
+    run_doing(
+        alloc,
+        assigns,
+        Doing::Builtin(name, &inv),
+        shell,
+        session,
+        tree,
+        input,
+        out,
+        err,
+    )
+}
+
+/// Refuses what is no invocation; words that can't be used are told.
+fn run_fault<T: Tree, I: Source, O: Sink, E: Sink>(
+    alloc: Global,
+    assigns: &[(Text, Word)],
+    fault: ArgFault,
+    shell: &mut Shell,
+    session: &mut Session,
+    tree: &mut T,
+    input: I,
+    out: O,
+    err: &mut E,
+) -> Played<I, O>
+    requires sound { IsSound session.old (T.state tree.old) }
+    ensures { (name : List ℕ) (words : List (List ℕ)) (asked : Result Command ArgFault) → ((fault ≡ ArgFault.Memory → ⊥) → asked ≡ Err fault)
+        → Evaluates (λ expansions. checked expansions pages (map assign_tree assigns.now) [] (asked_as name words asked))
+        (point_of shell.old session.old (T.state tree.old) (seen_of (I.left input) (O.taken out) (E.taken err.old))
+        (faults_of (I.faults input) (O.faults out) (E.faults err.old) (T.faults tree.old)))
+        result.how
+        (point_of shell.new session.new (T.state tree.new) (seen_of (I.left result.input) (O.taken result.out) (E.taken err.new))
+        (faults_of (I.faults result.input) (O.faults result.out) (E.faults err.new) (T.faults tree.new))) }
+{
+    match fault {
+        ArgFault::UnknownCommand(name) => Played {
+            how: How::Gone(Flow::Refused(Refusal::UnknownCommand(name))),
+            input,
+            out,
+        },
+        ArgFault::UnsupportedFlag(name, letter) => Played {
+            how: How::Gone(Flow::Refused(Refusal::UnsupportedFlag(name, letter))),
+            input,
+            out,
+        },
+        ArgFault::BadUsage(name) => run_doing(
+            alloc,
+            assigns,
+            Doing::Misuse(name.as_slice()),
+            shell,
+            session,
+            tree,
+            input,
+            out,
+            err,
+        ),
+        ArgFault::Memory => Played {
+            how: How::Memory,
+            input,
+            out,
+        },
+    }
+}
+
+/// Does the assignments of a command that has no fields.
+fn run_assigns<T: Tree, I: Source, O: Sink, E: Sink>(
+    alloc: Global,
+    assigns: &[(Text, Word)],
+    shell: &mut Shell,
+    session: &mut Session,
+    tree: &mut T,
+    input: I,
+    out: O,
+    err: &mut E,
+) -> Played<I, O>
+    requires sound { IsSound session.old (T.state tree.old) }
+    ensures { Evaluates (λ expansions. checked expansions pages (map assign_tree assigns.now) [] no_name)
+        (point_of shell.old session.old (T.state tree.old) (seen_of (I.left input) (O.taken out) (E.taken err.old))
+        (faults_of (I.faults input) (O.faults out) (E.faults err.old) (T.faults tree.old)))
+        result.how
+        (point_of shell.new session.new (T.state tree.new) (seen_of (I.left result.input) (O.taken result.out) (E.taken err.new))
+        (faults_of (I.faults result.input) (O.faults result.out) (E.faults err.new) (T.faults tree.new))) }
+{
+    let mut out = out;
+    match assign_all(alloc, assigns, shell, session, tree, &mut out, err) {
+        Ok(()) => {}
+        Err(how) => return Played { how, input, out },
+    }
+    shell.status = shell.substitution_status;
+    Played {
+        how: How::Gone(Flow::On),
+        input,
+        out,
+    }
+}
+
+/// Does something with the assignments before it: those of a special built-in stay, and those of another command are undone.
+fn run_doing<T: Tree, I: Source, O: Sink, E: Sink>(
+    alloc: Global,
+    assigns: &[(Text, Word)],
+    doing: Doing<'_, '_>,
+    shell: &mut Shell,
+    session: &mut Session,
+    tree: &mut T,
+    input: I,
+    out: O,
+    err: &mut E,
+) -> Played<I, O>
+    requires own { can_be_done doing ≡ true }
+    requires sound { IsSound session.old (T.state tree.old) }
+    ensures { Evaluates (λ expansions. assigned_for expansions (is_special_of (asked_of doing.entry)) (map assign_tree assigns.now) (own_means (asked_of doing.entry)))
+        (point_of shell.old session.old (T.state tree.old) (seen_of (I.left input) (O.taken out) (E.taken err.old))
+        (faults_of (I.faults input) (O.faults out) (E.faults err.old) (T.faults tree.old)))
+        result.how
+        (point_of shell.new session.new (T.state tree.new) (seen_of (I.left result.input) (O.taken result.out) (E.taken err.new))
+        (faults_of (I.faults result.input) (O.faults result.out) (E.faults err.new) (T.faults tree.new))) }
+{
+    if is_special(doing) {
+        return run_assigned(alloc, assigns, doing, shell, session, tree, input, out, err);
+    }
+    let Ok(saved) = shell.variables.copy(alloc) else {
+        return Played {
+            how: How::Memory,
+            input,
+            out,
+        };
+    };
+    let Played { how, input, out } = run_assigned(
+        alloc, assigns, doing, shell, session, tree, input, out, err,
+    );
+    let Ok(()) = restore(alloc, assigns, &saved, shell) else {
+        return Played {
+            how: How::Memory,
+            input,
+            out,
+        };
+    };
+    Played { how, input, out }
+}
+
+/// Does something behind its assignments.
+fn run_assigned<T: Tree, I: Source, O: Sink, E: Sink>(
+    alloc: Global,
+    assigns: &[(Text, Word)],
+    doing: Doing<'_, '_>,
+    shell: &mut Shell,
+    session: &mut Session,
+    tree: &mut T,
+    input: I,
+    out: O,
+    err: &mut E,
+) -> Played<I, O>
+    requires own { can_be_done doing ≡ true }
+    requires sound { IsSound session.old (T.state tree.old) }
+    ensures { Evaluates (λ expansions. assigning expansions (map assign_tree assigns.now) (own_means (asked_of doing.entry)))
+        (point_of shell.old session.old (T.state tree.old) (seen_of (I.left input) (O.taken out) (E.taken err.old))
+        (faults_of (I.faults input) (O.faults out) (E.faults err.old) (T.faults tree.old)))
+        result.how
+        (point_of shell.new session.new (T.state tree.new) (seen_of (I.left result.input) (O.taken result.out) (E.taken err.new))
+        (faults_of (I.faults result.input) (O.faults result.out) (E.faults err.new) (T.faults tree.new))) }
+{
+    let mut out = out;
+    match assign_all(alloc, assigns, shell, session, tree, &mut out, err) {
+        Ok(()) => {}
+        Err(how) => return Played { how, input, out },
+    }
+    match doing {
+        Doing::Builtin(name, inv) => {
+            run_builtin(alloc, name, inv, shell, session, tree, input, out, err)
+        }
+        Doing::Misuse(name) => {
+            let flow = flow_at_fault(name);
+            let how = misuse(alloc, name, flow, shell, session, tree, &mut out, err);
+            Played { how, input, out }
+        }
     }
 }

@@ -1,5 +1,5 @@
 -- Parts of what commands mean that the evaluator's functions stand for, each by itself. What they mean together is in `Meaning`.
-use Rattle.std.specs.Prelude.{ℕ, List}
+use Rattle.std.specs.Prelude.{ℕ, List, []}
 use Rattle.ps_lines.specs.declared.text.Text.{Text}
 use Rattle.sh_tree.specs.Views.{word_tree}
 use Rattle.sh_tree.specs.declared.words.Word.{Word}
@@ -13,6 +13,16 @@ use Rattle.sh_eval.specs.Meaning.{list_means, simple_means, branches_mean, else_
 -- the name and the word of an assignment
 abbrev pub assign_tree : Text × Word → List ℕ × WordTree
 assign_tree one = (one.0, word_tree one.1)
+
+-- the name of a `for`
+abbrev pub name_of : CommandTree → List ℕ
+name_of (simple it) = []
+name_of (group list behind) = []
+name_of (subshell list behind) = []
+name_of (if_branches branches otherwise behind) = []
+name_of (while_loop condition body behind) = []
+name_of (until_loop condition body behind) = []
+name_of (for_loop name list body behind) = name
 
 module _ (expansions : Expansions) (pages : Pages) where
   -- the substitutions of a command, behind the loss of those of the command before
@@ -42,21 +52,19 @@ module _ (expansions : Expansions) (pages : Pages) where
   turn_means (until_loop condition body behind) state = forms.turn forms.failed (list_means expansions pages condition) (list_means expansions pages body) state
   turn_means (for_loop name fields body behind) state = on state
 
-  -- the rounds of a `for` over fields, and one of them
+  -- the body of a `for`
+  abbrev pub for_body : CommandTree → Means
+  for_body (simple it) state = on state
+  for_body (group list behind) state = on state
+  for_body (subshell list behind) state = on state
+  for_body (if_branches branches otherwise behind) state = on state
+  for_body (while_loop condition body behind) state = on state
+  for_body (until_loop condition body behind) state = on state
+  for_body (for_loop name list body behind) state = list_means expansions pages body state
+
+  -- its rounds over fields, and one of them
   abbrev pub rounds_mean : CommandTree → List (List ℕ) → Means
-  rounds_mean (simple it) fields state = on state
-  rounds_mean (group list behind) fields state = on state
-  rounds_mean (subshell list behind) fields state = on state
-  rounds_mean (if_branches branches otherwise behind) fields state = on state
-  rounds_mean (while_loop condition body behind) fields state = on state
-  rounds_mean (until_loop condition body behind) fields state = on state
-  rounds_mean (for_loop name list body behind) fields state = forms.rounds (forms.set_to name) (list_means expansions pages body) fields state
+  rounds_mean tree fields state = forms.rounds (forms.set_to (name_of tree)) (for_body tree) fields state
 
   abbrev pub round_means : CommandTree → List ℕ → Means
-  round_means (simple it) field state = on state
-  round_means (group list behind) field state = on state
-  round_means (subshell list behind) field state = on state
-  round_means (if_branches branches otherwise behind) field state = on state
-  round_means (while_loop condition body behind) field state = on state
-  round_means (until_loop condition body behind) field state = on state
-  round_means (for_loop name list body behind) field state = forms.noted (list_means expansions pages body (forms.set_to name field state))
+  round_means tree field state = forms.noted (for_body tree (forms.set_to (name_of tree) field state))

@@ -1,16 +1,20 @@
-use Rattle.std.proofs.Common.{rules, ◌+◌, ◌==◌, not, ℕ, List, refl, sym, ap, ◌∙◌}
+use Rattle.std.proofs.Common.{rules, ◌+◌, ◌==◌, not, ℕ, List, arith, refl, sym, ap, ◌∙◌}
 use Rattle.sh_eval.specs.Commands.{all_turns, failed, goes_round, in_loop, its_status, some_command, substitution, subshell, succeeded, first_stage, middle_stage, last_stage, handed_on, reading_piped, unchanged, with_kept, with_text}
 use Rattle.sh_eval.specs.declared.outcomes.How.TheVariants as how
 use Rattle.sh_eval.specs.declared.shell.Shell.{Shell}
-use Rattle.sh_eval.specs.Inner.Bodies.{body_means, turn_means}
+use Rattle.sh_eval.specs.Inner.Bodies.{body_means, round_means, rounds_mean, turn_means}
+use Rattle.std.specs.FinMap as finite
+use Rattle.ps_lines.specs.Texts.{texts_of}
+use Rattle.sh_arith.specs.Variables.{Variables}
+use Rattle.sh_eval.specs.Shells.{with_env}
 use Rattle.sh_eval.specs.States.{piping, reading, unpiped}
 use Rattle.sh_eval.specs.Meaning.{has_item, list_means, command_means}
 use Rattle.sh_eval.specs.Table.{pages}
 use Rattle.sh_tree.specs.Views.{list_tree, command_tree}
 use Rattle.sh_eval.proofs.Growing.{adds-some_command, adds-substitution, same-turns, list-adds, command-adds, adds-subshell, adds-first_stage, adds-middle_stage, adds-last_stage}
 use Rattle.sh_eval.proofs.ListSteps.{items-followed, items-stopped, items-done, and_or-followed, and_or-stopped, joined-followed, joined-stopped, joined-done, next-runs, next-skipped, pipeline-followed, pipeline-stopped, within, wanted-at, stages-followed, stages-stopped, stages-done, staged-at}
-use Rattle.sh_eval.proofs.CommandSteps.{succeeds-so, fails-so, wanted-behind, subs-followed, subs-stopped, subs-done, subs-begun, substituted-empty, substituted-some, simple-followed, simple-stopped, if-stopped, if-taken, if-passed, if-else, if-none, if-body, compound-stopped, compound-bare, compound-wanted, body-adds, while-body, until-body, while-turn, until-turn, turn-adds, turns-add, loop-adds}
-use Rattle.sh_eval.proofs.LoopSteps.{in-loop, turns-over, turns-left, turns-again, turn-left, turn-held, turn-failed, body-noted}
+use Rattle.sh_eval.proofs.CommandSteps.{succeeds-so, fails-so, wanted-behind, subs-followed, subs-stopped, subs-done, subs-begun, substituted-empty, substituted-some, simple-followed, simple-stopped, if-stopped, if-taken, if-passed, if-else, if-none, if-body, compound-stopped, compound-bare, compound-wanted, body-adds, while-body, until-body, while-turn, until-turn, turn-adds, turns-add, loop-adds, for-arguments, for-stopped, for-followed, for_behind, for-adds, for-fields, round-adds, rounds-add, round-of}
+use Rattle.sh_eval.proofs.LoopSteps.{over-here, left-here, again-here, done-here, in-loop, turns-over, turns-left, turns-again, turn-left, turn-held, turn-failed, body-noted}
 use Rattle.sh_eval.proofs.Steps.{failed-early, goes-gone, gone-so, no-fewer, wanted, sound-behind}
 use Rattle.sh_eval.proofs.lists.+evaluation.Goals as goal
 
@@ -168,8 +172,8 @@ eval_body-returns-in-While g t c = while-body c.args.command.now _ _ _ _ _ _ c.i
 pub eval_body-returns-in-Until : goal.eval_body-returns-in-Until
 eval_body-returns-in-Until g t c = until-body c.args.command.now _ _ _ _ _ _ c.in-Until.is c.eval_while-in-Until.ensures
 
-pub eval_body-returns-in_default : goal.eval_body-returns-in_default
-eval_body-returns-in_default g t c = wanted (λ expansions. body_means expansions pages (command_tree c.args.command.now)) _ (λ expansions. body-adds expansions (command_tree c.args.command.now))
+pub eval_body-returns-in-Simple : goal.eval_body-returns-in-Simple
+eval_body-returns-in-Simple g t c = wanted (λ expansions. body_means expansions pages (command_tree c.args.command.now)) _ (λ expansions. body-adds expansions (command_tree c.args.command.now))
 
 pub eval_command-returns-else-not-is_bare : goal.eval_command-returns-else-not-is_bare
 eval_command-returns-else-not-is_bare g t c =
@@ -313,3 +317,66 @@ pub eval_while-returns-in_default : goal.eval_while-returns-in_default
 eval_while-returns-in_default g t c =
     failed-early (λ expansions. in_loop (all_turns (turn_means expansions pages (command_tree c.args.command.now))))
     (λ expansions. loop-adds (all_turns (turn_means expansions pages (command_tree c.args.command.now))) (turns-add expansions (command_tree c.args.command.now))) _ _ _ _ _ _ _ how.Memory (λ gone. gone) (no-fewer _) tt
+
+pub eval_for-returns-in_default : goal.eval_for-returns-in_default
+eval_for-returns-in_default g t c = wanted (λ expansions. body_means expansions pages (command_tree c.args.command.now)) _ (λ expansions. body-adds expansions (command_tree c.args.command.now))
+
+pub eval_for-returns-in_default-copy : goal.eval_for-returns-in_default-copy
+eval_for-returns-in_default-copy g t c = wanted (λ expansions. body_means expansions pages (command_tree c.args.command.now)) _ (λ expansions. body-adds expansions (command_tree c.args.command.now))
+
+pub eval_for-returns-in-Ok : goal.eval_for-returns-in-Ok
+eval_for-returns-in-Ok g t c = for-arguments c.args.command.now _ _ _ _ _ _ _ _ c.in-For.is c.in-None.is (c.as_slice.ensures ∙ c.in-Ok.ensures) c.eval_for_over.ensures
+
+pub eval_for-returns-then-not-goes_on : goal.eval_for-returns-then-not-goes_on
+eval_for-returns-then-not-goes_on g t c = for-stopped c.args.command.now _ _ _ _ _ _ c.in-For.is c.in-Some.is c.as_slice-in-Some.ensures.value _ _ _ _ _ _ _ _ c.begin_command.ensures (sym c.goes_on.ensures ∙ c.if-not-goes_on.true) c.eval_subs-how.ensures
+
+pub eval_for-returns-in-Err : goal.eval_for-returns-in-Err
+eval_for-returns-in-Err g t c =
+    for-followed c.args.command.now _ _ _ _ _ _ _ c.in-For.is c.in-Some.is c.as_slice-in-Some.ensures.value c.as_slice-in-Some-2.ensures.value _ _ _ _ _ _ _ _ _ _ c.begin_command.ensures (sym c.goes_on.ensures ∙ c.if-not-goes_on.false) c.eval_subs-how.ensures
+    (c.in-Err.ensures.err _ _ (for_behind c.args.command.now) (for-adds c.args.command.now))
+
+pub eval_for-returns-in-Ok-expand_words : goal.eval_for-returns-in-Ok-expand_words
+eval_for-returns-in-Ok-expand_words g t c =
+    for-followed c.args.command.now _ _ _ _ _ _ _ c.in-For.is c.in-Some.is c.as_slice-in-Some.ensures.value c.as_slice-in-Some-2.ensures.value _ _ _ _ _ _ _ _ _ _ c.begin_command.ensures (sym c.goes_on.ensures ∙ c.if-not-goes_on.false) c.eval_subs-how.ensures
+    (c.in-Ok-expand_words.ensures.ok _ _ (for_behind c.args.command.now) _ _ (for-fields c.args.command.now _ _ _ _ _ (ap texts_of c.as_slice-in-Some-3.ensures.value) c.eval_for_over-in-Some.ensures))
+
+pub eval_for_over-returns-in_default : goal.eval_for_over-returns-in_default
+eval_for_over-returns-in_default g t c =
+    failed-early (λ expansions. in_loop (rounds_mean expansions pages (command_tree c.args.command.now) (texts_of c.args.fields.now)))
+    (λ expansions. loop-adds (rounds_mean expansions pages (command_tree c.args.command.now) (texts_of c.args.fields.now)) (rounds-add expansions (command_tree c.args.command.now) (texts_of c.args.fields.now))) _ _ _ _ _ _ _ how.Memory (λ gone. gone) (no-fewer _) tt
+
+pub eval_for_over-returns : goal.eval_for_over-returns
+eval_for_over-returns g t c = in-loop (λ expansions. rounds_mean expansions pages (command_tree c.args.command.now) (texts_of c.args.fields.now)) _ _ _ _ _ _ _ _ _ _ _ _ _ (search rules) (search rules) c.eval_rounds-how.ensures
+
+pub eval_round-returns-in_default-set : goal.eval_round-returns-in_default-set
+eval_round-returns-in_default-set g t c =
+    failed-early (λ expansions. round_means expansions pages (command_tree c.args.command.now) c.args.field.now) (λ expansions. round-adds expansions (command_tree c.args.command.now) c.args.field.now) _ _ _ _ _ _ _ how.Memory (λ gone. gone) (no-fewer _) tt
+
+pub eval_round-returns-in_default : goal.eval_round-returns-in_default
+eval_round-returns-in_default g t c =
+    failed-early (λ expansions. round_means expansions pages (command_tree c.args.command.now) c.args.field.now) (λ expansions. round-adds expansions (command_tree c.args.command.now) c.args.field.now) _ _ _ _ _ _ _ how.Memory (λ gone. gone) (no-fewer _) tt
+
+pub eval_round-returns : goal.eval_round-returns
+eval_round-returns g t c =
+    round-of c.args.command.now _ _ _ _ _ _ _ _ _ _ _ _ _ c.in-For.is
+    (ap (λ (it : Variables). with_env it c.args.shell.now) (c.in-Ok.ensures.ok ∙ ap (λ (it : List ℕ). finite.insert c.args.shell.now.variables it c.args.field.now) c.as_slice.ensures))
+    c.eval_loop_body.ensures
+
+pub eval_rounds-returns-then-session-ge-MAX_TURNS : goal.eval_rounds-returns-then-session-ge-MAX_TURNS
+eval_rounds-returns-then-session-ge-MAX_TURNS g t c = c.loop-field.invariant.rest _ _ (over-here (command_tree c.args.command.now) c.args.fields.now c.loop-field.field-index c.field-item.result _ c.field-item.is c.loop-field-test.true refl _ _ _ _ _ c.if-session-ge-MAX_TURNS.true)
+
+pub eval_rounds-returns-then-not-goes_round : goal.eval_rounds-returns-then-not-goes_round
+eval_rounds-returns-then-not-goes_round g t c =
+    c.loop-field.invariant.rest _ _ (left-here (command_tree c.args.command.now) c.args.fields.now c.loop-field.field-index c.field-item.result _ c.field-item.is c.loop-field-test.true c.as_slice.ensures.value _ _ _ _ _ _ _ _ _ (let under = c.if-session-ge-MAX_TURNS.false in omega (arith, under)) refl
+    (sym c.goes_round.ensures ∙ c.if-not-goes_round.true) c.left_by.ensures c.eval_round-how.ensures)
+
+pub eval_rounds-loop-field-preserved : goal.eval_rounds-loop-field-preserved
+eval_rounds-loop-field-preserved g t c =
+    record {
+      rest = λ came new rest. c.loop-field.invariant.rest came new (again-here (command_tree c.args.command.now) c.args.fields.now c.loop-field.field-index c.field-item.result _ c.field-item.is c.loop-field-test.true c.as_slice.ensures.value _ _ _ _ _ _ _ _ _ _ (let under = c.if-session-ge-MAX_TURNS.false in omega (arith, under)) refl
+          (sym c.goes_round.ensures ∙ c.if-not-goes_round.false) c.eval_round-how.ensures rest);
+      sound = sound-behind _ _ (c.eval_round-how.ensures.keeps (gone-so goes_round _ (sym c.goes_round.ensures ∙ c.if-not-goes_round.false))) c.loop-field.invariant.sound;
+    }
+
+pub eval_rounds-returns : goal.eval_rounds-returns
+eval_rounds-returns g t c = c.loop-field.invariant.rest _ _ (done-here (command_tree c.args.command.now) c.args.fields.now c.loop-field.field-index _ _ _ _ _ _ c.loop-field-test.false refl)

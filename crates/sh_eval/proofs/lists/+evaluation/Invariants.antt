@@ -1,7 +1,8 @@
 use Rattle.std.proofs.Common.{drop, ◌≡◌, ◌-◌}
 use Rattle.sh_tree.specs.Views.{command_tree, items_tree, joined_tree, stages_tree, subs_tree}
 use Rattle.sh_eval.specs.Commands.{all_turns, most_turns}
-use Rattle.sh_eval.specs.Inner.Bodies.{body_means, turn_means}
+use Rattle.sh_eval.specs.Inner.Bodies.{body_means, rounds_mean, turn_means}
+use Rattle.ps_lines.specs.Texts.{texts_of}
 use Rattle.sh_eval.specs.declared.outcomes.How.{How}
 use Rattle.sh_eval.specs.Contract.{Evaluates, IsSound, Point, point_of, seen_of, faults_of}
 use Rattle.sh_eval.specs.Meaning.{list_means, joined_means, stages_means, subs_mean}
@@ -79,3 +80,14 @@ invariant-eval_turns-loop-session g l = record {
 
 abbrev pub decreases-eval_turns-loop-session : goal.decreases-eval_turns-loop-session
 decreases-eval_turns-loop-session g l = most_turns - l.session.turns
+
+-- what comes of the rounds that are left comes of all
+abbrev pub invariant-eval_rounds-loop-field : goal.invariant-eval_rounds-loop-field
+invariant-eval_rounds-loop-field g l = record {
+  rest : (came : How) (new : Point)
+      → Evaluates (λ expansions. rounds_mean expansions pages (command_tree l.fn.command) (texts_of (drop l.field-index l.fn.fields)))
+      (point_of l.shell l.session (g.T.Tree.state l.tree) (seen_of (g.I.Source.left l.input) (g.O.Sink.taken l.out) (g.E.Sink.taken l.err)) (faults_of (g.I.Source.faults l.input) (g.O.Sink.faults l.out) (g.E.Sink.faults l.err) (g.T.Tree.faults l.tree))) came new
+      → Evaluates (λ expansions. rounds_mean expansions pages (command_tree l.fn.command) (texts_of l.fn.fields))
+      (point_of l.fn.shell l.fn.session (g.T.Tree.state l.fn.tree) (seen_of (g.I.Source.left l.fn.input) (g.O.Sink.taken l.fn.out) (g.E.Sink.taken l.fn.err)) (faults_of (g.I.Source.faults l.fn.input) (g.O.Sink.faults l.fn.out) (g.E.Sink.faults l.fn.err) (g.T.Tree.faults l.fn.tree))) came new;
+  sound : IsSound l.session (g.T.Tree.state l.tree);
+}

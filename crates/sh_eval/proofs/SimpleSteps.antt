@@ -1,0 +1,260 @@
+-- What is evaluated of a simple command comes of what is evaluated behind its words and assignments.
+use Rattle.std.proofs.Common.{◌≡◌, ℕ, List, [], ◌∷◌, Bool, true, false, Option, Result, Ok, Err, refl, sym, ap, ◌∙◌, subst}
+use Rattle.std.proofs.lemmas.Bool.{true≢false}
+use Rattle.ps_world.specs.TreeState.{TreeState}
+use Rattle.sh_arith.specs.Variables.{Variables}
+use Rattle.sh_tree.specs.Trees.{WordTree, RedirTree}
+use Rattle.ut_args.specs.Invocations.{command_of}
+use Rattle.ut_args.specs.declared.commands.Command.{Command}
+use Rattle.ut_args.specs.declared.commands.Command.TheVariants as command
+use Rattle.ut_args.specs.declared.faults.ArgFault.{ArgFault}
+use Rattle.ut_args.specs.declared.faults.ArgFault.TheVariants as fault
+use Rattle.sh_expand.specs.Outcomes.{Expansions, AreExpansions}
+use Rattle.sh_eval.specs.declared.flows.Flow.{Flow}
+use Rattle.sh_eval.specs.declared.flows.Flow.TheVariants as flow
+use Rattle.sh_eval.specs.declared.outcomes.How.{How}
+use Rattle.sh_eval.specs.declared.outcomes.How.TheVariants as how
+use Rattle.sh_eval.specs.declared.refusals.Refusal.{Refusal}
+use Rattle.sh_eval.specs.declared.refusals.Refusal.TheVariants as refusal
+use Rattle.sh_eval.specs.declared.session.Session.{Session}
+use Rattle.sh_eval.specs.declared.shell.Shell.{Shell}
+use Rattle.sh_eval.specs.declared.simple.Doing.{Doing}
+use Rattle.sh_eval.specs.declared.simple.Doing.TheVariants as doing
+use Rattle.sh_eval.specs.Shells.{with_env}
+use Rattle.sh_eval.specs.States.{State, Ends, Means, refused}
+use Rattle.sh_eval.specs.Asking.{Asked, no_name, unknown, unlisted, unusable, utility, builtin, asked_as, asked_by, at_fault, does, is_special}
+use Rattle.sh_eval.specs.Builtins.{misused}
+use Rattle.sh_eval.specs.Contract.{Seen, Faults, Point, point_of, Base, Has, Comes, Keeps, Meaning, Evaluates}
+use Rattle.sh_eval.specs.Expanding.{assigning, with_targets}
+use Rattle.sh_eval.specs.Growth.{Grows, Adds}
+use Rattle.sh_eval.specs.Inner.Doing.{can_be_done, is_own, is_special_of, own_means, asked_of}
+use Rattle.sh_eval.specs.Simple.{assigned_for, checked, restored, undone}
+use Rattle.sh_eval.specs.Table.{pages}
+use Rattle.sh_eval.specs.Utilities.{Pages}
+use Rattle.sh_eval.proofs.Growing.{grows-self, AddsAsked, does-adds, asked-adds, asked_as-adds, adds-misused, adds-assigning, adds-assigned_for, adds-checked, adds-with_targets}
+use Rattle.sh_eval.proofs.Steps.{changed}
+
+-- what goes on with fields
+abbrev pub behind_fields : List (List ℕ × WordTree) → List RedirTree → Expansions → List (List ℕ) → Means
+behind_fields assigns redirs expansions fields = with_targets expansions redirs (λ targets. checked expansions pages assigns targets (asked_by fields))
+
+pub fields-add : (assigns : List (List ℕ × WordTree)) (redirs : List RedirTree) (expansions : Expansions) (fields : List (List ℕ)) → Adds (behind_fields assigns redirs expansions fields)
+fields-add assigns redirs expansions fields =
+    adds-with_targets expansions redirs (λ targets. checked expansions pages assigns targets (asked_by fields)) (λ targets. adds-checked expansions pages assigns targets (asked_by fields) (asked-adds fields))
+
+-- without redirections
+pub unredirected : (assigns : List (List ℕ × WordTree)) (redirs : List RedirTree) (fields given : List (List ℕ)) (old new : Point) (came : How) → redirs ≡ [] → fields ≡ given
+    → Evaluates (λ expansions. checked expansions pages assigns [] (asked_by fields)) old came new
+    → Evaluates (λ expansions. behind_fields assigns redirs expansions given) old came new
+unredirected assigns redirs fields given old new came none same one =
+    subst (λ (it : List RedirTree). Evaluates (λ expansions. behind_fields assigns it expansions given) old came new) (sym none)
+    (subst (λ (it : List (List ℕ)). Evaluates (λ expansions. behind_fields assigns [] expansions it) old came new) same one)
+
+-- WHAT IS ASKED. A fault of the words is told or refused
+abbrev pub is-told : ArgFault → Type 0
+is-told (fault.UnknownCommand name) = Unit {0}
+is-told (fault.UnsupportedFlag name letter) = Unit {0}
+is-told (fault.BadUsage name) = Unit {0}
+is-told fault.Memory = ⊥
+
+told-so : (why : ArgFault) → is-told why → (asked : Result Command ArgFault) → ((why ≡ fault.Memory → ⊥) → asked ≡ Err why) → asked ≡ Err why
+told-so why told asked is = is (λ memory. subst is-told memory told)
+
+pub refused-so : (why : Refusal) (means : Meaning) (shell : Shell) (session : Session) (tree : TreeState) (seen : Seen) (faults : Faults) → ((expansions : Expansions) (state : State) → refused why state ≡ means expansions state)
+    → Evaluates means (point_of shell session tree seen faults) (how.Gone (flow.Refused why)) (point_of shell session tree seen faults)
+refused-so why means shell session tree seen faults same =
+    let one = changed (flow.Refused why) (λ shell. shell) shell shell session tree seen faults refl in
+    record {
+      comes = λ expansions are base state has. subst (λ (left : Ends). Comes base (how.Gone (flow.Refused why)) (point_of shell session tree seen faults) left) (same expansions state) (one.comes expansions are base state has);
+      keeps = one.keeps;
+      turns = one.turns;
+      later = one.later;
+      cause = one.cause;
+      lent = one.lent;
+    }
+
+pub asked-so : (name : List ℕ) (words : List (List ℕ)) (assigns : List (List ℕ × WordTree)) (why : ArgFault) (asked : Result Command ArgFault) → is-told why → ((why ≡ fault.Memory → ⊥) → asked ≡ Err why) → (old new : Point) (came : How)
+    → Evaluates (λ expansions. checked expansions pages assigns [] (asked_as name words (Err why))) old came new
+    → Evaluates (λ expansions. checked expansions pages assigns [] (asked_as name words asked)) old came new
+asked-so name words assigns why asked told is old new came one =
+    subst (λ (it : Result Command ArgFault). Evaluates (λ expansions. checked expansions pages assigns [] (asked_as name words it)) old came new) (sym (told-so why told asked is)) one
+
+-- one of the shell's own commands
+pub own-so : (asked : Asked) → is_own asked ≡ true → (is_special : Bool) × (means : Means) × (asked ≡ builtin is_special means)
+own-so no_name is = absurd (true≢false (sym is))
+own-so (unknown name) is = absurd (true≢false (sym is))
+own-so (unlisted name letter) is = absurd (true≢false (sym is))
+own-so (unusable is_special name) is = absurd (true≢false (sym is))
+own-so (utility name called) is = absurd (true≢false (sym is))
+own-so (builtin is_special means) is = (is_special, means, refl)
+
+pub own-adds : (asked : Asked) → AddsAsked asked → Adds (own_means asked)
+own-adds no_name adds state = grows-self state
+own-adds (unknown name) adds state = grows-self state
+own-adds (unlisted name letter) adds state = grows-self state
+own-adds (unusable is_special name) adds state = adds-misused (at_fault is_special) name state
+own-adds (utility name called) adds state = grows-self state
+own-adds (builtin is_special means) adds state = adds state
+
+pub own-checked : (asked : Asked) (assigns : List (List ℕ × WordTree)) (old new : Point) (came : How) → is_own asked ≡ true
+    → Evaluates (λ expansions. assigned_for expansions (is_special_of asked) assigns (own_means asked)) old came new → Evaluates (λ expansions. checked expansions pages assigns [] asked) old came new
+own-checked no_name assigns old new came is one = absurd (true≢false (sym is))
+own-checked (unknown name) assigns old new came is one = absurd (true≢false (sym is))
+own-checked (unlisted name letter) assigns old new came is one = absurd (true≢false (sym is))
+own-checked (unusable is_special name) assigns old new came is one = absurd (true≢false (sym is))
+own-checked (utility name called) assigns old new came is one = absurd (true≢false (sym is))
+own-checked (builtin is_special means) assigns old new came is one = one
+
+-- a command of the table is one of the shell's own, or a utility
+abbrev pub IsDone : Asked → Type 0
+IsDone no_name = ⊥
+IsDone (unknown name) = ⊥
+IsDone (unlisted name letter) = ⊥
+IsDone (unusable is_special name) = ⊥
+IsDone (utility name called) = Unit {0}
+IsDone (builtin is_special means) = Unit {0}
+
+-- another command isn't built
+pub not-own : (asked : Asked) (assigns : List (List ℕ × WordTree)) (shell : Shell) (session : Session) (tree : TreeState) (seen : Seen) (faults : Faults) → is_own asked ≡ false → IsDone asked
+    → Evaluates (λ expansions. checked expansions pages assigns [] asked) (point_of shell session tree seen faults) (how.Gone (flow.Refused refusal.NotBuilt)) (point_of shell session tree seen faults)
+not-own no_name assigns shell session tree seen faults is done = absurd done
+not-own (unknown name) assigns shell session tree seen faults is done = absurd done
+not-own (unlisted name letter) assigns shell session tree seen faults is done = absurd done
+not-own (unusable is_special name) assigns shell session tree seen faults is done = absurd done
+not-own (utility name called) assigns shell session tree seen faults is done = refused-so refusal.NotBuilt (λ expansions. checked expansions pages assigns [] (utility name called)) shell session tree seen faults (λ expansions state. refl)
+not-own (builtin is_special means) assigns shell session tree seen faults is done = absurd (true≢false is)
+
+does-done : (name : List ℕ) (words : List (List ℕ)) (asked : Command) → IsDone (does name words asked)
+does-done name words command.True = tt
+does-done name words command.False = tt
+does-done name words command.Colon = tt
+does-done name words (command.Break args) = tt
+does-done name words (command.Continue args) = tt
+does-done name words (command.Exit args) = tt
+does-done name words (command.Set args) = tt
+does-done name words (command.Shift args) = tt
+does-done name words (command.Unset args) = tt
+does-done name words (command.Read args) = tt
+does-done name words (command.Test args) = tt
+does-done name words (command.Bracket args) = tt
+does-done name words (command.Echo args) = tt
+does-done name words (command.Cat args) = tt
+does-done name words (command.Grep args) = tt
+does-done name words (command.Tr args) = tt
+does-done name words (command.Cut args) = tt
+does-done name words (command.Head args) = tt
+does-done name words (command.Tail args) = tt
+does-done name words (command.Wc args) = tt
+does-done name words (command.Uniq args) = tt
+does-done name words (command.Sort args) = tt
+does-done name words (command.Paste args) = tt
+does-done name words (command.Tee args) = tt
+
+pub unbuilt : (name : List ℕ) (words : List (List ℕ)) (asked : Command) (found : Result Command ArgFault) (assigns : List (List ℕ × WordTree)) (shell : Shell) (session : Session) (tree : TreeState) (seen : Seen) (faults : Faults)
+    → found ≡ Ok asked → is_own (does name words asked) ≡ false
+    → Evaluates (λ expansions. checked expansions pages assigns [] (asked_as name words found)) (point_of shell session tree seen faults) (how.Gone (flow.Refused refusal.NotBuilt)) (point_of shell session tree seen faults)
+unbuilt name words asked found assigns shell session tree seen faults is other =
+    subst (λ (it : Result Command ArgFault). Evaluates (λ expansions. checked expansions pages assigns [] (asked_as name words it)) (point_of shell session tree seen faults) (how.Gone (flow.Refused refusal.NotBuilt)) (point_of shell session tree seen faults)) (sym is)
+    (not-own (does name words asked) assigns shell session tree seen faults other (does-done name words asked))
+
+-- the words of one of the shell's own commands don't count beside its options and operands
+same-own : (name : List ℕ) (words others : List (List ℕ)) (asked : Command) → is_own (does name words asked) ≡ true → does name words asked ≡ does name others asked
+same-own name words others command.True is = refl
+same-own name words others command.False is = refl
+same-own name words others command.Colon is = refl
+same-own name words others (command.Break args) is = refl
+same-own name words others (command.Continue args) is = refl
+same-own name words others (command.Exit args) is = refl
+same-own name words others (command.Set args) is = refl
+same-own name words others (command.Shift args) is = refl
+same-own name words others (command.Unset args) is = refl
+same-own name words others (command.Read args) is = refl
+same-own name words others (command.Test args) is = refl
+same-own name words others (command.Bracket args) is = refl
+same-own name words others (command.Echo args) is = refl
+same-own name words others (command.Cat args) is = absurd (true≢false (sym is))
+same-own name words others (command.Grep args) is = absurd (true≢false (sym is))
+same-own name words others (command.Tr args) is = absurd (true≢false (sym is))
+same-own name words others (command.Cut args) is = absurd (true≢false (sym is))
+same-own name words others (command.Head args) is = absurd (true≢false (sym is))
+same-own name words others (command.Tail args) is = absurd (true≢false (sym is))
+same-own name words others (command.Wc args) is = absurd (true≢false (sym is))
+same-own name words others (command.Uniq args) is = absurd (true≢false (sym is))
+same-own name words others (command.Sort args) is = absurd (true≢false (sym is))
+same-own name words others (command.Paste args) is = absurd (true≢false (sym is))
+same-own name words others (command.Tee args) is = absurd (true≢false (sym is))
+
+pub own-named : (name : List ℕ) (words others : List (List ℕ)) (asked : Command) (found : Result Command ArgFault) (assigns : List (List ℕ × WordTree)) (old new : Point) (came : How) → found ≡ Ok asked → is_own (does name words asked) ≡ true
+    → Evaluates (λ expansions. assigned_for expansions (is_special_of (does name others asked)) assigns (own_means (does name others asked))) old came new
+    → Evaluates (λ expansions. checked expansions pages assigns [] (asked_as name words found)) old came new
+own-named name words others asked found assigns old new came is own one =
+    subst (λ (it : Result Command ArgFault). Evaluates (λ expansions. checked expansions pages assigns [] (asked_as name words it)) old came new) (sym is)
+    (own-checked (does name words asked) assigns old new came own
+    (subst (λ (it : Asked). Evaluates (λ expansions. assigned_for expansions (is_special_of it) assigns (own_means it)) old came new) (sym (same-own name words others asked own)) one))
+
+-- ASSIGNMENTS that stay, and those that are undone
+pub stays : (is_special : Bool) (assigns : List (List ℕ × WordTree)) (means : Means) (old new : Point) (came : How) → is_special ≡ true
+    → Evaluates (λ expansions. assigning expansions assigns means) old came new → Evaluates (λ expansions. assigned_for expansions is_special assigns means) old came new
+stays is_special assigns means old new came is one =
+    subst (λ (it : Bool). Evaluates (λ expansions. assigned_for expansions it assigns means) old came new) (sym is) one
+
+pub undone-behind : (is_special : Bool) (assigns : List (List ℕ × WordTree)) (means : Means) (saved : Variables) (shell mid shell' : Shell) (session session' : Session) (tree tree' : TreeState) (seen seen' : Seen) (faults faults' : Faults) (came : How)
+    → is_special ≡ false → saved ≡ shell.variables → shell' ≡ with_env (restored assigns saved mid.variables) mid
+    → Evaluates (λ expansions. assigning expansions assigns means) (point_of shell session tree seen faults) came (point_of mid session' tree' seen' faults')
+    → Evaluates (λ expansions. assigned_for expansions is_special assigns means) (point_of shell session tree seen faults) came (point_of shell' session' tree' seen' faults')
+undone-behind is_special assigns means saved shell mid shell' session session' tree tree' seen seen' faults faults' came is saved_is shell_is one =
+    rw is rw shell_is rw saved_is
+    (record {
+      comes = λ expansions are base state has. outer base state came expansions has.shell (one.comes expansions are base state has);
+      keeps = λ gone. let keeps = one.keeps gone in record { whole = keeps.whole; files = keeps.files; output = keeps.output; errors = keeps.errors };
+      turns = one.turns;
+      later = one.later;
+      cause = one.cause;
+      lent = one.lent;
+    })
+  where
+    outer : (base : Base) (state : State) (came : How) (expansions : Expansions) → shell ≡ state.shell → Comes base came (point_of mid session' tree' seen' faults') (assigning expansions assigns means state)
+        → Comes base came (point_of (with_env (restored assigns shell.variables mid.variables) mid) session' tree' seen' faults') (undone assigns state.shell.variables (assigning expansions assigns means state))
+    outer base state (how.Gone it) expansions is ended =
+        record {
+          flow = ended.flow;
+          has = record {
+            shell = ap (λ (old : Shell). with_env (restored assigns old.variables mid.variables) mid) is ∙ ap (λ (left : Shell). with_env (restored assigns state.shell.variables left.variables) left) ended.has.shell;
+            session = ended.has.session;
+            home = ended.has.home;
+            held = ended.has.held;
+            seen = ended.has.seen;
+          };
+        }
+    outer base state how.ReadFault expansions is behind = behind
+    outer base state how.WriteFault expansions is behind = behind
+    outer base state how.TreeFault expansions is behind = behind
+    outer base state how.Memory expansions is behind = behind
+
+-- what is done adds to what is there
+pub doing-adds : (it : Doing) → Adds (own_means (asked_of it))
+doing-adds (doing.Builtin name inv) = own-adds (asked_of (doing.Builtin name inv)) (does-adds name.now [] (command_of inv.now))
+doing-adds (doing.Misuse name) = own-adds (asked_of (doing.Misuse name)) tt
+
+-- what its functions evaluate
+abbrev pub Runs : Doing → Point → How → Point → Type 0
+Runs (doing.Builtin name inv) old came new =
+    (words : List (List ℕ)) (is_special : Bool) (means : Means) → does name.now words (command_of inv.now) ≡ builtin is_special means → Evaluates (λ expansions. means) old came new
+Runs (doing.Misuse name) old came new = Evaluates (λ expansions. misused (at_fault (is_special name.now)) name.now) old came new
+
+pub runs-own : (it : Doing) (old new : Point) (came : How) → can_be_done it ≡ true → Runs it old came new → Evaluates (λ expansions. own_means (asked_of it)) old came new
+runs-own (doing.Builtin name inv) old new came own run = by_own (own-so (does name.now [] (command_of inv.now)) own)
+  where
+    by_own : (is_special : Bool) × (means : Means) × (does name.now [] (command_of inv.now) ≡ builtin is_special means) → Evaluates (λ expansions. own_means (does name.now [] (command_of inv.now))) old came new
+    by_own (is_special, means, is) = subst (λ (it : Asked). Evaluates (λ expansions. own_means it) old came new) (sym is) (run [] is_special means is)
+runs-own (doing.Misuse name) old new came own run = run
+
+pub misuse-runs : (way : Flow) (name : List ℕ) (old new : Point) (came : How) → way ≡ at_fault (is_special name) → Evaluates (λ expansions. misused way name) old came new
+    → Evaluates (λ expansions. misused (at_fault (is_special name)) name) old came new
+misuse-runs way name old new came is one = subst (λ (it : Flow). Evaluates (λ expansions. misused it name) old came new) is one
+
+pub misuse-checked : (assigns : List (List ℕ × WordTree)) (name given : List ℕ) (old new : Point) (came : How) → given ≡ name
+    → Evaluates (λ expansions. assigned_for expansions (is_special given) assigns (misused (at_fault (is_special given)) given)) old came new
+    → Evaluates (λ expansions. checked expansions pages assigns [] (unusable (is_special name) name)) old came new
+misuse-checked assigns name given old new came is one =
+    subst (λ (it : List ℕ). Evaluates (λ expansions. checked expansions pages assigns [] (unusable (is_special it) it)) old came new) is one

@@ -1,0 +1,14 @@
+use Rattle.sh_eval.specs.Inner.Doing.{asked_of, own_means}
+use Rattle.sh_eval.proofs.SimpleSteps.{doing-adds, misuse-runs, runs-own}
+use Rattle.sh_eval.proofs.simple.run_assigned.Goals as goal
+
+pub returns-in-Err : goal.returns-in-Err
+returns-in-Err g c = c.in-Err.ensures.err _ _ (λ expansions given. own_means (asked_of c.args.doing)) (λ expansions given. doing-adds c.args.doing)
+
+pub returns-in-Builtin : goal.returns-in-Builtin
+returns-in-Builtin g c = c.in-Ok.ensures.ok _ _ (λ expansions given. own_means (asked_of c.args.doing)) _ _ (runs-own c.args.doing _ _ _ c.requires.own (rw c.in-Builtin.is c.run_builtin.ensures))
+
+pub returns-in-Misuse : goal.returns-in-Misuse
+returns-in-Misuse g c =
+    c.in-Ok.ensures.ok _ _ (λ expansions given. own_means (asked_of c.args.doing)) _ _
+    (runs-own c.args.doing _ _ _ c.requires.own (rw c.in-Misuse.is (misuse-runs _ _ _ _ _ c.flow_at_fault-flow.ensures (c.misuse-how.ensures _ _))))

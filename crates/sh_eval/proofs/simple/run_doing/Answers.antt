@@ -1,0 +1,25 @@
+use Rattle.std.proofs.Common.{◌∙◌, sym, map, refl}
+use Rattle.sh_eval.specs.Inner.Bodies.{assign_tree}
+use Rattle.sh_eval.specs.Inner.Doing.{asked_of, is_special_of, own_means}
+use Rattle.sh_eval.specs.Simple.{assigned_for}
+use Rattle.sh_eval.proofs.CommandSteps.{wanted-behind}
+use Rattle.sh_eval.proofs.Growing.{adds-assigned_for}
+use Rattle.sh_eval.proofs.SimpleSteps.{doing-adds, stays, undone-behind}
+use Rattle.sh_eval.proofs.Steps.{wanted}
+use Rattle.sh_eval.proofs.simple.run_doing.Goals as goal
+
+pub returns-then-is_special : goal.returns-then-is_special
+returns-then-is_special g c = stays _ (map assign_tree c.args.assigns.now) _ _ _ _ (sym c.is_special.ensures ∙ c.if-is_special.true) c.run_assigned.ensures
+
+pub returns-in_default : goal.returns-in_default
+returns-in_default g c =
+    wanted (λ expansions. assigned_for expansions (is_special_of (asked_of c.args.doing)) (map assign_tree c.args.assigns.now) (own_means (asked_of c.args.doing))) _
+    (λ expansions. adds-assigned_for expansions (is_special_of (asked_of c.args.doing)) (map assign_tree c.args.assigns.now) (own_means (asked_of c.args.doing)) (doing-adds c.args.doing))
+
+pub returns-in_default-restore : goal.returns-in_default-restore
+returns-in_default-restore g c =
+    wanted-behind (λ expansions. assigned_for expansions (is_special_of (asked_of c.args.doing)) (map assign_tree c.args.assigns.now) (own_means (asked_of c.args.doing))) _ _ _ _ _ _ _ _
+    (undone-behind _ (map assign_tree c.args.assigns.now) _ _ _ _ _ _ _ _ _ _ _ _ _ _ (sym c.is_special.ensures ∙ c.if-is_special.false) c.in-Ok.ensures refl c.run_assigned-how.ensures)
+
+pub returns : goal.returns
+returns g c = undone-behind _ (map assign_tree c.args.assigns.now) _ _ _ _ _ _ _ _ _ _ _ _ _ _ (sym c.is_special.ensures ∙ c.if-is_special.false) c.in-Ok.ensures c.in-Ok-restore.ensures c.run_assigned-how.ensures

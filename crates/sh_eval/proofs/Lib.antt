@@ -14,3 +14,4 @@ pub mod RedirectionSteps
 pub mod RedirectionLoops
 pub mod SkippingLemmas
 pub mod SimpleSteps
+pub mod ScriptSteps

@@ -13,6 +13,7 @@ pub mod Simple
 pub mod Meaning
 pub mod Growth
 pub mod Contract
+pub mod Scripts
 pub mod Writing
 pub mod Ending
 pub mod Reading

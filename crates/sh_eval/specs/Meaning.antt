@@ -7,6 +7,7 @@ use Rattle.sh_tree.specs.Trees.{ListTree, no_item, item, AndOrTree, and_or, Join
 use Rattle.sh_expand.specs.Outcomes.{Expansions}
 use Rattle.sh_eval.specs.declared.flows.Flow.TheVariants as flow
 use Rattle.sh_eval.specs.declared.streams.To.TheVariants as to
+use Rattle.sh_eval.specs.declared.session.Session.{Session}
 use Rattle.sh_eval.specs.declared.shell.Shell.{Shell}
 use Rattle.sh_eval.specs.declared.streams.From.TheVariants as from
 use Rattle.sh_eval.specs.States.{State, Means, on, after, in_shell}
@@ -101,11 +102,15 @@ module _ (expansions : Expansions) (pages : Pages) where
   script_means None state = on state
   script_means (Some list) state = list_means list state
 
--- the state in which a run begins: nothing is written, no pipe is open, and no path is held
+-- the session in which a run begins: no pipe is open, and no path is held
+abbrev pub begun_session : Session
+begun_session = record { streams = record { from = from.Standard; to = to.Output; errors_to = to.Errors; held = [] }; pipes = []; piped = []; turns = 0 }
+
+-- the state in which it begins: nothing is written
 abbrev pub begun : Shell → Components → Files → List ℕ → State
 begun shell home files input =
     record {
       shell = shell;
-      session = record { streams = record { from = from.Standard; to = to.Output; errors_to = to.Errors; held = [] }; pipes = []; piped = []; turns = 0 };
+      session = begun_session;
       world = record { home = home; files = files; input = input; output = []; errors = []; ran = [] };
     }

@@ -5,8 +5,11 @@
 //! `specs/States.antt` says what a state is. No graph, no piece, no width and no call of the outside occurs in it.
 //!
 //! `specs/Contract.antt` is the one clause of every function that evaluates: the state that is meant, or where it stopped, output and
-//! errors grown by fronts of what is meant; and why. Lists, pipelines, groups and subshells are evaluated so far; a simple command, a
-//! redirection, `if` and loops want memory. The program doesn't call it yet.
+//! errors grown by prefixes of what is meant; and why. `run_script` evaluates a whole script; `specs/Scripts.antt` says what it leaves.
+//!
+//! Lists, pipelines, groups, subshells, `if`, loops, command substitutions and simple commands are evaluated. A command with a redirection
+//! wants memory so far (`redirections`, `busy` and `skipping` have what it will call), and a utility is refused as NotBuilt. The program
+//! doesn't call the crate yet.
 #![tactic(auto)]
 
 mod builtins;
@@ -33,6 +36,7 @@ mod streams;
 mod targets;
 #[cfg(test)]
 mod tests;
+mod top;
 mod writing;
 
 pub use busy::Use;
@@ -44,3 +48,4 @@ pub use session::{Pipes, Session};
 pub use shell::Shell;
 pub use streams::{From, Held, HeldPaths, Streams, To};
 pub use targets::Target;
+pub use top::run_script;

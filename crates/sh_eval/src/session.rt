@@ -1,6 +1,6 @@
 //! What a shell shares with the shells around it.
 use crate::rests::Rest;
-use crate::streams::{From, Streams, To};
+use crate::streams::{From, HeldPaths, Streams, To};
 use ps_lines::{Memory, Text};
 use std::alloc::Global;
 use std::marker::Model;
@@ -76,7 +76,27 @@ impl Pipes {
 impl Session {
     ghost use Rattle.std.specs.Prelude.{◌≡◌, IfOk, OnErr};
     ghost use Rattle.sh_eval.specs.Commands.{reading_piped};
+    ghost use Rattle.sh_eval.specs.Meaning.{begun_session};
     ghost use Rattle.sh_eval.specs.States.{piping, reading, unpiped, innermost};
+
+    /// The session in which a run begins: no pipe is open, and no path is held.
+    pub(crate) fn begun(alloc: Global) -> Session
+        ensures { result ≡ begun_session }
+    {
+        Session {
+            streams: Streams {
+                from: From::Standard,
+                to: To::Output,
+                errors_to: To::Errors,
+                held: HeldPaths::new(alloc),
+            },
+            pipes: Pipes {
+                texts: Vec::new(alloc),
+            },
+            piped: Text::from_vec(Vec::new(alloc)),
+            turns: 0,
+        }
+    }
 
     /// Opens a pipe, which takes in the output, and gives where the output went.
     pub(crate) fn open_pipe(&mut self, alloc: Global) -> Result<To, Memory>

@@ -80,6 +80,15 @@ impl To {
 impl HeldPaths {
     ghost use Rattle.std.specs.Prelude.{◌≡◌, [], ◌∷◌, ◌++◌, IfOk, OnOk};
 
+    /// No path is held.
+    pub(crate) fn new(alloc: Global) -> HeldPaths
+        ensures { result ≡ [] }
+    {
+        HeldPaths {
+            paths: Vec::new(alloc),
+        }
+    }
+
     /// The same paths.
     pub(crate) fn copy(&self, alloc: Global) -> Result<HeldPaths, Memory>
         ensures { IfOk result (λ held. held ≡ self.now) }

@@ -12,4 +12,4 @@ pub returns-in_default : goal.returns-in_default
 returns-in_default g c = λ text is left input. wanted (λ expansions. ends_told text) _ (λ expansions. adds-ends_told text)
 
 pub returns : goal.returns
-returns g c = λ text is left input. told-so text _ _ _ _ _ _ _ _ _ _ _ _ _ (c.as_slice.ensures.value ∙ subst (λ (it : Result _ _). IfOk it (λ line. line.items ≡ text)) c.in-Ok.is is) c.leave.ensures.shell c.leave.ensures.how (c.tell-how.ensures c.args.shell.now left input)
+returns g c = λ text is left input. told-so text _ _ _ _ _ _ _ _ _ _ _ _ _ (c.as_slice.ensures.value ∙ subst (λ (it : Result _ _). IfOk it (λ line. line.items ≡ text)) c.in-Ok.is is) c.leave.ensures.shell c.leave.ensures.how (c.tell-how.ensures.evaluates c.args.shell.now left input)

@@ -1,0 +1,56 @@
+//! The evaluation of a script.
+ghost use Rattle.std.specs.Prelude.{◌≡◌, Some, IfSome};
+ghost use Rattle.ps_world.specs.Files.{NoWriterOut};
+ghost use Rattle.ps_world.specs.TreeState.{Balanced};
+ghost use Rattle.sh_tree.specs.Views.{script_tree};
+ghost use Rattle.sh_expand.specs.Outcomes.{AreExpansions, Expansions};
+ghost use Rattle.sh_eval.specs.Contract.{HasCause, IsGone, faults_of, seen_of};
+ghost use Rattle.sh_eval.specs.Meaning.{begun, script_means};
+ghost use Rattle.sh_eval.specs.Scripts.{Leaves};
+ghost use Rattle.sh_eval.specs.Table.{pages};
+
+use crate::flows::Flow;
+use crate::lists::eval_list;
+use crate::outcomes::{How, Played};
+use crate::session::Session;
+use crate::shell::Shell;
+use ps_world::{Sink, Source, Tree};
+use sh_tree::Script;
+use std::alloc::Global;
+
+/// Runs a script in this shell, over these files, this input, and this output and error output.
+///
+/// Where it is over, all is as the script means it (`script_means`): how the shell goes on, the shell, the files, what is left of the
+/// input, and what was written. After a fault, and where memory was refused, output and errors have grown by prefixes of what is meant. A
+/// fault is told only where the count of its object rose. The input and the output come back.
+///
+/// No writer may be out as the call begins.
+pub fn run_script<T: Tree, I: Source, O: Sink, E: Sink>(
+    alloc: Global,
+    script: &Script,
+    shell: &mut Shell,
+    tree: &mut T,
+    input: I,
+    out: O,
+    err: &mut E,
+) -> Played<I, O>
+    requires whole { IfSome (T.state tree.old).held NoWriterOut }
+    ensures meaning { (expansions : Expansions) → AreExpansions expansions → IfSome (T.state tree.old).held (λ files. IfSome (I.left input) (λ text.
+        Leaves (seen_of (I.left input) (O.taken out) (E.taken err.old)) result.how shell.new (T.state tree.new) (seen_of (I.left result.input) (O.taken result.out) (E.taken err.new))
+        (script_means expansions pages (script_tree script.now) (begun shell.old (T.state tree.old).home files text)))) }
+    ensures whole { IsGone result.how → IfSome (T.state tree.new).held NoWriterOut }
+    ensures cause { HasCause result.how
+        (faults_of (I.faults input) (O.faults out) (E.faults err.old) (T.faults tree.old))
+        (faults_of (I.faults result.input) (O.faults result.out) (E.faults err.new) (T.faults tree.new)) }
+    ensures lent { Balanced (T.state tree.old) (T.state tree.new) }
+{
+    let mut session = Session::begun(alloc);
+    match &script.body {
+        Some(list) => eval_list(alloc, list, shell, &mut session, tree, input, out, err),
+        None => Played {
+            how: How::Gone(Flow::On),
+            input,
+            out,
+        },
+    }
+}

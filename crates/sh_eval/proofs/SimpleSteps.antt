@@ -198,6 +198,16 @@ pub stays : (is_special : Bool) (assigns : List (List ℕ × WordTree)) (means :
 stays is_special assigns means old new came is one =
     subst (λ (it : Bool). Evaluates (λ expansions. assigned_for expansions it assigns means) old came new) (sym is) one
 
+pub bare-assigns : (is_special : Bool) (assigns : List (List ℕ × WordTree)) (means : Means) (old new : Point) (came : How) → assigns ≡ []
+    → Evaluates (λ expansions. assigning expansions assigns means) old came new → Evaluates (λ expansions. assigned_for expansions is_special assigns means) old came new
+bare-assigns is_special assigns means old new came none one =
+    subst (λ (it : List (List ℕ × WordTree)). Evaluates (λ expansions. assigned_for expansions is_special it means) old came new) (sym none)
+    (by_kind is_special (subst (λ (it : List (List ℕ × WordTree)). Evaluates (λ expansions. assigning expansions it means) old came new) none one))
+  where
+    by_kind : (is_special : Bool) → Evaluates (λ expansions. assigning expansions [] means) old came new → Evaluates (λ expansions. assigned_for expansions is_special [] means) old came new
+    by_kind true found = found
+    by_kind false found = found
+
 pub undone-behind : (is_special : Bool) (assigns : List (List ℕ × WordTree)) (means : Means) (saved : Variables) (shell mid shell' : Shell) (session session' : Session) (tree tree' : TreeState) (seen seen' : Seen) (faults faults' : Faults) (came : How)
     → is_special ≡ false → saved ≡ shell.variables → shell' ≡ with_env (restored assigns saved mid.variables) mid
     → Evaluates (λ expansions. assigning expansions assigns means) (point_of shell session tree seen faults) came (point_of mid session' tree' seen' faults')

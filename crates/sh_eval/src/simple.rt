@@ -338,6 +338,9 @@ fn run_doing<T: Tree, I: Source, O: Sink, E: Sink>(
     if is_special(doing) {
         return run_assigned(alloc, assigns, doing, shell, session, tree, input, out, err);
     }
+    if let [] = assigns {
+        return run_assigned(alloc, assigns, doing, shell, session, tree, input, out, err);
+    }
     let Ok(saved) = shell.variables.copy(alloc) else {
         return Played {
             how: How::Memory,

@@ -1,6 +1,6 @@
 -- What stands behind the `)` of a command substitution changes nothing before it: two texts that are alike up to that `)` are read alike,
 -- also where no more levels are open.
-use Rattle.std.proofs.Common.{◌≡◌, ℕ, Bool, true, false, not, Option, None, Some, ◌+◌, ◌≤◌, ◌<◌, List, [], ◌∷◌, ◌++◌, ◌==◌, ◌&&◌, ◌||◌, ◌⊎◌, if◌then◌else◌, length, drop, refl, sym, ◌∙◌, ap, subst, append_assoc, inl, inr, arith, rules}
+use Rattle.std.proofs.Common.{◌≡◌, ℕ, Bool, true, false, not, Option, None, Some, ◌+◌, ◌≤◌, ◌<◌, List, [], ◌∷◌, ◌++◌, ◌==◌, ◌&&◌, ◌||◌, ◌⊎◌, if◌then◌else◌, length, drop, refl, sym, ◌∙◌, ap, subst, append_assoc, inl, inr, arith}
 use Rattle.std.specs.Prelude.{nat_lt}
 use Rattle.std.proofs.lemmas.Bool.Decides.{nat_tests}
 use Rattle.ps_lines.specs.Bytes.{is_name_start, is_name_byte}
@@ -10,9 +10,9 @@ use Rattle.sh_lex.specs.Texts.{fronts, from_first, unspliced, passing, run, behi
 use Rattle.sh_lex.specs.Acts.{Act, goes, enters, ends, offends, Found, nothing, gap, open_parenthesis, close_parenthesis, token, word, offence}
 use Rattle.sh_lex.specs.Numbers.{begins_with, fits_less, fits_great, number_at, after_digit}
 use Rattle.sh_lex.specs.Operators.{has_no_word, is_number_or_target, is_target, and_at, pipe_at, semi_at, less_at, great_at, delimiter, lexeme_at, lexeme}
-use Rattle.sh_lex.specs.Dollars.{deeper, inside_braces, opening, substitution, parenthesis, dollar_at, after_dollar, name_at}
+use Rattle.sh_lex.specs.Dollars.{deeper, inside_braces, opening, substitution, parenthesis, introduced_by, dollar_by, dollar_at, after_dollar, name_at}
 use Rattle.sh_lex.specs.DoubleQuotes.{double_quotes_at}
-use Rattle.sh_lex.specs.Heads.{Head, whole, with_word, no_form, trims, place_value, closing_brace, operator_at, colon_at, suffix_at, prefix_at, form_at, placed, parameter_at, measured_at, hash_at, formed_at, brace_head_at, brace_head}
+use Rattle.sh_lex.specs.Heads.{Head, whole, with_word, no_form, trims, place_value, closing_brace, operator_at, colon_at, suffix_at, prefix_at, form_at, placed, parameter_at, measured_at, hash_at, formed_at, brace_head_at}
 use Rattle.sh_lex.specs.Braces.{single_quotes, quote_in_braces, backslash_in_braces, braces_at, braces_word_at, head_at}
 use Rattle.sh_lex.specs.Arithmetic.{expression_at, closing_at, arithmetic_at, parentheses_at}
 use Rattle.sh_lex.specs.Commands.{is_tilde_spot, word_at, word_begin, between_at, word_end, in_word, in_commands}
@@ -24,16 +24,17 @@ use Rattle.sh_lex.proofs.KeepsLemmas.{IsKept, Keeps, unspliced-kept, behind_quot
 use Rattle.sh_lex.proofs.Readings.{Reads-Leaves}
 use Rattle.sh_tree.specs.declared.words.Param.{Param}
 use Rattle.sh_lex.specs.declared.heads.Operator.{Operator}
-use Rattle.sh_lex.specs.declared.heads.Operator.TheVariants as operator
 use Rattle.sh_lex.specs.declared.parts.Nest.{Nest}
 use Rattle.sh_lex.specs.declared.parts.Part.{Part}
 use Rattle.sh_lex.specs.declared.parts.Spot.{Spot}
 use Rattle.sh_lex.specs.declared.parts.Part.TheVariants as part
 use Rattle.sh_lex.specs.declared.parts.Spot.TheVariants as spot
+use Rattle.sh_lex.specs.declared.dollars.Introduced.{Introduced}
+use Rattle.sh_lex.specs.declared.dollars.Introduced.TheVariants as introduced
 use Rattle.sh_lex.specs.declared.parts.Fault.{Fault}
 use Rattle.sh_lex.specs.declared.tokens.TokenKind.{TokenKind}
 use Rattle.sh_lex.specs.declared.parts.TheConstants.{MAX_LEVELS}
-use Rattle.sh_lex.specs.declared.bytes.TheConstants.{BACKSLASH, NEWLINE, CLOSE, QUOTE, DOUBLE_QUOTE, BACKQUOTE, DOLLAR, BANG, DASH, OPEN, OPEN_BRACE, CLOSE_BRACE, TILDE, HASH, AT, STAR, QUESTION, COLON, PERCENT, PLUS, EQUALS, AND, PIPE, SEMI, LESS, GREAT, ONE, TWO, ZERO}
+use Rattle.sh_lex.specs.declared.bytes.TheConstants.{BACKSLASH, NEWLINE, CLOSE, QUOTE, DOUBLE_QUOTE, BACKQUOTE, DOLLAR, DASH, OPEN, CLOSE_BRACE, TILDE, HASH, AT, STAR, QUESTION, COLON, PERCENT, PLUS, EQUALS, AND, PIPE, SEMI, LESS, GREAT}
 
 -- no more levels are open, and no `${` where none was
 pub record IsLower (nest inside : Nest) : Type 0 where
@@ -384,6 +385,10 @@ module _ (behind other : List ℕ) where
   substitution_by false true does result fault fault_copy h a = no_falsehood (h refl)
   substitution_by false false does result fault fault_copy h a = a
 
+  close_introduces : introduced_by CLOSE ≡ introduced.Nothing
+  unfolding introduced_by is_parameter
+  close_introduces = refl
+
   module _ {nest inside : Nest} (lower : IsLower nest inside) (left place : ℕ) where
     opening-alike : {inner outer inner_copy outer_copy : Part} {rest copy : List ℕ} → PartsAlike inner inner_copy
         → PartsAlike outer outer_copy → Alike behind other rest copy
@@ -405,16 +410,30 @@ module _ (behind other : List ℕ) where
     parenthesis-alike outer i (before byte a) =
         act_if (byte == OPEN) (opening-alike (alike_arithmetic (deeper_lower lower)) outer a) (substitution-alike outer i)
 
+    by-alike : (what : Introduced) (quoted : Bool) {outer outer_copy : Part} {text copy rest rest_copy : List ℕ} → PartsAlike outer outer_copy
+        → Alike behind other text copy → Alike behind other rest rest_copy
+        → ActsAlike behind other (dollar_by what nest quoted left outer text rest) (dollar_by what inside quoted place outer_copy copy rest_copy)
+    by-alike (introduced.OutOfProfile spelling) quoted outer t a = refused_anyway
+    by-alike introduced.Braces quoted outer t a = opening-alike (alike_brace_head (inside_lower lower)) outer a
+    by-alike introduced.Parenthesis quoted outer t a = parenthesis-alike outer a (unspliced-alike a)
+    by-alike introduced.Name quoted outer t a = both_enter alike_name outer a
+    by-alike introduced.Special quoted outer t a = both_go outer a
+    by-alike introduced.Nothing quoted outer t a = both_go outer t
+
+    -- nothing is introduced by the `)` itself
+    close-alike : (what : Introduced) → what ≡ introduced.Nothing → (quoted : Bool) {outer outer_copy : Part} {text copy : List ℕ}
+        → PartsAlike outer outer_copy → Alike behind other text copy
+        → ActsAlike behind other (dollar_by what nest quoted left outer text behind) (dollar_by what inside quoted place outer_copy copy other)
+    close-alike what is quoted {outer = outer} {outer_copy = outer_copy} {text = text} {copy = copy} parts t =
+        subst
+        (λ it. ActsAlike behind other (dollar_by it nest quoted left outer text behind) (dollar_by it inside quoted place outer_copy copy other))
+        (sym is) (both_go parts t)
+
     dollar-alike : (quoted : Bool) {outer outer_copy : Part} {text copy front front_copy : List ℕ} → PartsAlike outer outer_copy
         → Alike behind other text copy → Alike behind other front front_copy
         → ActsAlike behind other (dollar_at nest quoted left outer text front) (dollar_at inside quoted place outer_copy copy front_copy)
-    dollar-alike quoted outer t at_end = act_if (is_parameter CLOSE) (goes_past (omega arith)) (both_go outer t)
-    dollar-alike quoted outer t (before byte a) =
-        act_if (byte == DOLLAR) refused_anyway (act_if (byte == BANG) refused_anyway (act_if (byte == DASH) refused_anyway
-        (act_if (byte == OPEN_BRACE) (opening-alike (alike_brace_head (inside_lower lower)) outer a)
-        (act_if (byte == OPEN) (parenthesis-alike outer a (unspliced-alike a))
-        (act_if (is_name_start byte) (both_enter alike_name outer a)
-        (act_if (is_parameter byte) (both_go outer a) (both_go outer t)))))))
+    dollar-alike quoted outer t at_end = close-alike (introduced_by CLOSE) close_introduces quoted outer t
+    dollar-alike quoted outer t (before byte a) = by-alike (introduced_by byte) quoted outer t a
 
     after_dollar-alike : (quoted : Bool) {outer outer_copy : Part} {text copy : List ℕ} → PartsAlike outer outer_copy
         → Alike behind other text copy
@@ -734,12 +753,17 @@ module _ (text : List ℕ) where
     parenthesis-does inner [] = substitution-does inner
     parenthesis-does inner (byte ∷ rest) = does_if (byte == OPEN) _ _ (opening-does _ rest) (substitution-does inner)
 
+    by-does : (what : Introduced) (quoted : Bool) (all rest : List ℕ) → OpenDoes text (dollar_by what nest quoted left outer all rest)
+    by-does (introduced.OutOfProfile spelling) quoted all rest = tt
+    by-does introduced.Braces quoted all rest = opening-does _ rest
+    by-does introduced.Parenthesis quoted all rest = parenthesis-does rest (unspliced rest)
+    by-does introduced.Name quoted all rest = is
+    by-does introduced.Special quoted all rest = is
+    by-does introduced.Nothing quoted all rest = is
+
     dollar-does : (quoted : Bool) (all front : List ℕ) → OpenDoes text (dollar_at nest quoted left outer all front)
     dollar-does quoted all [] = is
-    dollar-does quoted all (byte ∷ rest) =
-        does_if (byte == DOLLAR) _ _ tt (does_if (byte == BANG) _ _ tt (does_if (byte == DASH) _ _ tt
-        (does_if (byte == OPEN_BRACE) _ _ (opening-does _ rest) (does_if (byte == OPEN) _ _ (parenthesis-does rest (unspliced rest))
-        (does_if (is_name_start byte) _ _ is (does_if (is_parameter byte) _ _ is is))))))
+    dollar-does quoted all (byte ∷ rest) = by-does (introduced_by byte) quoted all rest
 
   single-does : (left : ℕ) (next : Part) (found : Option (List ℕ)) → IsOpen next → OpenDoes text (single_quotes left next found)
   single-does left next None is = tt

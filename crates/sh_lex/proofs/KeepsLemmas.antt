@@ -6,7 +6,7 @@ use Rattle.std.specs.Char.{is_ascii_digit}
 use Rattle.sh_lex.specs.Bytes.{ends_word}
 use Rattle.sh_lex.specs.Numbers.{number_at, after_digit}
 use Rattle.sh_lex.specs.Operators.{and_at, pipe_at, semi_at, less_at, great_at, delimiter, lexeme_at, lexeme}
-use Rattle.sh_lex.specs.Dollars.{opening, substitution, parenthesis, dollar_at, after_dollar, name_at}
+use Rattle.sh_lex.specs.Dollars.{opening, substitution, parenthesis, introduced_by, dollar_by, dollar_at, after_dollar, name_at}
 use Rattle.sh_lex.specs.DoubleQuotes.{double_quotes_at}
 use Rattle.sh_lex.specs.Heads.{Head, whole, with_word, no_form, trims, closing_brace, operator_at, colon_at, suffix_at, prefix_at, form_at, placed, parameter_at, measured_at, hash_at, formed_at, brace_head_at, brace_head}
 use Rattle.sh_lex.specs.Braces.{single_quotes, quote_in_braces, backslash_in_braces, braces_at, braces_word_at, head_at}
@@ -20,6 +20,8 @@ use Rattle.sh_lex.specs.declared.parts.Part.{Part}
 use Rattle.sh_lex.specs.declared.parts.Spot.{Spot}
 use Rattle.sh_lex.specs.declared.parts.Part.TheVariants as part
 use Rattle.sh_lex.specs.declared.parts.Spot.TheVariants as spot
+use Rattle.sh_lex.specs.declared.dollars.Introduced.{Introduced}
+use Rattle.sh_lex.specs.declared.dollars.Introduced.TheVariants as introduced
 use Rattle.sh_lex.specs.declared.bytes.TheConstants.{BACKSLASH, NEWLINE}
 
 abbrev pub Keeps : (List ℕ → Type 0) → Act → Type 0
@@ -216,14 +218,20 @@ module _ (P : List ℕ → Type 0) (kept : IsKept P) where
         let sub : Keeps P (substitution nest left outer inner) = substitution-kept outer inner h in
         search (Keeps-if, sub, opening-kept, inside, rules)
 
+    dollar_by-kept : (what : Introduced) (quoted : Bool) (outer : Part) (text rest : List ℕ) → P text → P rest
+        → Keeps P (dollar_by what nest quoted left outer text rest)
+    dollar_by-kept (introduced.OutOfProfile spelling) quoted outer text rest h k = tt
+    dollar_by-kept introduced.Braces quoted outer text rest h k = opening-kept _ outer rest k
+    dollar_by-kept introduced.Parenthesis quoted outer text rest h k =
+        parenthesis-kept outer rest (unspliced rest) k (unspliced-kept P kept rest k)
+    dollar_by-kept introduced.Name quoted outer text rest h k = k
+    dollar_by-kept introduced.Special quoted outer text rest h k = k
+    dollar_by-kept introduced.Nothing quoted outer text rest h k = h
+
     dollar_at-kept : (quoted : Bool) (outer : Part) (text front : List ℕ) → P text → P front
         → Keeps P (dollar_at nest quoted left outer text front)
     dollar_at-kept quoted outer text [] h k = h
-    dollar_at-kept quoted outer text (byte ∷ rest) h k =
-        let inside : P rest = kept byte rest k in
-        let front : P (unspliced rest) = unspliced-kept P kept rest inside in
-        let parenthesised : Keeps P (parenthesis nest left outer rest (unspliced rest)) = parenthesis-kept outer rest (unspliced rest) inside front in
-        search (Keeps-if, parenthesised, opening-kept, inside, h, rules) depth 12
+    dollar_at-kept quoted outer text (byte ∷ rest) h k = dollar_by-kept (introduced_by byte) quoted outer text rest h (kept byte rest k)
 
     pub after_dollar-kept : (quoted : Bool) (outer : Part) (text : List ℕ) → P text → Keeps P (after_dollar nest quoted left outer text)
     after_dollar-kept quoted outer text h = dollar_at-kept quoted outer text (unspliced text) h (unspliced-kept P kept text h)

@@ -7,10 +7,10 @@ use Rattle.sh_lex.specs.Reads.{act, Reads, past, goes_on, reads_inner, has_ended
 use Rattle.sh_lex.specs.Lexes as l
 use Rattle.sh_lex.specs.Lexes.{Tokens, one_word, token_between, HasTokens}
 use Rattle.sh_lex.specs.Marks.{Marked, marks_on, marks_inner, marks_end, Marks, no_mark, skips, opens, closes, takes, takes_word, HasMarks, seen, opening, closing, entry_of}
-use Rattle.sh_lex.specs.Marking.{word_marks, LeadsTo}
+use Rattle.sh_lex.specs.Inner.Marking.{word_marks, LeadsTo}
 use Rattle.sh_lex.proofs.Scripts.{less_at, has_tokens}
 use Rattle.sh_lex.proofs.Readings.{word-shorter}
-use Rattle.sh_lex.specs.Lexing.{StopsAt}
+use Rattle.sh_lex.specs.Inner.Lexing.{StopsAt}
 use Rattle.sh_lex.specs.declared.reading.Stop.{Stop}
 use Rattle.sh_lex.specs.declared.reading.Stop.TheVariants as stop
 use Rattle.sh_lex.specs.declared.lexing.TheConstants.{MAX_SCRIPT}

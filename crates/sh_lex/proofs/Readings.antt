@@ -1,8 +1,9 @@
 -- A construct at a text has one end or one refusal.
 use Rattle.std.proofs.Common.{◌≡◌, ℕ, zero, suc, Bool, true, false, Option, None, Some, List, [], ◌∷◌, ◌<◌, ◌≤◌, if◌then◌else◌, length, refl, sym, subst, arith, rules}
+use Rattle.sh_lex.specs.Texts.{unspliced}
 use Rattle.sh_lex.specs.Acts.{Act, goes, enters, ends, offends}
 use Rattle.sh_lex.proofs.Shrinking.{Shrinks, BeginsWord}
-use Rattle.sh_lex.specs.Dollars.{opening, substitution, parenthesis, dollar_at}
+use Rattle.sh_lex.specs.Dollars.{opening, substitution, parenthesis, introduced_by, dollar_by, dollar_at}
 use Rattle.sh_lex.specs.Braces.{single_quotes}
 use Rattle.sh_lex.specs.Commands.{word_at, in_word}
 use Rattle.sh_lex.specs.Reads.{act, Outcome, past, refused, Reads, goes_on, reads_inner, refused_inside, has_ended, offended}
@@ -13,6 +14,8 @@ use Rattle.sh_lex.specs.declared.parts.Nest.{Nest}
 use Rattle.sh_lex.specs.declared.parts.Part.{Part}
 use Rattle.sh_lex.specs.declared.parts.Spot.{Spot}
 use Rattle.sh_lex.specs.declared.parts.Spot.TheVariants as spot
+use Rattle.sh_lex.specs.declared.dollars.Introduced.{Introduced}
+use Rattle.sh_lex.specs.declared.dollars.Introduced.TheVariants as introduced
 
 -- at most so many bytes are left
 abbrev pub Leaves : ℕ → Outcome → Type 0
@@ -120,10 +123,17 @@ module _ (nest : Nest) (left : ℕ) (outer : Part) where
   parenthesis-further inner [] = substitution-further inner
   parenthesis-further inner (byte ∷ rest) = search (GoesFurther-if, substitution-further, opening-further, rules)
 
+  dollar_by-further : (what : Introduced) (quoted : Bool) (text rest : List ℕ) → GoesFurther (dollar_by what nest quoted left outer text rest)
+  dollar_by-further (introduced.OutOfProfile spelling) quoted text rest = tt
+  dollar_by-further introduced.Braces quoted text rest = opening-further _ rest
+  dollar_by-further introduced.Parenthesis quoted text rest = parenthesis-further rest (unspliced rest)
+  dollar_by-further introduced.Name quoted text rest = tt
+  dollar_by-further introduced.Special quoted text rest = tt
+  dollar_by-further introduced.Nothing quoted text rest = tt
+
   dollar_at-further : (quoted : Bool) (text front : List ℕ) → GoesFurther (dollar_at nest quoted left outer text front)
   dollar_at-further quoted text [] = tt
-  dollar_at-further quoted text (byte ∷ rest) =
-      search (GoesFurther-if, parenthesis-further, opening-further, rules) depth 9
+  dollar_at-further quoted text (byte ∷ rest) = dollar_by-further (introduced_by byte) quoted text rest
 
 single_quotes-further : (left : ℕ) (next : Part) (found : Option (List ℕ)) → GoesFurther (single_quotes left next found)
 single_quotes-further left next None = tt

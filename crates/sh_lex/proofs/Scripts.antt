@@ -5,7 +5,7 @@ use Rattle.sh_lex.specs.Acts.{Found, nothing, gap, open_parenthesis, close_paren
 use Rattle.sh_lex.proofs.Shrinking.{BeginsWord, LeavesLess}
 use Rattle.sh_lex.specs.Operators.{lexeme}
 use Rattle.sh_lex.specs.Reads.{Outcome, past, refused, Reads, StopsReading}
-use Rattle.sh_lex.specs.Lexing.{StopsAt}
+use Rattle.sh_lex.specs.Inner.Lexing.{StopsAt}
 use Rattle.sh_lex.specs.declared.reading.Stop.{Stop}
 use Rattle.sh_lex.specs.declared.reading.Stop.TheVariants as stop
 use Rattle.sh_lex.specs.Lexes.{Lexes, IsRefused, Offence, HasTokens, HasRefusal, HasOneReading, told, one_word, token_between, after_token, Tokens, no_token, skips, opens, closes, takes, takes_word, refused_word, refused_token}

@@ -6,7 +6,7 @@ use Rattle.sh_lex.specs.Texts.{unspliced, behind_run, behind_quote, behind_comme
 use Rattle.sh_lex.specs.Acts.{Act, Found, nothing, gap, open_parenthesis, close_parenthesis, token, word, offence}
 use Rattle.sh_lex.specs.Numbers.{number_at, after_digit}
 use Rattle.sh_lex.specs.Operators.{and_at, pipe_at, semi_at, less_at, great_at, delimiter, lexeme_at, lexeme}
-use Rattle.sh_lex.specs.Dollars.{opening, substitution, parenthesis, dollar_at, after_dollar, name_at}
+use Rattle.sh_lex.specs.Dollars.{opening, substitution, parenthesis, introduced_by, dollar_by, dollar_at, after_dollar, name_at}
 use Rattle.sh_lex.specs.DoubleQuotes.{double_quotes_at}
 use Rattle.sh_lex.specs.Heads.{Head, whole, with_word, no_form, trims, brace_head}
 use Rattle.sh_lex.specs.Braces.{single_quotes, quote_in_braces, backslash_in_braces, braces_at, braces_word_at, head_at}
@@ -21,6 +21,8 @@ use Rattle.sh_lex.specs.declared.parts.Part.{Part}
 use Rattle.sh_lex.specs.declared.parts.Spot.{Spot}
 use Rattle.sh_lex.specs.declared.parts.Part.TheVariants as part
 use Rattle.sh_lex.specs.declared.parts.Spot.TheVariants as spot
+use Rattle.sh_lex.specs.declared.dollars.Introduced.{Introduced}
+use Rattle.sh_lex.specs.declared.dollars.Introduced.TheVariants as introduced
 
 -- a choice shrinks where both sides do
 pub Shrinks-if : (count : ℕ) (test : Bool) (left right : Act) → Shrinks count left → Shrinks count right
@@ -59,13 +61,21 @@ module _ (nest : Nest) (left : ℕ) (count : ℕ) where
   parenthesis-Shrinks outer inner (byte ∷ rest) h k =
       let shorter : length rest < count = omega arith in search (Shrinks-if, substitution-Shrinks, opening-Shrinks, rules)
 
+  dollar_by-Shrinks : (what : Introduced) (quoted : Bool) (outer : Part) (text rest : List ℕ) → length text < count → length rest < count
+      → Shrinks count (dollar_by what nest quoted left outer text rest)
+  dollar_by-Shrinks (introduced.OutOfProfile spelling) quoted outer text rest h k = tt
+  dollar_by-Shrinks introduced.Braces quoted outer text rest h k = opening-Shrinks _ outer rest k
+  dollar_by-Shrinks introduced.Parenthesis quoted outer text rest h k =
+      parenthesis-Shrinks outer rest (unspliced rest) k (omega (arith, length-unspliced rest))
+  dollar_by-Shrinks introduced.Name quoted outer text rest h k = k
+  dollar_by-Shrinks introduced.Special quoted outer text rest h k = k
+  dollar_by-Shrinks introduced.Nothing quoted outer text rest h k = h
+
   dollar_at-Shrinks : (quoted : Bool) (outer : Part) (text front : List ℕ) → length text < count → length front < count
       → Shrinks count (dollar_at nest quoted left outer text front)
   dollar_at-Shrinks quoted outer text [] h k = h
   dollar_at-Shrinks quoted outer text (byte ∷ rest) h k =
-      let shorter : length rest < count = omega arith in
-      let inside : length (unspliced rest) < count = omega (arith, length-unspliced rest) in
-      search (Shrinks-if, parenthesis-Shrinks, opening-Shrinks, rules)
+      dollar_by-Shrinks (introduced_by byte) quoted outer text rest h (omega arith)
 
   -- an expansion takes what is behind the `$`
   pub after_dollar-Shrinks : (quoted : Bool) (outer : Part) (text : List ℕ) → length text < count

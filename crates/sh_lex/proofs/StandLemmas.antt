@@ -7,7 +7,7 @@ use Rattle.sh_lex.specs.Texts.{fronts, unspliced, behind_run, behind_comment}
 use Rattle.sh_lex.specs.Acts.{Act, goes, enters, ends, offends, Found, nothing, gap, open_parenthesis, close_parenthesis, token, word, offence}
 use Rattle.sh_lex.specs.Numbers.{begins_with, fits_less, fits_great, number_at}
 use Rattle.sh_lex.specs.Operators.{has_no_word, is_target, and_at, pipe_at, semi_at, less_at, great_at, delimiter, lexeme_at, lexeme}
-use Rattle.sh_lex.specs.Dollars.{opening, substitution, parenthesis, dollar_at, after_dollar}
+use Rattle.sh_lex.specs.Dollars.{opening, substitution, parenthesis, introduced_by, dollar_by, dollar_at, after_dollar}
 use Rattle.sh_lex.specs.Braces.{single_quotes}
 use Rattle.sh_lex.specs.Commands.{word_at, in_word, spot_past, spot_behind}
 use Rattle.sh_lex.specs.Reads.{act, past, Reads, goes_on, reads_inner, has_ended}
@@ -23,6 +23,8 @@ use Rattle.sh_lex.specs.declared.parts.Part.{Part}
 use Rattle.sh_lex.specs.declared.parts.Spot.{Spot}
 use Rattle.sh_lex.specs.declared.parts.Part.TheVariants as part
 use Rattle.sh_lex.specs.declared.parts.Spot.TheVariants as spot
+use Rattle.sh_lex.specs.declared.dollars.Introduced.{Introduced}
+use Rattle.sh_lex.specs.declared.dollars.Introduced.TheVariants as introduced
 use Rattle.sh_lex.specs.declared.tokens.Op.{Op}
 use Rattle.sh_lex.specs.declared.tokens.Op.TheVariants as op
 use Rattle.sh_lex.specs.declared.tokens.Token.{Token}
@@ -283,9 +285,17 @@ module _ (nest : Nest) (left : ℕ) (outer : Part) (is_word : IsWordPart outer) 
   parenthesis_word inner [] = substitution_word inner
   parenthesis_word inner (byte ∷ rest) = search (EndsWord-if, substitution_word, opening_word, rules)
 
+  by_word : (what : Introduced) (quoted : Bool) (text rest : List ℕ) → EndsWord (dollar_by what nest quoted left outer text rest)
+  by_word (introduced.OutOfProfile spelling) quoted text rest = tt
+  by_word introduced.Braces quoted text rest = opening_word _ rest
+  by_word introduced.Parenthesis quoted text rest = parenthesis_word rest (unspliced rest)
+  by_word introduced.Name quoted text rest = is_word
+  by_word introduced.Special quoted text rest = is_word
+  by_word introduced.Nothing quoted text rest = is_word
+
   dollar_word : (quoted : Bool) (text front : List ℕ) → EndsWord (dollar_at nest quoted left outer text front)
   dollar_word quoted text [] = is_word
-  dollar_word quoted text (byte ∷ rest) = search (EndsWord-if, parenthesis_word, opening_word, is_word, rules) depth 12
+  dollar_word quoted text (byte ∷ rest) = by_word (introduced_by byte) quoted text rest
 
 single_word : (left : ℕ) (next : Part) (found : Option (List ℕ)) → IsWordPart next → EndsWord (single_quotes left next found)
 single_word left next None h = tt

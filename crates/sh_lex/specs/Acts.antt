@@ -5,9 +5,7 @@ use Rattle.sh_lex.specs.declared.parts.Part.{Part}
 use Rattle.sh_lex.specs.declared.parts.Fault.{Fault}
 use Rattle.sh_lex.specs.declared.tokens.TokenKind.{TokenKind}
 use Rattle.sh_lex.specs.declared.acts.Step.{Step}
-use Rattle.sh_lex.specs.declared.acts.Lexeme.{Lexeme}
 use Rattle.sh_lex.specs.declared.acts.Step.TheVariants as step
-use Rattle.sh_lex.specs.declared.acts.Lexeme.TheVariants as lexeme
 
 pub data Act : Type 0 where
   -- the construct goes on as this part
@@ -40,13 +38,3 @@ pub data Found : Type 0 where
   word : Found
   -- the text is refused
   offence : Fault → Found
-
--- what the code has found
-abbrev pub found_of : Lexeme → Found
-found_of lexeme.Nothing = nothing
-found_of (lexeme.Gap rest) = gap rest.now
-found_of (lexeme.Open rest) = open_parenthesis rest.now
-found_of (lexeme.Close rest) = close_parenthesis rest.now
-found_of (lexeme.Token kind rest) = token kind rest.now
-found_of lexeme.Word = word
-found_of (lexeme.Offence fault) = offence fault

@@ -14,6 +14,8 @@ use Rattle.sh_lex.specs.declared.parts.Part.TheVariants as part
 use Rattle.sh_lex.specs.declared.parts.Spot.TheVariants as spot
 use Rattle.sh_lex.specs.declared.parts.Fault.TheVariants as fault
 use Rattle.sh_lex.specs.declared.parts.Spelling.TheVariants as spelling
+use Rattle.sh_lex.specs.declared.dollars.Introduced.{Introduced}
+use Rattle.sh_lex.specs.declared.dollars.Introduced.TheVariants as introduced
 
 -- one level deeper
 abbrev pub deeper : Nest → Nest
@@ -41,18 +43,31 @@ parenthesis nest left outer inner (byte ∷ rest) =
     if byte == OPEN then opening nest left (part.Arithmetic (deeper nest) left) outer rest
     else substitution nest left outer inner
 
--- by the first byte behind the `$`
+-- what a `$` introduces (XCU 2.6), by the byte behind it
+unfoldable pub introduced_by : ℕ → Introduced
+introduced_by byte =
+    if byte == DOLLAR then introduced.OutOfProfile spelling.DollarDollar
+    else if byte == BANG then introduced.OutOfProfile spelling.DollarBang
+    else if byte == DASH then introduced.OutOfProfile spelling.DollarDash
+    else if byte == OPEN_BRACE then introduced.Braces
+    else if byte == OPEN then introduced.Parenthesis
+    else if is_name_start byte then introduced.Name
+    else if is_parameter byte then introduced.Special
+    else introduced.Nothing
+
+-- what that does to the construct: `rest` is what is left behind the byte, `text` behind the `$`
+abbrev pub dollar_by : Introduced → Nest → Bool → ℕ → Part → List ℕ → List ℕ → Act
+dollar_by (introduced.OutOfProfile spelling) nest quoted left outer text rest = offends (fault.Spelled spelling left)
+dollar_by introduced.Braces nest quoted left outer text rest =
+    opening nest left (part.BraceHead (inside_braces nest) left quoted) outer rest
+dollar_by introduced.Parenthesis nest quoted left outer text rest = parenthesis nest left outer rest (unspliced rest)
+dollar_by introduced.Name nest quoted left outer text rest = enters part.Name outer rest
+dollar_by introduced.Special nest quoted left outer text rest = goes outer rest
+dollar_by introduced.Nothing nest quoted left outer text rest = goes outer text
+
 abbrev pub dollar_at : Nest → Bool → ℕ → Part → List ℕ → List ℕ → Act
 dollar_at nest quoted left outer text [] = goes outer text
-dollar_at nest quoted left outer text (byte ∷ rest) =
-    if byte == DOLLAR then offends (fault.Spelled spelling.DollarDollar left)
-    else if byte == BANG then offends (fault.Spelled spelling.DollarBang left)
-    else if byte == DASH then offends (fault.Spelled spelling.DollarDash left)
-    else if byte == OPEN_BRACE then opening nest left (part.BraceHead (inside_braces nest) left quoted) outer rest
-    else if byte == OPEN then parenthesis nest left outer rest (unspliced rest)
-    else if is_name_start byte then enters part.Name outer rest
-    else if is_parameter byte then goes outer rest
-    else goes outer text
+dollar_at nest quoted left outer text (byte ∷ rest) = dollar_by (introduced_by byte) nest quoted left outer text rest
 
 -- `quoted` says whether the `$` stands in double quotes
 abbrev pub after_dollar : Nest → Bool → ℕ → Part → List ℕ → Act

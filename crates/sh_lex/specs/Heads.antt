@@ -103,10 +103,6 @@ parameter_at byte rest =
     else if byte == QUESTION then Some (param.Status, false, rest)
     else None
 
-abbrev pub parameter_in : List ℕ → Option (Param × Bool × List ℕ)
-parameter_in [] = None
-parameter_in (byte ∷ rest) = parameter_at byte rest
-
 abbrev pub measured_at : Option (Param × Bool × List ℕ) → Head
 measured_at None = no_form
 measured_at (Some (what, assigns, rest)) = closing_brace what true (unspliced rest)

@@ -14,6 +14,8 @@ use Rattle.sh_lex.specs.declared.tokens.TokenKind.{TokenKind}
 use Rattle.sh_lex.specs.declared.tokens.TokenKind.TheVariants as kind
 use Rattle.sh_lex.specs.declared.tokens.Op.TheVariants as op
 use Rattle.sh_lex.specs.declared.refusals.Static.{Static}
+use Rattle.sh_lex.specs.declared.refusals.LexRefusal.{LexRefusal}
+use Rattle.sh_lex.specs.declared.refusals.LexRefusal.TheVariants as lex
 use Rattle.sh_lex.specs.declared.refusals.Static.TheVariants as static
 use Rattle.sh_lex.specs.declared.parts.Part.{Part}
 use Rattle.sh_lex.specs.declared.parts.Part.TheVariants as part
@@ -117,3 +119,8 @@ pub record HasRefusal (text : List ℕ) (refusal : Static) : Type 0 where
 -- every text has exactly one list of tokens or exactly one refusal, and not both
 abbrev pub HasOneReading : List ℕ → Type 0
 HasOneReading text = ((tokens : List Token) × HasTokens text tokens) ⊎ ((refusal : Static) × HasRefusal text refusal)
+
+-- why there are no tokens: for want of memory, which is free, or for the text's refusal
+abbrev pub Refuses : List ℕ → LexRefusal → Type 0
+Refuses text (lex.Refused refusal) = HasRefusal text refusal
+Refuses text lex.Memory = Unit {0}

@@ -13,6 +13,5 @@ pub mod Commands
 pub mod Reads
 pub mod Lexes
 pub mod Laws
-pub mod Lexing
 pub mod Marks
-pub mod Marking
+pub mod Inner

@@ -2,13 +2,48 @@
 ghost use Rattle.std.specs.Prelude.{◌≡◌, ◌<◌, ◌≤◌, ◌↔◌, IsTrue};
 ghost use Rattle.sh_lex.specs.Texts.{unspliced};
 ghost use Rattle.sh_lex.specs.Acts.{act_of};
-ghost use Rattle.sh_lex.specs.Dollars.{opening, substitution, parenthesis, after_dollar, in_name, deeper, inside_braces};
+ghost use Rattle.sh_lex.specs.Dollars.{introduced_by, opening, substitution, parenthesis, after_dollar, in_name, deeper, inside_braces};
 
 use crate::acts::Step;
 use crate::bytes::{BANG, DASH, DOLLAR, OPEN, OPEN_BRACE, is_parameter};
 use crate::parts::{Fault, MAX_LEVELS, Nest, Part, Spelling, Spot};
 use crate::texts::front;
 use ps_lines::{is_name_byte, is_name_start};
+
+/// What a `$` introduces (XCU 2.6).
+#[derive(Clone, Copy, Debug)]
+pub enum Introduced {
+    /// `$$`, `$!` or `$-`, which aren't in the profile.
+    OutOfProfile(Spelling),
+    /// A `${ }`.
+    Braces,
+    /// A `$( )` or a `$(( ))`.
+    Parenthesis,
+    /// A `$name`, which this byte begins.
+    Name,
+    /// A parameter of this one byte.
+    Special,
+    /// Nothing: the `$` is ordinary.
+    Nothing,
+}
+
+/// What a `$` introduces, by the byte behind it.
+#[inline]
+#[tactic(auto, unfolding(crate::specs::Dollars::introduced_by))]
+pub fn introduced_by(byte: u8) -> Introduced
+    ensures { result ≡ introduced_by byte }
+{
+    match byte {
+        DOLLAR => Introduced::OutOfProfile(Spelling::DollarDollar),
+        BANG => Introduced::OutOfProfile(Spelling::DollarBang),
+        DASH => Introduced::OutOfProfile(Spelling::DollarDash),
+        OPEN_BRACE => Introduced::Braces,
+        OPEN => Introduced::Parenthesis,
+        _ if is_name_start(byte) => Introduced::Name,
+        _ if is_parameter(byte) => Introduced::Special,
+        _ => Introduced::Nothing,
+    }
+}
 
 /// Behind a `$`, at which `left` bytes are left, in the construct `outer`; `quoted`: in double quotes.
 pub fn after_dollar(nest: Nest, quoted: bool, left: usize, outer: Part, text: &[u8]) -> Step<'_>
@@ -17,15 +52,13 @@ pub fn after_dollar(nest: Nest, quoted: bool, left: usize, outer: Part, text: &[
     let Some((byte, rest)) = front(text) else {
         return Step::Goes(outer, text);
     };
-    match byte {
-        DOLLAR => Step::Offends(Fault::Spelled(Spelling::DollarDollar, left)),
-        BANG => Step::Offends(Fault::Spelled(Spelling::DollarBang, left)),
-        DASH => Step::Offends(Fault::Spelled(Spelling::DollarDash, left)),
-        OPEN_BRACE => braces(nest, quoted, left, outer, rest),
-        OPEN => parenthesis(nest, left, outer, rest),
-        _ if is_name_start(byte) => Step::Enters(Part::Name, outer, rest),
-        _ if is_parameter(byte) => Step::Goes(outer, rest),
-        _ => Step::Goes(outer, text),
+    match introduced_by(byte) {
+        Introduced::OutOfProfile(spelling) => Step::Offends(Fault::Spelled(spelling, left)),
+        Introduced::Braces => braces(nest, quoted, left, outer, rest),
+        Introduced::Parenthesis => parenthesis(nest, left, outer, rest),
+        Introduced::Name => Step::Enters(Part::Name, outer, rest),
+        Introduced::Special => Step::Goes(outer, rest),
+        Introduced::Nothing => Step::Goes(outer, text),
     }
 }
 

@@ -3,7 +3,8 @@ ghost use Rattle.std.specs.Prelude.{◌≡◌, ◌∷◌, [], ◌++◌, ℕ, Lis
 ghost use Rattle.std.specs.Char.{is_ascii_digit};
 ghost use Rattle.std.specs.Option.{option_map};
 ghost use Rattle.sh_lex.specs.Texts.{unspliced, run, behind_run};
-ghost use Rattle.sh_lex.specs.Heads.{param_of, head_of, trims, closing_brace, operator_at, colon_at, suffix_at, prefix_at, form_at, place_value, placed, parameter_in, hash_at, brace_head};
+ghost use Rattle.sh_lex.specs.Heads.{param_of, head_of, trims, closing_brace, operator_at, colon_at, suffix_at, prefix_at, form_at, place_value, placed, hash_at, brace_head};
+ghost use Rattle.sh_lex.specs.Inner.Heads.{parameter_in};
 
 use crate::bytes::{
     AT, CLOSE_BRACE, COLON, DASH, EQUALS, HASH, PERCENT, PLUS, QUESTION, STAR, ZERO,

@@ -2,7 +2,8 @@
 ghost use Rattle.std.specs.Prelude.{◌≡◌, ℕ, ◌≤◌, ◌-◌, length, Ok, IfOk, IfErr};
 ghost use Rattle.sh_lex.specs.Texts.{unspliced};
 ghost use Rattle.sh_lex.specs.Lexes.{HasTokens, Tokens, token_between, spelled, told};
-ghost use Rattle.sh_lex.specs.Lexing.{Advances, StopsAt, Refuses};
+ghost use Rattle.sh_lex.specs.Inner.Lexing.{Advances, StopsAt};
+ghost use Rattle.sh_lex.specs.Lexes.{Refuses};
 
 mod marks;
 

@@ -6,8 +6,9 @@
 //! their place.
 //!
 //! `specs/` says what a token is: `Lexes` and `Offence` in `Lexes.antt`, marks in `Marks.antt`, and each construct in a file of its
-//! own; how tokens stand in a text, in words of its own, is in `Laws.antt`. `brace_head`, `behind_run`, `run`, `front` and
-//! `past_construct` are for whoever reads the inside of words.
+//! own; how tokens stand in a text, in words of its own, is in `Laws.antt`. `specs/Inner/` has words that only
+//! proofs and private functions need. `brace_head`, `introduced_by`, `behind_run`, `run`, `front` and `past_construct` are for whoever
+//! reads the inside of words.
 #![tactic(auto)]
 
 mod acts;
@@ -33,6 +34,7 @@ mod words;
 
 pub use acts::Step;
 pub use bytes::is_quoted_escape;
+pub use dollars::{Introduced, introduced_by};
 pub use heads::{Head, Operator, Parameter, brace_head};
 pub use lexing::{MAX_SCRIPT, Mark, lex, read_marks};
 pub use parts::{Fault, Nest, Part, Spelling, Spot};

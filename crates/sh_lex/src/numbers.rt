@@ -2,7 +2,7 @@
 ghost use Rattle.std.specs.Prelude.{◌≡◌, ◌≤◌, ◌<◌, length, Bool, MatchOption, IfOk};
 ghost use Rattle.sh_lex.specs.Texts.{unspliced};
 ghost use Rattle.sh_lex.specs.Numbers.{begins_with, fits_less, fits_great, number_at, after_digit};
-ghost use Rattle.sh_lex.specs.Acts.{found_of};
+ghost use Rattle.sh_lex.specs.Inner.Lexing.{found_of};
 
 use crate::acts::Lexeme;
 use crate::bytes::{AND, GREAT, LESS, ONE, PIPE, TWO, ZERO};

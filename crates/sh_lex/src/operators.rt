@@ -2,7 +2,7 @@
 ghost use Rattle.std.specs.Prelude.{◌≡◌, ◌≤◌, length};
 ghost use Rattle.sh_lex.specs.Texts.{unspliced};
 ghost use Rattle.sh_lex.specs.Operators.{and_at, pipe_at, semi_at, less_at, great_at, delimiter, has_no_word, is_number_or_target, is_target, lexeme};
-ghost use Rattle.sh_lex.specs.Acts.{found_of};
+ghost use Rattle.sh_lex.specs.Inner.Lexing.{found_of};
 
 use crate::acts::Lexeme;
 use crate::bytes::{

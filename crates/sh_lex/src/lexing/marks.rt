@@ -5,8 +5,9 @@ ghost use Rattle.sh_lex.specs.Lexes.{one_word, token_between};
 ghost use Rattle.sh_lex.specs.Operators.{lexeme};
 ghost use Rattle.sh_lex.specs.Reads.{StopsReading};
 ghost use Rattle.sh_lex.specs.Marks.{entry_of, entry_in, opening, closing, begun, behind_word, seen_at, seen, Marked, Marks, HasMarks};
-ghost use Rattle.sh_lex.specs.Lexing.{StopsAt, Refuses};
-ghost use Rattle.sh_lex.specs.Marking.{marks_of, word_marks, LeadsOn};
+ghost use Rattle.sh_lex.specs.Inner.Lexing.{StopsAt};
+ghost use Rattle.sh_lex.specs.Lexes.{Refuses};
+ghost use Rattle.sh_lex.specs.Inner.Marking.{marks_of, word_marks, LeadsOn};
 ghost use Rattle.sh_lex.specs.declared.lexing.marks.Mark.TheVariants as mark;
 ghost use Rattle.sh_lex.specs.declared.reading.Stop.TheVariants as stop_kind;
 

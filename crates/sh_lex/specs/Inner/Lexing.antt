@@ -2,15 +2,26 @@
 use Rattle.std.specs.Prelude.{ℕ, ◌<◌, List, [], length}
 use Rattle.std.specs.declared.result.Result.{Result}
 use Rattle.std.specs.declared.result.Result.TheVariants.{Ok, Err}
-use Rattle.sh_lex.specs.Lexes.{Tokens, token_between, after_token, HasRefusal}
+use Rattle.sh_lex.specs.Acts.{Found, nothing, gap, open_parenthesis, close_parenthesis, token, word, offence}
+use Rattle.sh_lex.specs.Lexes.{Tokens, token_between, after_token}
+use Rattle.sh_lex.specs.declared.acts.Lexeme.{Lexeme}
+use Rattle.sh_lex.specs.declared.acts.Lexeme.TheVariants as lexeme
 use Rattle.sh_lex.specs.declared.lexing.Next.{Next}
 use Rattle.sh_lex.specs.declared.lexing.Next.TheVariants as next
 use Rattle.sh_lex.specs.declared.reading.Stop.{Stop}
 use Rattle.sh_lex.specs.declared.reading.Stop.TheVariants as stop
 use Rattle.sh_lex.specs.declared.parts.Fault.{Fault}
-use Rattle.sh_lex.specs.declared.refusals.LexRefusal.{LexRefusal}
-use Rattle.sh_lex.specs.declared.refusals.LexRefusal.TheVariants as lex
 use Rattle.sh_lex.specs.declared.tokens.Token.{Token}
+
+-- what the code has found
+abbrev pub found_of : Lexeme → Found
+found_of lexeme.Nothing = nothing
+found_of (lexeme.Gap rest) = gap rest.now
+found_of (lexeme.Open rest) = open_parenthesis rest.now
+found_of (lexeme.Close rest) = close_parenthesis rest.now
+found_of (lexeme.Token kind rest) = token kind rest.now
+found_of lexeme.Word = word
+found_of (lexeme.Offence fault) = offence fault
 
 -- what begins at the text, and so how its tokens follow from those of what is left
 abbrev pub Advances : List ℕ → Next → Type 0
@@ -27,8 +38,3 @@ Advances text (next.Token kind rest) =
 abbrev pub StopsAt : ℕ → List ℕ → Stop → Type 0
 StopsAt total text (stop.Refused fault) = Tokens total text (Err fault)
 StopsAt total text stop.Memory = Unit {0}
-
--- why there are no tokens: for want of memory, which is free, or for the text's refusal
-abbrev pub Refuses : List ℕ → LexRefusal → Type 0
-Refuses text (lex.Refused refusal) = HasRefusal text refusal
-Refuses text lex.Memory = Unit {0}

@@ -4,7 +4,7 @@ use Rattle.sh_tree.specs.Trees.{WordTree, no_part, part, PartTree, plain, quoted
 use Rattle.sh_words.specs.Pieces.{before, literal}
 use Rattle.sh_words.specs.Parameters.{check_form}
 use Rattle.sh_tree.specs.Views.{part_tree}
-use Rattle.sh_words.specs.Built.{trees_onto, run_onto, run_ended, is_expansion}
+use Rattle.sh_words.specs.Inner.Built.{trees_onto, run_onto, run_ended, is_expansion}
 use Rattle.sh_tree.specs.declared.words.Part.{Part}
 
 -- two runs of bytes of the same quoting

@@ -3,3 +3,4 @@ pub mod Shrinking
 pub mod ReadLemmas
 pub mod Readings
 pub mod ExtentLemmas
+pub mod NumberLemmas

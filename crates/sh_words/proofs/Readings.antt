@@ -7,7 +7,7 @@ use Rattle.sh_lex.specs.Texts.{unspliced}
 use Rattle.sh_lex.specs.declared.Part.{Part}
 use Rattle.sh_lex.proofs.Fronts.{length-unspliced}
 use Rattle.sh_lex.proofs.Readings as lexed
-use Rattle.sh_words.specs.Built.{open_in}
+use Rattle.sh_words.specs.Inner.Built.{open_in}
 use Rattle.sh_words.specs.Steps.{Step, ends, passes, gives, expands, step}
 use Rattle.sh_lex.specs.Heads.{trims}
 use Rattle.sh_words.specs.Parameters.{Expansion, whole, with_word, commands, arithmetic_text, no_form, expansion, bare_form}

@@ -8,9 +8,12 @@ use Rattle.sh_lex.proofs.Fronts.{length-unspliced, length-behind_run}
 use Rattle.sh_lex.proofs.HeadLemmas as in_head
 use Rattle.sh_tree.specs.Trees.{PartTree}
 use Rattle.sh_tree.specs.declared.words.Param.{Param}
-use Rattle.sh_words.specs.Built.{open_in}
+use Rattle.sh_words.specs.Inner.Built.{open_in}
 use Rattle.sh_words.specs.Steps.{Step, ends, passes, gives, expands, dollar, opened, backslash, escape, unquoted_at, in_quotes_at, word_at, double_quotes_at, single_quotes_at, closing_at, parenthesis_closed, arithmetic_at, step}
-use Rattle.sh_words.specs.Parameters.{Expansion, whole, with_word, commands, arithmetic_text, no_form, braced, parenthesis_at, expansion_at, expansion}
+use Rattle.sh_lex.specs.Dollars.{introduced_by}
+use Rattle.sh_lex.specs.declared.Introduced.{Introduced}
+use Rattle.sh_lex.specs.declared.Introduced.TheVariants as introduced
+use Rattle.sh_words.specs.Parameters.{Expansion, whole, with_word, commands, arithmetic_text, no_form, braced, parenthesis_at, expansion_by, expansion_at, expansion}
 use Rattle.sh_lex.specs.declared.Operator.{Operator}
 use Rattle.sh_words.specs.declared.steps.Owner.{Owner}
 use Rattle.sh_words.specs.declared.steps.Owner.TheVariants as owner
@@ -138,13 +141,18 @@ module _ (count : ℕ) where
   parenthesis-Stays text [] h k = in_tokens h
   parenthesis-Stays text (byte ∷ rest) h k = search (Stays-if, in_whole, in_word, in_tokens, in_text, in_none, rules) depth 12
 
+  expansion_by-Stays : (what : Introduced) (byte : ℕ) (text rest : List ℕ) → length text ≤ count → length rest ≤ count
+      → Stays count (expansion_by what byte text rest)
+  expansion_by-Stays introduced.Braces byte text rest h k = braced-Stays count rest k
+  expansion_by-Stays introduced.Parenthesis byte text rest h k = parenthesis-Stays rest (unspliced rest) k (omega (arith, length-unspliced rest))
+  expansion_by-Stays introduced.Name byte text rest h k = in_whole (omega (arith, length-behind_run is_name_byte text))
+  expansion_by-Stays introduced.Special byte text rest h k = in_whole k
+  expansion_by-Stays (introduced.OutOfProfile spelling) byte text rest h k = in_none
+  expansion_by-Stays introduced.Nothing byte text rest h k = in_none
+
   expansion_at-Stays : (text front : List ℕ) → length text ≤ count → length front ≤ count → Stays count (expansion_at text front)
   expansion_at-Stays text [] h k = in_none
-  expansion_at-Stays text (byte ∷ rest) h k =
-      let less : length rest ≤ count = omega arith in
-      let inside : length (unspliced rest) ≤ count = omega (arith, length-unspliced rest) in
-      let name : length (behind_run is_name_byte text) ≤ count = omega (arith, length-behind_run is_name_byte text) in
-      search (Stays-if, in_whole, braced-Stays, parenthesis-Stays, rules) depth 12
+  expansion_at-Stays text (byte ∷ rest) h k = expansion_by-Stays (introduced_by byte) byte text rest h (omega arith)
 
 pub expansion-Stays : (text : List ℕ) → Stays (length text) (expansion text)
 expansion-Stays text = expansion_at-Stays (length text) text (unspliced text) (omega arith) (length-unspliced text)

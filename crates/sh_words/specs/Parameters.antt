@@ -4,15 +4,16 @@ use Rattle.std.specs.Prelude.{ℕ, Bool, true, false, List, [], ◌∷◌, ◌-�
 use Rattle.sh_tree.specs.Trees.{WordTree, no_part, part, FormTree, bare, length_of, default, assign, check_omitted, check, alternate, cut_suffix, cut_prefix}
 use Rattle.sh_tree.specs.declared.words.Param.{Param}
 use Rattle.sh_tree.specs.declared.words.Param.TheVariants as param
-use Rattle.ps_lines.specs.Bytes.{is_name_start, is_name_byte}
+use Rattle.ps_lines.specs.Bytes.{is_name_byte}
 use Rattle.sh_lex.specs.Texts.{unspliced, run, behind_run}
+use Rattle.sh_lex.specs.Dollars.{introduced_by}
 use Rattle.sh_lex.specs.Heads as head
 use Rattle.sh_lex.specs.Heads.{Head, brace_head}
-use Rattle.sh_lex.specs.declared.bytes.TheConstants.{OPEN_BRACE, OPEN, ZERO, AT, STAR, HASH, QUESTION}
+use Rattle.sh_lex.specs.declared.bytes.TheConstants.{OPEN, ZERO, AT, STAR, HASH, QUESTION}
+use Rattle.sh_lex.specs.declared.Introduced.{Introduced}
+use Rattle.sh_lex.specs.declared.Introduced.TheVariants as introduced
 use Rattle.sh_lex.specs.declared.Operator.{Operator}
 use Rattle.sh_lex.specs.declared.Operator.TheVariants as operator
-use Rattle.sh_words.specs.declared.expansions.Expansion as declared_expansion
-use Rattle.sh_words.specs.declared.expansions.Expansion.TheVariants as expansion_is
 
 pub data Expansion : Type 0 where
   -- a parameter without a word; this is left behind it
@@ -25,14 +26,6 @@ pub data Expansion : Type 0 where
   arithmetic_text : List ℕ → Expansion
   -- a `${` that has none of the forms
   no_form : Expansion
-
--- the expansion that the code has found
-abbrev pub expansion_of : declared_expansion.Expansion → Expansion
-expansion_of (expansion_is.Whole what measured rest) = whole what measured rest.now
-expansion_of (expansion_is.WithWord what by rest) = with_word what by rest.now
-expansion_of (expansion_is.Commands rest) = commands rest.now
-expansion_of (expansion_is.Arithmetic rest) = arithmetic_text rest.now
-expansion_of expansion_is.NoForm = no_form
 
 -- what the beginning of a `${ }` is
 abbrev pub braced : Head → Expansion
@@ -54,14 +47,19 @@ special byte =
     else if byte == QUESTION then param.Status
     else param.Place (byte - ZERO)
 
+-- by what the `$` introduces: `byte` is the first one behind it, `rest` is what is left behind that, and `text` what is left behind the `$`
+abbrev pub expansion_by : Introduced → ℕ → List ℕ → List ℕ → Expansion
+expansion_by introduced.Braces byte text rest = braced (brace_head rest)
+expansion_by introduced.Parenthesis byte text rest = parenthesis_at rest (unspliced rest)
+expansion_by introduced.Name byte text rest = whole (param.Name (run is_name_byte text)) false (behind_run is_name_byte text)
+expansion_by introduced.Special byte text rest = whole (special byte) false rest
+expansion_by (introduced.OutOfProfile spelling) byte text rest = no_form
+expansion_by introduced.Nothing byte text rest = no_form
+
 -- behind the `$` of an expansion
 abbrev pub expansion_at : List ℕ → List ℕ → Expansion
 expansion_at text [] = no_form
-expansion_at text (byte ∷ rest) =
-    if byte == OPEN_BRACE then braced (brace_head rest)
-    else if byte == OPEN then parenthesis_at rest (unspliced rest)
-    else if is_name_start byte then whole (param.Name (run is_name_byte text)) false (behind_run is_name_byte text)
-    else whole (special byte) false rest
+expansion_at text (byte ∷ rest) = expansion_by (introduced_by byte) byte text rest
 
 abbrev pub expansion : List ℕ → Expansion
 expansion text = expansion_at text (unspliced text)

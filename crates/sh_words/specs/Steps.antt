@@ -2,17 +2,17 @@
 -- A list is what is left of the text behind the piece.
 use Rattle.std.specs.Prelude.{ℕ, Bool, true, false, List, [], ◌∷◌, ◌+◌, ◌-◌, ◌==◌, ◌||◌, ◌&&◌, if◌then◌else◌, length}
 use Rattle.sh_tree.specs.Trees.{PartTree, plain, quoted}
-use Rattle.ps_lines.specs.Bytes.{is_name_start}
-use Rattle.sh_lex.specs.Bytes.{is_parameter, is_quoted_escape}
+use Rattle.sh_lex.specs.Bytes.{is_quoted_escape}
+use Rattle.sh_lex.specs.Dollars.{introduced_by}
 use Rattle.sh_lex.specs.Texts.{unspliced}
-use Rattle.sh_lex.specs.declared.bytes.TheConstants.{DOUBLE_QUOTE, DOLLAR, BACKSLASH, QUOTE, OPEN_BRACE, CLOSE_BRACE, OPEN, CLOSE}
+use Rattle.sh_lex.specs.declared.bytes.TheConstants.{DOUBLE_QUOTE, DOLLAR, BACKSLASH, QUOTE, CLOSE_BRACE, OPEN, CLOSE}
+use Rattle.sh_lex.specs.declared.Introduced.{Introduced}
+use Rattle.sh_lex.specs.declared.Introduced.TheVariants as introduced
 use Rattle.sh_words.specs.Pieces.{literal}
 use Rattle.sh_words.specs.declared.steps.Owner.{Owner}
 use Rattle.sh_words.specs.declared.steps.Owner.TheVariants as owner
 use Rattle.sh_words.specs.declared.steps.Mode.{Mode}
 use Rattle.sh_words.specs.declared.steps.Mode.TheVariants as mode
-use Rattle.sh_words.specs.declared.steps.Step as declared_step
-use Rattle.sh_words.specs.declared.steps.Step.TheVariants as step_is
 
 pub data Step : Type 0 where
   -- what the text stands in has ended
@@ -24,18 +24,19 @@ pub data Step : Type 0 where
   -- an expansion, with whether it is quoted and with how many bytes are left at its `$`
   expands : Bool → ℕ → List ℕ → Step
 
--- the step of the code
-abbrev pub step_of : declared_step.Step → Step
-step_of (step_is.Ends rest) = ends rest.now
-step_of (step_is.Passes next rest) = passes next rest.now
-step_of (step_is.Byte is_quoted byte next rest) = gives (literal is_quoted (byte ∷ [])) next rest.now
-step_of (step_is.Empty next rest) = gives (quoted []) next rest.now
-step_of (step_is.Expands is_quoted left rest) = expands is_quoted left rest.now
+-- a `$` introduces an expansion (XCU 2.6)
+abbrev pub is_introduced : Introduced → Bool
+is_introduced (introduced.OutOfProfile spelling) = false
+is_introduced introduced.Braces = true
+is_introduced introduced.Parenthesis = true
+is_introduced introduced.Name = true
+is_introduced introduced.Special = true
+is_introduced introduced.Nothing = false
 
--- after a `$` this byte begins an expansion (XCU 2.6)
+-- so it is where this stands behind it
 abbrev pub begins_expansion : List ℕ → Bool
 begins_expansion [] = false
-begins_expansion (byte ∷ rest) = (byte == OPEN_BRACE) || (byte == OPEN) || is_name_start byte || is_parameter byte
+begins_expansion (byte ∷ rest) = is_introduced (introduced_by byte)
 
 -- a `$`, with whether its expansion is quoted and whether bytes are: where it begins no expansion it is a byte
 abbrev pub dollar : Bool → Bool → Mode → List ℕ → Step

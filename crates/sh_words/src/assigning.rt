@@ -2,7 +2,7 @@
 ghost use Rattle.std.specs.Prelude.{◌≡◌, false};
 ghost use Rattle.sh_tree.specs.Trees.{no_part};
 ghost use Rattle.sh_tree.specs.Views.{word_tree, part_tree, form_tree};
-ghost use Rattle.sh_words.specs.Built.{trees_onto};
+ghost use Rattle.sh_words.specs.Inner.Built.{trees_onto};
 ghost use Rattle.sh_words.specs.Assigning.{is_pair, text_assigns, word_assigns, part_assigns, form_assigns};
 
 use sh_tree::{Form, Part, Word};

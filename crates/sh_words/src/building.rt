@@ -4,7 +4,7 @@ ghost use Rattle.sh_tree.specs.Trees.{WordTree, no_part, part, quoted};
 ghost use Rattle.std.specs.Option.{option_map};
 ghost use Rattle.sh_words.specs.Pieces.{before, found_before, literal};
 ghost use Rattle.sh_tree.specs.Views.{part_tree};
-ghost use Rattle.sh_words.specs.Built.{trees_onto, run_onto, built, ended, is_expansion, is_found};
+ghost use Rattle.sh_words.specs.Inner.Built.{trees_onto, run_onto, built, ended, is_expansion, is_found};
 
 use ps_lines::{Memory, Text};
 use sh_tree::Part;

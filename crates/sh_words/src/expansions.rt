@@ -4,10 +4,13 @@ ghost use Rattle.ps_lines.specs.Bytes.{is_name_byte};
 ghost use Rattle.sh_lex.specs.Texts.{unspliced, run};
 ghost use Rattle.sh_lex.specs.Heads.{param_of, head_of};
 ghost use Rattle.sh_tree.specs.Views.{word_tree, form_tree};
-ghost use Rattle.sh_words.specs.Parameters.{expansion_of, braced, parenthesis_at, special, expansion, check_form, form_of, bare_form};
+ghost use Rattle.sh_words.specs.Parameters.{braced, parenthesis_at, special, expansion, check_form, form_of, bare_form};
+ghost use Rattle.sh_words.specs.Inner.Built.{expansion_of};
 
-use ps_lines::{Memory, Text, is_name_start};
-use sh_lex::{Class, Head, Operator, Parameter, behind_run, brace_head, front, run};
+use ps_lines::{Memory, Text};
+use sh_lex::{
+    Class, Head, Introduced, Operator, Parameter, behind_run, brace_head, front, introduced_by, run,
+};
 use sh_tree::{Form, Param, Word};
 use std::alloc::Global;
 
@@ -68,14 +71,15 @@ pub fn find_expansion(alloc: Global, text: &[u8]) -> Result<Expansion<'_>, Memor
     let Some((byte, rest)) = front(text) else {
         return Ok(Expansion::NoForm);
     };
-    match byte {
-        b'{' => braced(alloc, brace_head(rest)),
-        b'(' => Ok(parenthesis(rest)),
-        _ if is_name_start(byte) => {
+    match introduced_by(byte) {
+        Introduced::Braces => braced(alloc, brace_head(rest)),
+        Introduced::Parenthesis => Ok(parenthesis(rest)),
+        Introduced::Name => {
             let name = Param::Name(name(alloc, text)?);
             Ok(Expansion::Whole(name, false, behind_run(Class::Name, text)))
         }
-        _ => Ok(Expansion::Whole(special(byte), false, rest)),
+        Introduced::Special => Ok(Expansion::Whole(special(byte), false, rest)),
+        Introduced::OutOfProfile(_) | Introduced::Nothing => Ok(Expansion::NoForm),
     }
 }
 

@@ -6,7 +6,8 @@ ghost use Rattle.sh_tree.specs.Views.{word_tree, part_tree, form_tree};
 ghost use Rattle.sh_lex.specs.Heads.{trims};
 ghost use Rattle.sh_words.specs.Parameters as form;
 ghost use Rattle.sh_words.specs.Words.{made, Passes, in_commands, in_braces, behind_byte, ReadsPieces, ReadsExpansion, ReadsBehind, ReadsWord, assigned_name, ReadsAssign};
-ghost use Rattle.sh_words.specs.Built.{trees_onto, open_in, is_found, done_of, made_of, outcome_of};
+ghost use Rattle.sh_words.specs.Built.{outcome_of};
+ghost use Rattle.sh_words.specs.Inner.Built.{trees_onto, open_in, is_found, done_of, made_of};
 
 use crate::building::Building;
 use crate::expansions::{Expansion, bare_form, find_expansion, form_with, name};
@@ -244,7 +245,6 @@ fn pieces<'a>(
 
 /// Reads an expansion at whose `$` so many bytes are left, by the text behind that.
 #[cycle(words)]
-#[tactic(auto, using(crate::proofs::ReadLemmas::parameter_read))]
 fn expanded<'a>(
     alloc: Global,
     known: Known<'_>,

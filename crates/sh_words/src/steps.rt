@@ -1,12 +1,12 @@
 //! Quoting (XCU 2.2): the next piece of a text, by what it stands in.
 ghost use Rattle.std.specs.Prelude.{◌≡◌, ◌∷◌, ◌+◌, ◌<◌, ◌≤◌, ◌^◌, length};
 ghost use Rattle.sh_lex.specs.Texts.{unspliced};
-ghost use Rattle.sh_words.specs.Steps.{step_of, step, begins_expansion, dollar, opened, backslash, escape, unquoted_at, in_quotes_at, word_at, double_quotes_at, single_quotes_at, closing_at, parenthesis_closed, arithmetic_at};
-ghost use Rattle.sh_words.specs.Built.{open_in};
+ghost use Rattle.sh_words.specs.Steps.{step, begins_expansion, dollar, opened, backslash, escape, unquoted_at, in_quotes_at, word_at, double_quotes_at, single_quotes_at, closing_at, parenthesis_closed, arithmetic_at};
+ghost use Rattle.sh_words.specs.Inner.Built.{step_of};
+ghost use Rattle.sh_words.specs.Inner.Built.{open_in};
 ghost use Rattle.sh_lex.specs.declared.bytes.TheConstants.{DOUBLE_QUOTE, QUOTE};
 
-use ps_lines::is_name_start;
-use sh_lex::{front, is_quoted_escape};
+use sh_lex::{Introduced, front, introduced_by, is_quoted_escape};
 
 /// Whose word is read.
 #[derive(Clone, Copy, Debug)]
@@ -172,22 +172,18 @@ fn dollar(quoted: bool, bytes_quoted: bool, mode: Mode, rest: &[u8]) -> Step<'_>
     }
 }
 
-/// Whether a `$` before this text begins an expansion (XCU 2.6).
-#[tactic(auto, unfolding(sh_lex::specs::Bytes::is_parameter))]
+/// Whether a `$` before this text begins an expansion (XCU 2.6). One that isn't in the profile doesn't.
 fn begins_expansion(text: &[u8]) -> bool
     ensures { result ≡ begins_expansion (unspliced text.now) }
 {
     let Some((byte, _)) = front(text) else {
         return false;
     };
-    byte == b'{'
-        || byte == b'('
-        || is_name_start(byte)
-        || byte.is_ascii_digit()
-        || byte == b'@'
-        || byte == b'*'
-        || byte == b'#'
-        || byte == b'?'
+    match introduced_by(byte) {
+        Introduced::Braces | Introduced::Parenthesis | Introduced::Name | Introduced::Special =>
+            true,
+        Introduced::OutOfProfile(_) | Introduced::Nothing => false,
+    }
 }
 
 /// Behind a `"` that opens.

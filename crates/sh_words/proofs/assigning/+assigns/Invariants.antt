@@ -1,7 +1,7 @@
 -- What the parts that are left assign is what all assign.
 use Rattle.std.proofs.Common.{◌≡◌, drop}
 use Rattle.sh_tree.specs.Trees.{no_part}
-use Rattle.sh_words.specs.Built.{trees_onto}
+use Rattle.sh_words.specs.Inner.Built.{trees_onto}
 use Rattle.sh_words.specs.Assigning.{word_assigns}
 use Rattle.sh_words.proofs.assigning.+assigns.Given as goal
 

@@ -4,7 +4,7 @@ use Rattle.sh_tree.specs.declared.words.Form.TheVariants as form_is
 use Rattle.sh_tree.specs.Trees.{no_part, check}
 use Rattle.sh_tree.specs.Views.{word_tree, form_tree}
 use Rattle.sh_words.specs.Parameters.{check_form}
-use Rattle.sh_words.specs.Built.{trees_onto}
+use Rattle.sh_words.specs.Inner.Built.{trees_onto}
 use Rattle.sh_words.proofs.BuildingLemmas.{check_form-some}
 use Rattle.sh_words.proofs.expansions.check.Goals as goal
 

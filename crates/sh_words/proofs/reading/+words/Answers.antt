@@ -1,11 +1,12 @@
-use Rattle.std.proofs.Common.{◌<◌, None, [], ◌∷◌, length, sym, ◌∙◌, ap, subst, arith, rules}
+use Rattle.std.proofs.Common.{◌≡◌, ◌<◌, None, [], ◌∷◌, length, sym, ◌∙◌, ap, subst, arith, rules}
 use Rattle.std.specs.Option.{option_map, option_or}
 use Rattle.sh_tree.specs.Trees.{no_part, quoted, parameter}
 use Rattle.sh_words.specs.Pieces.{before, found_before, literal}
 use Rattle.sh_words.specs.Parameters as form
 use Rattle.sh_tree.specs.Views.{part_tree}
 use Rattle.sh_words.specs.Words.{done, ReadsPieces, has_ended, passes_on, gives_piece, expands_to}
-use Rattle.sh_words.proofs.ReadLemmas.{word_read, word_deep, arithmetic_read, arithmetic_deep, ended_read, found_read}
+use Rattle.sh_words.specs.Inner.Built.{expansion_of}
+use Rattle.sh_words.proofs.ReadLemmas.{parameter_read, word_read, word_deep, arithmetic_read, arithmetic_deep, ended_read, found_read}
 use Rattle.sh_words.proofs.Readings.{passes-less, gives-less, expands-less, expansion-Leaves}
 use Rattle.sh_words.proofs.reading.+words.Goals as goal
 
@@ -113,3 +114,11 @@ pub arithmetic-returns-clause-read : goal.arithmetic-returns-clause-read
 arithmetic-returns-clause-read t c = λ whole e.
     arithmetic_read c.args.most c.args.left c.args.number c.args.quoted whole c.args.text.now
     _ _ _ _ _ (λ none. search rules) e c.in_ok-parts.ensures c.arithmetic_part.ensures
+
+pub expanded-returns-in-Whole-clause-read : goal.expanded-returns-in-Whole-clause-read
+expanded-returns-in-Whole-clause-read t c =
+    let found : form.whole c.in-Whole.what c.in-Whole.measured c.in-Whole.rest.now ≡ form.expansion c.args.text.now
+    = ap expansion_of (sym c.in-Whole.is) ∙ c.in_ok-what.ensures in
+    parameter_read c.args.most c.args.left c.args.number c.args.quoted c.in-Whole.measured c.in-Whole.what c.args.text.now
+    c.in-Whole.rest.now (part_tree c.parameter_part.result) found
+    (c.parameter_part.ensures ∙ ap (λ f. parameter c.in-Whole.what f c.args.quoted) c.bare_form.ensures)

@@ -2,7 +2,7 @@
 use Rattle.std.proofs.Common.{ℕ, ◌+◌, ◌*◌, ◌≤◌, Option, List, length}
 use Rattle.std.specs.Option.{option_or}
 use Rattle.sh_tree.specs.Trees.{WordTree}
-use Rattle.sh_words.specs.Built.{built, open_in}
+use Rattle.sh_words.specs.Inner.Built.{built, open_in}
 use Rattle.sh_words.specs.Words.{done, ReadsPieces}
 use Rattle.sh_words.proofs.reading.+words.Given as goal
 

@@ -7,7 +7,7 @@ use Rattle.sh_parse.specs.Pieces.{WordViews, Piece, assign, argument, redirectio
 use Rattle.sh_parse.specs.Places.{used, redirects, begins_piece, is_name, begins_pipeline, is_used}
 use Rattle.sh_parse.specs.Inner.Owed.{Part, Move, Next, Verdict, pieces, a_pipeline, a_command, pipes, next_command, joins, next_pipeline, separator, again, body, close_brace, close_parenthesis, close_substitution, then_body, branches, end_if, do_body, end_loop, loop_name, loop_head, loop_lines, loop_separator, loop_do, operator, target, substitutions, push, opens, skip, stuck, move, moved, step, levels, verdict, verdict_behind, goes, deeper, fails, deep, fine, bad, may_end, is_option, branch_by, word_by, redirection_by, piece_by, needed, command_by, pipeline_by, followed}
 use Rattle.sh_parse.specs.Grammar as g
-use Rattle.sh_parse.specs.Grammar.{NoneNext, IsAgain, IsBody, IsList, IsSeparated, IsJoined, IsNextPipeline, IsPipeline, IsPiped, IsNextCommand, IsCommand, IsBranches, IsLoopHead, IsLoopLines, IsLoopSeparator, IsLoopDo, IsPieces, IsPiece, IsSubs, is_sub_open, is_pipe, is_join, is_separator, is_newline, goes_on, is_bang}
+use Rattle.sh_parse.specs.Grammar.{NoneNext, IsAgain, IsBody, IsList, IsSeparated, IsJoined, IsNextPipeline, IsPipeline, IsPiped, IsNextCommand, IsCommand, IsBranches, IsLoopHead, IsLoopLines, IsLoopSeparator, IsLoopDo, IsPieces, IsPiece, IsSubs, is_sub_open, is_pipe, is_join, is_separator, goes_on}
 use Rattle.sh_parse.specs.declared.items.Item.{Item}
 use Rattle.sh_parse.specs.declared.items.Item.TheVariants as token
 use Rattle.sh_parse.specs.declared.items.WordKind.{WordKind}

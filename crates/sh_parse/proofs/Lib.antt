@@ -10,6 +10,7 @@ pub mod Lists
 pub mod Arounds
 pub mod Walks
 pub mod Spellings
+pub mod KindLemmas
 pub mod Behinds
 pub mod OneList
 pub mod TextItems

@@ -1,8 +1,7 @@
 -- Moves of the code against those of the definitions.
 use Rattle.std.proofs.Common.{◌≡◌, ◌∙◌, ◌+◌, cond, if◌then◌else◌, arith, Bool, true, false, List, [], ◌∷◌, ◌++◌, refl, ap}
 use Rattle.std.proofs.lemmas.List.{append-nil}
-use Rattle.sh_parse.specs.Inner.Owed.{Part, Move, push, opens, skip, stuck, move, levels, is_level, may_end, is_option, pipes, joins, separator, next_command, next_pipeline, again, body, followed, pipeline_by, command_by}
-use Rattle.sh_parse.specs.Grammar.{is_bang}
+use Rattle.sh_parse.specs.Inner.Owed.{Part, Move, push, opens, skip, stuck, move, levels, is_level, may_end, is_option, pipes, joins, separator, next_command, next_pipeline, again, body, followed, pipeline_by, command_by, is_bang}
 use Rattle.sh_parse.specs.Inner.Moves.{with_more, stacked}
 use Rattle.sh_parse.specs.declared.items.Item.{Item}
 use Rattle.sh_parse.specs.declared.items.Item.TheVariants as token

@@ -11,7 +11,8 @@ use Rattle.sh_parse.specs.Outcomes.{Reading, IsSound, EndsAt, IsScript, IsStoppe
 use Rattle.sh_parse.specs.Inner.WordsOf.{words_of}
 use Rattle.sh_parse.proofs.ManyWords.{some_words}
 use Rattle.sh_parse.specs.Stops.{Refuses as RefusesGrammar}
-use Rattle.sh_parse.specs.Parses.{Refuses, RefusesItems, of_grammar}
+use Rattle.sh_parse.specs.Parses.{Refuses}
+use Rattle.sh_parse.specs.Inner.Parses.{RefusesItems, of_grammar}
 use Rattle.sh_parse.specs.declared.refusals.GrammarRefusal.{GrammarRefusal}
 use Rattle.sh_parse.specs.declared.refusals.GrammarRefusal.TheVariants as grammar
 use Rattle.sh_parse.specs.declared.refusals.Refusal.TheVariants as refusal

@@ -1,5 +1,5 @@
 -- A word without backslash-newlines, by its first byte.
-use Rattle.std.proofs.Common.{◌≡◌, ℕ, List, [], ◌∷◌, ◌++◌, map, sym, ◌∙◌, ap, append_assoc}
+use Rattle.std.proofs.Common.{◌≡◌, ℕ, List, [], ◌∷◌, ◌++◌, map, take, sym, ◌∙◌, ap, append_assoc}
 use Rattle.std.proofs.lemmas.List.{append-nil}
 use Rattle.sh_lex.specs.Texts.{unspliced}
 use Rattle.sh_lex.proofs.Fronts.{fronts-none, fronts-more}
@@ -23,3 +23,11 @@ grown all before after more left byte h e p =
 
 pub whole : (all before more : List ℕ) → all ≡ before ++ more → more ≡ [] → before ≡ all
 whole all before more h e = sym (h ∙ ap (λ m. before ++ m) e ∙ append-nil before)
+
+-- the first byte, where there is one
+pub first_pushed : (before after text rest : List ℕ) (byte : ℕ) → unspliced text ≡ byte ∷ rest → after ≡ before ++ byte ∷ []
+    → after ≡ before ++ take 1 (spelled text)
+first_pushed before after text rest byte h p = p ∙ ap (λ x. before ++ take 1 x) (sym (spelled-front byte rest text h))
+
+pub none_pushed : (before text : List ℕ) → unspliced text ≡ [] → before ≡ before ++ take 1 (spelled text)
+none_pushed before text h = sym (append-nil before) ∙ ap (λ x. before ++ take 1 x) (sym (spelled-none text h))

@@ -36,18 +36,10 @@ abbrev pub is_join : Item → Bool
 is_join (token.Join _) = true
 is_join _ = false
 
-abbrev pub is_newline : Item → Bool
-is_newline token.Newline = true
-is_newline _ = false
-
 abbrev pub is_separator : Item → Bool
 is_separator token.Semi = true
 is_separator token.Newline = true
 is_separator _ = false
-
-abbrev pub is_bang : Item → Bool
-is_bang (token.Word (word.Reserved reserved.Bang) _) = true
-is_bang _ = false
 
 -- a list goes on: with a newline or a pipeline
 abbrev pub goes_on : Item → Bool

@@ -1,6 +1,7 @@
 //! What the bytes of a word allow it to be.
-ghost use Rattle.std.specs.Prelude.{◌≡◌, IfOk};
+ghost use Rattle.std.specs.Prelude.{◌≡◌, ◌++◌, take, IfOk, OnOk};
 ghost use Rattle.sh_parse.specs.Kinds.{spelled, reserved_by, are_name_bytes, is_name_text, goes_to_value, is_assign, other_kind, kind_of};
+ghost use Rattle.sh_parse.specs.Inner.Kinds.{deciding};
 
 use crate::items::{Reserved, WordKind};
 use ps_lines::{Memory, is_name_byte, is_name_start};
@@ -40,12 +41,41 @@ const ESAC: &[u8] = b"esac";
 
 const IN: &[u8] = b"in";
 
-/// What a word is, by its bytes in the script.
+/// What a word is, by its bytes in the script. Only those that decide it are read and copied: a word may have many others, among them
+/// those of the words inside it.
+#[tactic(auto, using(crate::proofs::KindLemmas::decided))]
 pub fn word_kind(alloc: Global, word: &[u8]) -> Result<WordKind, Memory>
     ensures { IfOk result (λ kind. kind ≡ kind_of (spelled word.now)) }
 {
-    let bytes = spelled(alloc, word)?;
+    let bytes = deciding(alloc, word)?;
     Ok(kind_of(bytes.as_slice()))
+}
+
+/// The bytes of a word that decide what it is: up to the first that no name has, and one more.
+fn deciding(alloc: Global, word: &[u8]) -> Result<Vec<u8>, Memory>
+    ensures { IfOk result (λ bytes. bytes.items ≡ deciding (spelled word.now)) }
+{
+    let mut bytes = Vec::new(alloc);
+    let mut rest = word;
+    while let Some((byte, after)) = front(rest) {
+        bytes.push(byte)?;
+        if !is_name_byte(byte) {
+            push_first(&mut bytes, after)?;
+            return Ok(bytes);
+        }
+        rest = after;
+    }
+    Ok(bytes)
+}
+
+/// Appends the first byte of what is left of a word, where there is one.
+fn push_first(bytes: &mut Vec<u8>, text: &[u8]) -> Result<(), Memory>
+    ensures { OnOk result (bytes.new.items ≡ bytes.old.items ++ take 1 (spelled text.now)) }
+{
+    if let Some((byte, _)) = front(text) {
+        bytes.push(byte)?;
+    }
+    Ok(())
 }
 
 /// A word without backslash-newlines (XCU 2.2.1).

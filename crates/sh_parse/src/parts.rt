@@ -1,7 +1,6 @@
 //! What is still owed: the rest of each rule that is open.
 ghost use Rattle.std.specs.Prelude.{◌≡◌, [], ◌∷◌, if◌then◌else◌};
-ghost use Rattle.sh_parse.specs.Inner.Owed.{push, skip, stuck, loop_name, loop_head, loop_lines, is_level, is_option, move, compound_by, word_by, redirection_by, piece_by, command_by, pipeline_by, followed, branch_by};
-ghost use Rattle.sh_parse.specs.Grammar.{is_bang};
+ghost use Rattle.sh_parse.specs.Inner.Owed.{push, skip, stuck, loop_name, loop_head, loop_lines, is_level, is_option, move, compound_by, word_by, redirection_by, piece_by, command_by, pipeline_by, followed, branch_by, is_bang};
 ghost use Rattle.sh_parse.specs.Inner.Moves.{parts_of, move_of, owing_of};
 ghost use Rattle.sh_parse.specs.declared.items.Item.TheVariants as token;
 ghost use Rattle.sh_parse.specs.declared.items.Span.{Span};

@@ -5,7 +5,8 @@ ghost use Rattle.sh_tree.specs.Views.{script_tree};
 ghost use Rattle.sh_tree.specs.Numbering.{IsNumberedScript};
 ghost use Rattle.sh_parse.specs.Outcomes.{IsScript, IsSound};
 ghost use Rattle.sh_parse.specs.Inner.WordsOf.{words_of};
-ghost use Rattle.sh_parse.specs.Parses.{Refuses, RefusesItems, of_misuse, of_grammar};
+ghost use Rattle.sh_parse.specs.Parses.{Refuses};
+ghost use Rattle.sh_parse.specs.Inner.Parses.{RefusesItems, of_misuse, of_grammar};
 
 use crate::checking::check;
 use crate::items::Item;
@@ -71,7 +72,7 @@ fn parse_text(alloc: Global, text: &[u8], items: &[Item]) -> Result<Script, Pars
     ensures script { IfOk result (λ script. IsSound (script_tree script) (words_of text.now) items.now) }
     ensures refusal { IfErr result (λ refusal. RefusesItems (words_of text.now) items.now refusal) }
 {
-    match TextWords::of(alloc, text) {
+    match TextWords::of(alloc, text, items) {
         Ok(words) => parse_with(alloc, &words, items),
         Err(Memory) => Err(ParseRefusal::Memory),
     }

@@ -7,7 +7,7 @@ ghost use Rattle.sh_words.specs.Words.{ReadsWord};
 ghost use Rattle.sh_words.specs.Built.{outcome_of};
 ghost use Rattle.sh_parse.specs.Outcomes.{bytes_at, in_text};
 
-use crate::items::Span;
+use crate::items::{Item, Span};
 use crate::kinds::spelled;
 use crate::readers::{Look, WordReader};
 use crate::texts::between;
@@ -26,13 +26,18 @@ pub struct TextWords<'a> {
 }
 
 impl<'a> TextWords<'a> {
-    /// The words of this text.
-    pub fn of(alloc: Global, text: &'a [u8]) -> Result<TextWords<'a>, Memory>
+    /// The words of this text, which has these items. Where none of them opens a command substitution, the text isn't searched for any.
+    pub fn of(alloc: Global, text: &'a [u8], items: &[Item]) -> Result<TextWords<'a>, Memory>
         ensures { IfOk result (λ words. words.text.now ≡ text.now) }
     {
+        let substitutions = if items.iter().any(|item| matches!(item, Item::SubOpen(_))) {
+            Substitutions::of(alloc, text)?
+        } else {
+            Substitutions::none(alloc)
+        };
         Ok(TextWords {
             text,
-            substitutions: Substitutions::of(alloc, text)?,
+            substitutions,
         })
     }
 

@@ -1,7 +1,7 @@
 //! The items of a text.
 ghost use Rattle.std.specs.Prelude.{◌≡◌, ◌∷◌, [], ℕ, List, drop, reverse, IfOk, IfErr, OnOk};
 ghost use Rattle.std.specs.List.{between};
-ghost use Rattle.sh_lex.specs.Lexing.{Refuses};
+ghost use Rattle.sh_lex.specs.Lexes.{Refuses};
 ghost use Rattle.sh_lex.specs.declared.lexing.marks.Mark.{Mark};
 ghost use Rattle.sh_parse.specs.Texts.{word_item, word_end, digit_at, operator_item, token_item, items_of, HasItems};
 ghost use Rattle.sh_parse.specs.Inner.Behind.{open_ends, IsBehind};

@@ -16,6 +16,11 @@ use Rattle.sh_parse.specs.declared.pieces.Place.TheVariants as place
 use Rattle.sh_parse.specs.declared.pieces.Use.{Use}
 use Rattle.sh_parse.specs.declared.pieces.Use.TheVariants as use_as
 
+-- the word `!`
+abbrev pub is_bang : Item → Bool
+is_bang (item.Word (word.Reserved reserved.Bang) _) = true
+is_bang _ = false
+
 -- the parts that stand for an open level
 abbrev pub is_level : Part → Bool
 is_level close_brace = true

@@ -1,7 +1,7 @@
 use Rattle.std.proofs.Common.{subst, IfOk, IfErr}
 use Rattle.sh_tree.specs.Views.{script_tree}
 use Rattle.sh_parse.specs.Outcomes.{IsSound}
-use Rattle.sh_parse.specs.Parses.{RefusesItems}
+use Rattle.sh_parse.specs.Inner.Parses.{RefusesItems}
 use Rattle.sh_parse.specs.Inner.WordsOf.{words_of}
 use Rattle.sh_parse.proofs.scripts.parse_text.Goals as goal
 

@@ -1,7 +1,7 @@
 use Rattle.std.proofs.Common.{◌∙◌, sym, subst}
 use Rattle.sh_parse.specs.Stops.{HasScript}
 use Rattle.sh_parse.specs.Misuses.{FirstMisuse}
-use Rattle.sh_parse.specs.Parses.{RefusesItems}
+use Rattle.sh_parse.specs.Inner.Parses.{RefusesItems}
 use Rattle.sh_parse.specs.declared.items.TheConstants.{MAX_LEVELS}
 use Rattle.sh_parse.proofs.Builds.{script_is}
 use Rattle.sh_parse.proofs.Parsings.{grammar_told}

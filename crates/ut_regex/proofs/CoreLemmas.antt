@@ -2,7 +2,7 @@
 use Rattle.std.proofs.Common.{ℕ, zero, suc, ◌≡◌, ◌+◌, ◌<◌, ◌≤◌, ◌⊎◌, inl, inr, Bool, true, false, ◌&&◌, ◌||◌, ◌==◌, List, length, slice_index_or, refl, ap, sym, subst, arith}
 use Rattle.std.proofs.lemmas.Bool.Decides.{Decides-eqb, leb_tells}
 use Rattle.ut_regex.specs.Spans.{fits, Copies}
-use Rattle.ut_regex.specs.Program.{Core, point, at_begin, at_end, nothing, both, either, many, maybe}
+use Rattle.ut_regex.specs.Inner.Program.{Core, point, at_begin, at_end, nothing, both, either, many, maybe}
 use Rattle.ut_regex.proofs.Marks.{shape, skips, closes, passes, entering, Runs, Behind, Closed, Right}
 
 -- tests joined by and, and by or

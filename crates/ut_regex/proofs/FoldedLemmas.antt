@@ -3,7 +3,7 @@ use Rattle.std.proofs.Common.{ℕ, ◌≡◌, ◌+◌, ◌-◌, ◌<◌, ◌≤�
 use Rattle.std.proofs.lemmas.Bool.{cases_lt}
 use Rattle.std.proofs.lemmas.List.{get_or-drop, get_or_default}
 use Rattle.memchr.specs.Find.{Nowhere, Passes, IsFirstByte, is_byte2}
-use Rattle.ut_regex.specs.Literals.{StandsAt}
+use Rattle.ut_regex.specs.Inner.Literals.{StandsAt}
 use Rattle.ut_regex.specs.Spans.{other_case}
 use Rattle.ut_regex.proofs.LiteralLemmas.{fits_either, stands_fits, stands_long, stands_within}
 

@@ -7,7 +7,7 @@ use Rattle.ut_regex.specs.declared.pieces.Piece.{Piece}
 use Rattle.ut_regex.specs.declared.pieces.Piece.TheVariants as piece
 use Rattle.ut_regex.specs.declared.tree.Node.TheVariants as node
 use Rattle.ut_regex.specs.Tree.{Tree, with_node}
-use Rattle.ut_regex.specs.Building.{Built, start, fresh, joined, one_more, side_ended, ended, with_item, with_part, grown, grown_by}
+use Rattle.ut_regex.specs.Inner.Building.{Built, start, fresh, joined, one_more, side_ended, ended, with_item, with_part, grown, grown_by}
 use Rattle.ut_regex.specs.Grammar.{IsPart, one_byte, in_group, repeated, IsItem, part, begins, ends, IsRow, item, behind, IsSide, nothing, row, IsSides, side, either}
 
 pub grown_by-append : (front back : List Piece) (s : Built) → grown_by (front ++ back) s ≡ grown_by back (grown_by front s)

@@ -13,15 +13,16 @@ use Rattle.ut_regex.specs.declared.matcher.Matcher.{Matcher}
 use Rattle.ut_regex.specs.declared.table.Table.{Table}
 use Rattle.ut_regex.specs.declared.table.TheConstants.{FOUND}
 use Rattle.ut_regex.specs.Finds.{Finds, Stays}
-use Rattle.ut_regex.specs.Having.{Lack, CutsOut, IsFirstHaving, IsPassed}
-use Rattle.ut_regex.specs.Literals.{StandsAt, Contains}
-use Rattle.ut_regex.specs.Searches.{bytes_of, folds, Looks}
+use Rattle.ut_regex.specs.Having.{Lack, CutsOut, IsFirstHaving}
+use Rattle.ut_regex.specs.Inner.Passed.{IsPassed}
+use Rattle.ut_regex.specs.Inner.Literals.{StandsAt, Contains}
+use Rattle.ut_regex.specs.Inner.Searches.{bytes_of, folds, Looks}
 use Rattle.ut_regex.specs.declared.search.Search.{Search}
 use Rattle.ut_regex.specs.declared.tree.Leaf.TheVariants.{Byte}
-use Rattle.ut_regex.specs.Seeks.{Seeks}
+use Rattle.ut_regex.specs.Inner.Seeks.{Seeks}
 use Rattle.ut_regex.specs.Spans.{fits, Has}
-use Rattle.ut_regex.specs.Tables.{runs, left_at_found, IsForTexts}
-use Rattle.ut_regex.specs.Made.{IsMade}
+use Rattle.ut_regex.specs.Inner.Tables.{runs, left_at_found, IsForTexts}
+use Rattle.ut_regex.specs.Inner.Made.{IsMade}
 use Rattle.ut_regex.specs.Tree.{Tree}
 use Rattle.ps_lines.proofs.ClosedLemmas.{closed-append, closed-behind, closed-tail}
 use Rattle.ut_regex.proofs.LiteralLemmas.{has_literal, stands_long}

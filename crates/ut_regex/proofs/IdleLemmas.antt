@@ -6,8 +6,8 @@ use Rattle.memchr.specs.Find.{IsFirstByte, Nowhere, Passes}
 use Rattle.ps_lines.specs.declared.ByteSet.{ByteSet}
 use Rattle.ps_lines.specs.ByteSet.{has_byte}
 use Rattle.ut_regex.specs.declared.table.TheConstants.{FOUND}
-use Rattle.ut_regex.specs.Idling.{idle_behind, Idles}
-use Rattle.ut_regex.specs.Tables.{left_at_found}
+use Rattle.ut_regex.specs.Inner.Idling.{idle_behind, Idles}
+use Rattle.ut_regex.specs.Inner.Tables.{left_at_found}
 use Rattle.ut_regex.proofs.TextLemmas.{goes-on}
 use Rattle.ut_regex.proofs.RunLemmas.{AreBytes}
 

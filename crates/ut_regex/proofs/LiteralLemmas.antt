@@ -11,8 +11,8 @@ use Rattle.ut_regex.specs.declared.tree.Leaf.TheVariants.{Byte}
 use Rattle.ut_regex.specs.declared.tree.Node.{Node}
 use Rattle.ut_regex.specs.Tree.{Tree, last_tree, trees_before, with_node, with_nodes, sequence}
 use Rattle.ut_regex.specs.Spans.{is_from, other_case, fits, Spans, Has}
-use Rattle.ut_regex.specs.Searches.{bytes_of, folds, Looks}
-use Rattle.ut_regex.specs.Literals.{StandsAt, Contains, StandsBefore, IsLiteral, Requires, AreRequired}
+use Rattle.ut_regex.specs.Inner.Searches.{bytes_of, folds, Looks}
+use Rattle.ut_regex.specs.Inner.Literals.{StandsAt, Contains, StandsBefore, IsLiteral, Requires, AreRequired}
 
 -- nothing at all is required of any expression
 pub nothing_required : (required : Required) → required.inner.items ≡ [] → required.suffix.items ≡ [] → required.exact ≡ false

@@ -1,7 +1,7 @@
 -- What the marks of a program mean, and what a sweep computes of them.
 use Rattle.std.proofs.Common.{ℕ, ◌≡◌, ◌+◌, ◌<◌, ◌⊎◌, Bool, true, false, ◌&&◌, ◌||◌, List, [], ◌∷◌, ◌++◌, length, slice_index_or}
 use Rattle.ut_regex.specs.Spans.{fits, Copies}
-use Rattle.ut_regex.specs.Program.{Core, point, at_begin, at_end, nothing, both, either, many, maybe}
+use Rattle.ut_regex.specs.Inner.Program.{Core, point, at_begin, at_end, nothing, both, either, many, maybe}
 
 -- a program without its marks
 abbrev pub shape : Core → Core

@@ -3,9 +3,9 @@ use Rattle.std.proofs.Common.{ℕ, ◌≡◌, ◌<◌, Bool, List, length, ap, s
 use Rattle.ut_regex.specs.declared.machine.Machine.{Machine}
 use Rattle.ut_regex.specs.declared.machine.Row.{Row}
 use Rattle.ut_regex.specs.declared.program.Op.{Op}
-use Rattle.ut_regex.specs.Seeks.{Same}
-use Rattle.ut_regex.specs.Tables.{State, first_state, states_of, state_at, after}
-use Rattle.ut_regex.specs.Reached.{GoesOn, Reaches, begun, behind, AreReached}
+use Rattle.ut_regex.specs.Inner.Seeks.{Same}
+use Rattle.ut_regex.specs.Inner.Tables.{State, first_state, states_of, state_at, after}
+use Rattle.ut_regex.specs.Inner.Reached.{GoesOn, Reaches, begun, behind, AreReached}
 use Rattle.ut_regex.proofs.TableLemmas.{states_length}
 
 -- a machine that does what it did comes to the same states

@@ -10,7 +10,7 @@ use Rattle.ut_regex.specs.declared.building.Builder.{Builder}
 use Rattle.ut_regex.specs.declared.tree.Node.{Node}
 use Rattle.ut_regex.specs.declared.pieces.Before.TheVariants as before
 use Rattle.ut_regex.specs.Tree.{last_tree, with_nodes}
-use Rattle.ut_regex.specs.Building.{start, built, ended, grown_by}
+use Rattle.ut_regex.specs.Inner.Building.{start, built, ended, grown_by}
 use Rattle.ut_regex.specs.Reading.{leaves, depth_behind, may_end, IsExpression, ends, goes_on, HasFault, unfinished, here, later, Reads, IsRead, Faults, Refuses}
 use Rattle.ut_regex.proofs.NextLemmas.{IsFault, piece_fault}
 use Rattle.ut_regex.proofs.SpellingLemmas.{expression_spelled}

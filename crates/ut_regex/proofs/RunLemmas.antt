@@ -7,10 +7,10 @@ use Rattle.ut_regex.specs.declared.program.Op.{Op}
 use Rattle.ut_regex.specs.declared.table.TheConstants.{FOUND}
 use Rattle.ut_regex.specs.Tree.{Tree}
 use Rattle.ut_regex.specs.Spans.{Has}
-use Rattle.ut_regex.specs.Program.{Core, point, at_begin, at_end, nothing, both, either, many, maybe, core, steps}
-use Rattle.ut_regex.specs.Seeks.{Seeks, swept, leads_on, marked}
-use Rattle.ut_regex.specs.Tables.{State, state_at, after, leads_at, runs, IsTable}
-use Rattle.ut_regex.specs.Made.{IsMade}
+use Rattle.ut_regex.specs.Inner.Program.{Core, point, at_begin, at_end, nothing, both, either, many, maybe, core, steps}
+use Rattle.ut_regex.specs.Inner.Seeks.{Seeks, swept, leads_on, marked}
+use Rattle.ut_regex.specs.Inner.Tables.{State, state_at, after, leads_at, runs, IsTable}
+use Rattle.ut_regex.specs.Inner.Made.{IsMade}
 use Rattle.ut_regex.specs.declared.machine.Machine.{Machine}
 use Rattle.ut_regex.specs.declared.table.Table.{Table}
 use Rattle.ut_regex.proofs.Marks.{skips, closes, passes}

@@ -10,7 +10,7 @@ use Rattle.ut_regex.specs.declared.tree.Leaf.{Leaf}
 use Rattle.ut_regex.specs.declared.tree.Node.{Node}
 use Rattle.ut_regex.specs.declared.tree.Node.TheVariants as node
 use Rattle.ut_regex.specs.Tree.{Tree, last_tree, trees_before, with_node}
-use Rattle.ut_regex.specs.Building.{Built, start, joined, side_ended, sides_joined, ended, grown, grown_by}
+use Rattle.ut_regex.specs.Inner.Building.{Built, start, joined, side_ended, sides_joined, ended, grown, grown_by}
 use Rattle.ut_regex.specs.Grammar.{IsSides}
 use Rattle.ut_regex.specs.Sizes.{places, nesting, row_place, bar_place, times}
 use Rattle.ut_regex.specs.Same.{SameLeaf, same_byte, same_any, same_among, same_not_among, SameTree, same_leaf, same_begin, same_end, same_empty, same_group, same_sequence, same_alternative, same_repetition}

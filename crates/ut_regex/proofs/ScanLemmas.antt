@@ -5,9 +5,9 @@ use Rattle.std.proofs.lemmas.Bool.{ne_eqb}
 use Rattle.ut_regex.specs.declared.program.Op.{Op}
 use Rattle.ut_regex.specs.Tree.{Tree}
 use Rattle.ut_regex.specs.Spans.{Spans, Has}
-use Rattle.ut_regex.specs.Program.{Core, point, at_begin, at_end, nothing, both, either, many, maybe, core, steps}
-use Rattle.ut_regex.specs.Sweeps.{sunk}
-use Rattle.ut_regex.specs.Seeks.{swept, leads_on, marked}
+use Rattle.ut_regex.specs.Inner.Program.{Core, point, at_begin, at_end, nothing, both, either, many, maybe, core, steps}
+use Rattle.ut_regex.specs.Inner.Sweeps.{sunk}
+use Rattle.ut_regex.specs.Inner.Seeks.{swept, leads_on, marked}
 use Rattle.ut_regex.proofs.Marks.{shape, marks, skips, closes, passes, entering, Runs, Behind, Right}
 use Rattle.ut_regex.proofs.CoreLemmas.{or_cases, or_first, or_second, shape-entering, passes_sound, passes_complete, entering_right, shape_right}
 use Rattle.ut_regex.proofs.TreeLemmas.{core_sound, core_complete, shape-core}

@@ -15,7 +15,7 @@ use Rattle.ut_regex.proofs.NextLemmas.{closes_nested, repeats_part}
 use Rattle.ut_regex.proofs.CoreLemmas.{and_first}
 use Rattle.ut_regex.specs.Reading.{leaves, may_end, depth_behind, IsExpression, ends, goes_on}
 use Rattle.ut_regex.specs.Tree.{Tree, empty, group, sequence, alternative, repetition, leaf, line_begin, line_end, with_node}
-use Rattle.ut_regex.specs.Building.{Built, start, joined, one_more, side_ended, ended, with_part, grown, grown_by}
+use Rattle.ut_regex.specs.Inner.Building.{Built, start, joined, one_more, side_ended, ended, with_part, grown, grown_by}
 use Rattle.ut_regex.specs.Grammar.{IsPart, one_byte, in_group, repeated, IsItem, part, begins, IsRow, item, behind, IsSide, nothing, row, IsSides, side, either}
 use Rattle.ut_regex.specs.Grammar as grammar
 

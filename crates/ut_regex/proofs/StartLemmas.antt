@@ -4,7 +4,7 @@ use Rattle.std.proofs.Math.Bool.{or-true}
 use Rattle.std.proofs.lemmas.Bool.{cases_lt, or_cases}
 use Rattle.std.proofs.lemmas.Bool.Decides.{Decides-eqb}
 use Rattle.memchr.specs.Find.{is_byte3}
-use Rattle.ut_regex.specs.Starts.{AreThese, IsNext}
+use Rattle.ut_regex.specs.Inner.Starts.{AreThese, IsNext}
 
 abbrev IsOne : ℕ → ℕ → ℕ → ℕ → Type 0
 IsOne a b c byte = (byte ≡ a) ⊎ ((byte ≡ b) ⊎ (byte ≡ c))

@@ -5,8 +5,8 @@ use Rattle.std.specs.Option.{ForSome, unwrap_or}
 use Rattle.ps_lines.specs.declared.newlines.TheConstants.{NEWLINE}
 use Rattle.ps_lines.specs.Lines.{has_newline}
 use Rattle.ut_regex.specs.declared.table.TheConstants.{FOUND}
-use Rattle.ut_regex.specs.Idling.{IsStuck, WaitsForLine}
-use Rattle.ut_regex.specs.Tables.{runs, left_at_found, IsForTexts}
+use Rattle.ut_regex.specs.Inner.Idling.{IsStuck, WaitsForLine}
+use Rattle.ut_regex.specs.Inner.Tables.{runs, left_at_found, IsForTexts}
 use Rattle.ut_regex.proofs.TextLemmas.{goes-on}
 use Rattle.ut_regex.proofs.RunLemmas.{AreBytes}
 

@@ -3,8 +3,8 @@ use Rattle.std.proofs.Common.{ℕ, ◌≡◌, Bool, true, false, ◌||◌, List,
 use Rattle.std.proofs.lemmas.List.{reverse-append}
 use Rattle.ut_regex.specs.declared.program.Op.{Op}
 use Rattle.ut_regex.specs.declared.program.Op.TheVariants as op
-use Rattle.ut_regex.specs.Program.{Core, point, at_begin, at_end, nothing, both, either, many, maybe, steps}
-use Rattle.ut_regex.specs.Sweeps.{top, below, risen, sunk}
+use Rattle.ut_regex.specs.Inner.Program.{Core, point, at_begin, at_end, nothing, both, either, many, maybe, steps}
+use Rattle.ut_regex.specs.Inner.Sweeps.{top, below, risen, sunk}
 use Rattle.ut_regex.proofs.Marks.{shape, marks, skips, closes, passes, entering}
 
 -- the stack begins with the marks of the program. Behind its end every bit is false

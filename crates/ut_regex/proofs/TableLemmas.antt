@@ -9,8 +9,8 @@ use Rattle.ut_regex.specs.declared.machine.Machine.{Machine}
 use Rattle.ut_regex.specs.declared.machine.Row.{Row}
 use Rattle.ut_regex.specs.declared.program.Op.{Op}
 use Rattle.ut_regex.specs.declared.table.TheConstants.{FOUND}
-use Rattle.ut_regex.specs.Seeks.{Same}
-use Rattle.ut_regex.specs.Tables.{State, first_state, state_of, states_of, state_at, after, leads_at, IsEntry, Entered, Keeps}
+use Rattle.ut_regex.specs.Inner.Seeks.{Same}
+use Rattle.ut_regex.specs.Inner.Tables.{State, first_state, state_of, states_of, state_at, after, leads_at, IsEntry, Entered, Keeps}
 
 pub beq_decides : (a b : Bool) → Decides (beq a b) (a ≡ b)
 beq_decides true true = (λ h. refl, λ h. refl)

@@ -4,7 +4,7 @@ use Rattle.std.proofs.lemmas.Bool.{true≢false, cond-true, cond-false, eqb-true
 use Rattle.std.proofs.lemmas.List.{at_drop_more, get_or-take}
 use Rattle.ps_lines.specs.Lines.{is_closed}
 use Rattle.ut_regex.specs.declared.table.TheConstants.{FOUND}
-use Rattle.ut_regex.specs.Tables.{left_at_found, BeginsLines, IsForTexts, IsWhole}
+use Rattle.ut_regex.specs.Inner.Tables.{left_at_found, BeginsLines, IsForTexts, IsWhole}
 use Rattle.ps_lines.proofs.ClosedLemmas.{closed-tail}
 
 -- numbers that are there are the same where their options are

@@ -3,7 +3,7 @@ use Rattle.std.proofs.Common.{ℕ, zero, suc, ◌≡◌, ◌+◌, ◌-◌, ◌�
 use Rattle.std.proofs.lemmas.Bool.Decides.{leb_tells}
 use Rattle.ut_regex.specs.Tree.{Tree, leaf, line_begin, line_end, empty, group, sequence, alternative, repetition}
 use Rattle.ut_regex.specs.Spans.{Copies, Spans}
-use Rattle.ut_regex.specs.Program.{Core, nothing, both, many, copies, options, repeated, core}
+use Rattle.ut_regex.specs.Inner.Program.{Core, nothing, both, many, copies, options, repeated, core}
 use Rattle.ut_regex.proofs.Marks.{Runs, shape}
 
 -- copies of what spans less are copies of what spans more

@@ -8,11 +8,11 @@ use Rattle.std.specs.Bool.{beq}
 use Rattle.ut_regex.specs.declared.program.Op.{Op}
 use Rattle.ut_regex.specs.declared.program.Op.TheVariants as op
 use Rattle.ut_regex.specs.Spans.{fits}
-use Rattle.ut_regex.specs.Sweeps.{top, below, Sinking, sink, sunk}
+use Rattle.ut_regex.specs.Inner.Sweeps.{top, below, Sinking, sink, sunk}
 use Rattle.ut_regex.specs.declared.table.TheConstants.{FOUND}
-use Rattle.ut_regex.specs.Tables.{State, after, state_at, IsEntry, Entered}
+use Rattle.ut_regex.specs.Inner.Tables.{State, after, state_at, IsEntry, Entered}
 use Rattle.ut_regex.proofs.TableLemmas.{entered_push}
-use Rattle.ut_regex.specs.Twins.{tells, AreFirst, AreTwins, HasTwins}
+use Rattle.ut_regex.specs.Inner.Twins.{tells, AreFirst, AreTwins, HasTwins}
 
 -- a byte is its own twin
 pub own_twin : (fold : Bool) (byte : ℕ) (steps : List Op) → AreTwins fold byte byte steps

@@ -1,10 +1,10 @@
--- What a matcher is made for.
+-- What a matcher is made for: `compile` says it of the one that it gives, and `has` wants it. How the parts of one fit is in `Inner`.
 use Rattle.std.specs.Prelude.{◌≡◌, Bool, IfSome}
 use Rattle.ut_regex.specs.declared.matcher.Matcher.{Matcher}
 use Rattle.ut_regex.specs.Tree.{Tree}
-use Rattle.ut_regex.specs.Searches.{Looks}
-use Rattle.ut_regex.specs.Seeks.{Seeks, Same}
-use Rattle.ut_regex.specs.Made.{IsMade}
+use Rattle.ut_regex.specs.Inner.Searches.{Looks}
+use Rattle.ut_regex.specs.Inner.Seeks.{Seeks, Same}
+use Rattle.ut_regex.specs.Inner.Made.{IsMade}
 
 -- the matcher finds the expression; with `fold` in both cases of letters, with `whole` as the whole line
 pub record Finds (matcher : Matcher) (fold whole : Bool) (re : Tree) : Type 0 where

@@ -1,6 +1,6 @@
 -- The lines of a text that have an expression (XCU grep). The code looks in the whole text for what such a line needs, and for the ends
 -- of a line only around where that stands; the definition asks of each line.
-use Rattle.std.specs.Prelude.{◌≡◌, ◌≤◌, ℕ, List, ◌∷◌, ◌++◌, Bool, true, false, length}
+use Rattle.std.specs.Prelude.{◌≡◌, ℕ, List, ◌∷◌, ◌++◌, Bool, true, false}
 use Rattle.std.specs.List.{AllByRecursion}
 use Rattle.ps_lines.specs.Lines.{has_newline, is_closed, lines}
 use Rattle.ps_lines.specs.declared.newlines.TheConstants.{NEWLINE}
@@ -22,8 +22,3 @@ pub record IsFirstHaving (fold whole : Bool) (re : Tree) (text before line rest 
   pub cut : CutsOut text before line rest
   pub passed : Lack fold whole re (lines before)
   pub has : Has fold whole line re
-
--- no line that ends before the place has the expression
-abbrev pub IsPassed : Bool → Bool → Tree → List ℕ → ℕ → Type 0
-IsPassed fold whole re text place =
-    (before more : List ℕ) → text ≡ before ++ more → is_closed before ≡ true → length before ≤ place → Lack fold whole re (lines before)

@@ -1,17 +1,5 @@
 pub mod Tree
 pub mod Spans
-pub mod Program
-pub mod Sweeps
-pub mod Held
-pub mod Seeks
-pub mod Tables
-pub mod Reached
-pub mod Idling
-pub mod Starts
-pub mod Made
-pub mod Twins
-pub mod Literals
-pub mod Searches
 pub mod Finds
 pub mod Having
 pub mod Brackets
@@ -19,7 +7,7 @@ pub mod Intervals
 pub mod Pieces
 pub mod Grammar
 pub mod Sizes
-pub mod Building
 pub mod Reading
 pub mod Same
 pub mod OneReading
+pub mod Inner

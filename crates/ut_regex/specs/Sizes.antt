@@ -1,6 +1,5 @@
 -- How large an expression is. Own: what is too large isn't read.
-use Rattle.std.specs.Prelude.{ℕ, ◌+◌, ◌*◌, ◌<◌, ◌≤◌, ◌⊎◌, ◌-◌, ◌^◌, max, min, List, map, Option, Some, None}
-use Rattle.ut_regex.specs.declared.sizes.Size.{Size}
+use Rattle.std.specs.Prelude.{ℕ, ◌+◌, ◌*◌, ◌<◌, ◌≤◌, ◌⊎◌, max, Option, Some, None}
 use Rattle.ut_regex.specs.declared.sizes.TheConstants.{MAX_PLACES, MAX_NESTING}
 use Rattle.ut_regex.specs.Tree.{Tree, leaf, line_begin, line_end, empty, group, sequence, alternative, repetition}
 
@@ -60,16 +59,3 @@ IsSmall re = (places re ≤ MAX_PLACES) × (nesting re ≤ MAX_NESTING)
 -- it is too large to be read
 abbrev pub IsTooLarge : Tree → Type 0
 IsTooLarge re = (MAX_PLACES < places re) ⊎ (MAX_NESTING < nesting re)
-
--- the size of an expression, as far as 32 bits tell
-abbrev pub size_of : Tree → Size
-size_of re = record {
-  places = min (places re) (2 ^ 32 - 1);
-  nesting = min (nesting re) (2 ^ 32 - 1);
-  row_place = row_place re;
-  bar_place = bar_place re;
-}
-
--- the sizes of expressions
-abbrev pub sizes_of : List Tree → List Size
-sizes_of trees = map (λ re. size_of re) trees

@@ -1,6 +1,6 @@
 //! Stacks of bits that take no memory once they are made.
 ghost use Rattle.std.specs.Prelude.{◌≡◌, ◌∷◌, [], ◌≤◌, ◌<◌, length, reverse, IfOk, OnOk};
-ghost use Rattle.ut_regex.specs.Sweeps.{top, below};
+ghost use Rattle.ut_regex.specs.Inner.Sweeps.{top, below};
 
 use std::alloc::{AllocError, Global};
 use std::marker::Model;
@@ -13,7 +13,7 @@ pub(crate) struct Bits {
 
 impl Model for Bits {
     ghost use Rattle.std.specs.Prelude.{reverse, vec_capacity};
-    ghost use Rattle.ut_regex.specs.Held.{Held};
+    ghost use Rattle.ut_regex.specs.Inner.Held.{Held};
 
     ghost Value = { Held };
 

@@ -1,7 +1,7 @@
 //! The tree of an expression, made piece by piece.
 ghost use Rattle.std.specs.Prelude.{◌≡◌, [], OnOk, IfOk};
 ghost use Rattle.ut_regex.specs.Tree.{with_nodes, with_node};
-ghost use Rattle.ut_regex.specs.Building.{start, fresh, grown, with_part, ended, joined, built};
+ghost use Rattle.ut_regex.specs.Inner.Building.{start, fresh, grown, with_part, ended, joined, built};
 
 use crate::pieces::Piece;
 use crate::tree::Node;

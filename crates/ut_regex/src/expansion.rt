@@ -1,7 +1,7 @@
 //! The program of an expression.
 ghost use Rattle.std.specs.Prelude.{◌≡◌, ℕ, List, [], ◌∷◌, ◌++◌, IfOk, OnOk};
 ghost use Rattle.ut_regex.specs.Tree.{Tree, last_tree, trees_before, with_node, with_nodes};
-ghost use Rattle.ut_regex.specs.Program.{Core, core, copies, options, repeated, steps, parts_of, programs};
+ghost use Rattle.ut_regex.specs.Inner.Program.{Core, core, copies, options, repeated, steps, parts_of, programs};
 
 use crate::program::Op;
 use crate::tree::{Bounds, Node};

@@ -1,7 +1,7 @@
 //! Searches for bytes with letters in either case.
 ghost use Rattle.std.specs.Prelude.{◌≡◌, ◌+◌, ◌<◌, ◌≤◌, true, false, length};
 ghost use Rattle.memchr.specs.Find.{Nowhere};
-ghost use Rattle.ut_regex.specs.Literals.{StandsAt};
+ghost use Rattle.ut_regex.specs.Inner.Literals.{StandsAt};
 
 use crate::program::{fits, other_case};
 use crate::tree::Leaf;

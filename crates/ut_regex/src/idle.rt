@@ -2,8 +2,8 @@
 ghost use Rattle.std.specs.Prelude.{◌≡◌, ◌⊎◌, ◌<◌, ◌≤◌, ℕ, List, length, IfSome};
 ghost use Rattle.std.specs.Bool.{Decides};
 ghost use Rattle.std.specs.Option.{ForSome};
-ghost use Rattle.ut_regex.specs.Idling.{idle_behind, stays, Idles};
-ghost use Rattle.ut_regex.specs.Tables.{left_at_found};
+ghost use Rattle.ut_regex.specs.Inner.Idling.{idle_behind, stays, Idles};
+ghost use Rattle.ut_regex.specs.Inner.Tables.{left_at_found};
 
 use crate::starts::Starts;
 use crate::table::{FOUND, entry_of};

@@ -8,7 +8,9 @@
 //!
 //! `specs/Spans.antt` says which places of a line an expression spans, and which lines have it; `specs/Having.antt` says which
 //! line of a text is the first that has it; `specs/Reading.antt` says which texts are expressions, of which tree, and what the
-//! first fault of the others is; `specs/Sizes.antt` says which expressions are too large.
+//! first fault of the others is; `specs/Sizes.antt` says which expressions are too large. What a matcher is made of (programs,
+//! tables, literals) and how a tree is built stand in `specs/Inner/`: a caller has a matcher from `compile`, and nothing of these is
+//! to be trusted.
 #![tactic(auto)]
 
 mod bits;

@@ -1,7 +1,7 @@
 //! Bytes that every line with an expression has in a row.
 ghost use Rattle.std.specs.Prelude.{◌≡◌, ℕ, Bool, List, [], IfOk, OnOk, reverse};
 ghost use Rattle.ut_regex.specs.Tree.{Tree, leaf, line_begin, line_end, empty, group, sequence, repetition, last_tree, trees_before, with_node, with_nodes};
-ghost use Rattle.ut_regex.specs.Literals.{AreRequired, Contains, IsLiteral, Requires};
+ghost use Rattle.ut_regex.specs.Inner.Literals.{AreRequired, Contains, IsLiteral, Requires};
 
 use crate::tree::{Bounds, Leaf, Node};
 use std::alloc::{AllocError, Global};

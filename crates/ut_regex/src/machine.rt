@@ -31,10 +31,10 @@ pub(crate) struct Row {
 }
 
 impl Machine {
-    ghost use Rattle.ut_regex.specs.Seeks.{Seeks, Same, swept, leads_on, marked};
+    ghost use Rattle.ut_regex.specs.Inner.Seeks.{Seeks, Same, swept, leads_on, marked};
     ghost use Rattle.ut_regex.specs.Spans.{Has};
     ghost use Rattle.ut_regex.specs.Tree.{Tree};
-    ghost use Rattle.ut_regex.specs.Tables.{state_of, after, leads_at};
+    ghost use Rattle.ut_regex.specs.Inner.Tables.{state_of, after, leads_at};
 
     /// A machine that runs a program.
     pub(crate) fn running(

@@ -2,8 +2,8 @@
 ghost use Rattle.std.specs.Prelude.{◌≡◌, ◌<◌, ◌≤◌, true, length, IfOk, IfSome, MatchOption};
 ghost use Rattle.memchr.specs.Find.{Nowhere};
 ghost use Rattle.ut_regex.specs.Finds.{Finds};
-ghost use Rattle.ut_regex.specs.Literals.{StandsAt};
-ghost use Rattle.ut_regex.specs.Searches.{bytes_of, folds};
+ghost use Rattle.ut_regex.specs.Inner.Literals.{StandsAt};
+ghost use Rattle.ut_regex.specs.Inner.Searches.{bytes_of, folds};
 ghost use Rattle.ut_regex.specs.Tree.{tree};
 
 use crate::cuts::{Cut, cut_around};
@@ -61,7 +61,8 @@ impl Matcher {
     ghost use Rattle.std.specs.Prelude.{◌↔◌, Bool, IsTrue, IfNone};
     ghost use Rattle.ps_lines.specs.Lines.{is_closed, lines};
     ghost use Rattle.ut_regex.specs.Finds.{Finds, Stays};
-    ghost use Rattle.ut_regex.specs.Having.{CutsOut, IsFirstHaving, IsPassed, Lack};
+    ghost use Rattle.ut_regex.specs.Having.{CutsOut, IsFirstHaving, Lack};
+    ghost use Rattle.ut_regex.specs.Inner.Passed.{IsPassed};
     ghost use Rattle.ut_regex.specs.Spans.{Has};
     ghost use Rattle.ut_regex.specs.Tree.{Tree};
 

@@ -1,8 +1,8 @@
 //! Searches for bytes that every line with an expression has in a row.
 ghost use Rattle.std.specs.Prelude.{◌≡◌, ◌<◌, ◌≤◌, [], length, IfNone, IfOk, IfSome};
 ghost use Rattle.memchr.specs.Find.{Nowhere};
-ghost use Rattle.ut_regex.specs.Literals.{StandsAt};
-ghost use Rattle.ut_regex.specs.Searches.{bytes_of, folds};
+ghost use Rattle.ut_regex.specs.Inner.Literals.{StandsAt};
+ghost use Rattle.ut_regex.specs.Inner.Searches.{bytes_of, folds};
 
 use crate::folded::Folded;
 use memchr::memmem::Finder;

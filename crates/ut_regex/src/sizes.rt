@@ -1,7 +1,8 @@
 //! How large expressions are.
 ghost use Rattle.std.specs.Prelude.{◌≡◌, List, [], MatchBool, IfOk, OnOk, reverse};
 ghost use Rattle.ut_regex.specs.Tree.{Tree, sequence, alternative, group, repetition, last_tree, trees_before, with_node, with_nodes};
-ghost use Rattle.ut_regex.specs.Sizes.{IsSmall, IsTooLarge, size_of, sizes_of};
+ghost use Rattle.ut_regex.specs.Sizes.{IsSmall, IsTooLarge};
+ghost use Rattle.ut_regex.specs.Inner.Counted.{size_of, sizes_of};
 
 use crate::tree::{Bounds, Node};
 use std::alloc::{AllocError, Global};

@@ -4,7 +4,7 @@ ghost use Rattle.std.specs.Bool.{Decides};
 ghost use Rattle.std.specs.Option.{ForSome};
 ghost use Rattle.memchr.specs.Find.{IsFirstByte, Nowhere, Passes, is_byte3};
 ghost use Rattle.ps_lines.specs.ByteSet.{has_byte};
-ghost use Rattle.ut_regex.specs.Starts.{AreThese, IsNext};
+ghost use Rattle.ut_regex.specs.Inner.Starts.{AreThese, IsNext};
 
 use memchr::{memchr, memchr2, memchr3};
 use ps_lines::ByteSet;

@@ -2,8 +2,8 @@
 ghost use Rattle.std.specs.Prelude.{◌≡◌, ◌<◌, ◌≤◌, ℕ, List, None, length, IfNone, IfSome, MatchOption};
 ghost use Rattle.std.specs.Bool.{Decides};
 ghost use Rattle.std.specs.Option.{ForSome};
-ghost use Rattle.ut_regex.specs.Idling.{IsStuck, WaitsForLine};
-ghost use Rattle.ut_regex.specs.Tables.{left_at_found};
+ghost use Rattle.ut_regex.specs.Inner.Idling.{IsStuck, WaitsForLine};
+ghost use Rattle.ut_regex.specs.Inner.Tables.{left_at_found};
 
 use crate::idle::STEP_STRETCH;
 use crate::table::{FOUND, ends_at, entry_of};

@@ -1,7 +1,7 @@
 //! The two sweeps over the steps of a program.
 ghost use Rattle.std.specs.Prelude.{◌≡◌, ◌∷◌, [], ◌+◌, ◌*◌, ◌≤◌, ◌<◌, length, reverse};
-ghost use Rattle.ut_regex.specs.Sweeps.{rise, risen, sink, sunk};
-ghost use Rattle.ut_regex.specs.Held.{rising, sinking};
+ghost use Rattle.ut_regex.specs.Inner.Sweeps.{rise, risen, sink, sunk};
+ghost use Rattle.ut_regex.specs.Inner.Held.{rising, sinking};
 
 use crate::bits::Bits;
 use crate::program::{Op, fits};

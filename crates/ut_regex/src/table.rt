@@ -2,11 +2,11 @@
 ghost use Rattle.std.specs.Prelude.{◌≡◌, ◌+◌, ◌-◌, ◌*◌, ◌<◌, ◌≤◌, ◌++◌, ◌∷◌, ℕ, [], Some, None, IfNone, IfOk, IfSome, OnOk, length, false, true, slice_index_or};
 ghost use Rattle.std.specs.Bool.{Decides};
 ghost use Rattle.std.specs.Option.{ForSome};
-ghost use Rattle.ut_regex.specs.Seeks.{Same};
-ghost use Rattle.ut_regex.specs.Twins.{AreTwins, HasTwins};
-ghost use Rattle.ut_regex.specs.Tables.{runs, state_of, states_of, state_at, IsEntry, IsForTexts, Entered, Keeps};
-ghost use Rattle.ut_regex.specs.Reached.{AreReached, GoesOn, Reaches};
-ghost use Rattle.ut_regex.specs.Idling.{IsStuck};
+ghost use Rattle.ut_regex.specs.Inner.Seeks.{Same};
+ghost use Rattle.ut_regex.specs.Inner.Twins.{AreTwins, HasTwins};
+ghost use Rattle.ut_regex.specs.Inner.Tables.{runs, state_of, states_of, state_at, IsEntry, IsForTexts, Entered, Keeps};
+ghost use Rattle.ut_regex.specs.Inner.Reached.{AreReached, GoesOn, Reaches};
+ghost use Rattle.ut_regex.specs.Inner.Idling.{IsStuck};
 
 use crate::machine::{Machine, Row};
 use crate::texts::TextTable;
@@ -35,10 +35,10 @@ pub(crate) struct Table {
 
 impl Table {
     ghost use Rattle.std.specs.Prelude.{◌≡◌, ◌≤◌, IfNone, IfOk, IfSome, length};
-    ghost use Rattle.ut_regex.specs.Made.{IsMade};
-    ghost use Rattle.ut_regex.specs.Reached.{HasNoTable};
-    ghost use Rattle.ut_regex.specs.Seeks.{Same};
-    ghost use Rattle.ut_regex.specs.Tables.{runs};
+    ghost use Rattle.ut_regex.specs.Inner.Made.{IsMade};
+    ghost use Rattle.ut_regex.specs.Inner.Reached.{HasNoTable};
+    ghost use Rattle.ut_regex.specs.Inner.Seeks.{Same};
+    ghost use Rattle.ut_regex.specs.Inner.Tables.{runs};
 
     /// The table of a machine, unless it has too many states or finds the expression at the beginning of every line.
     #[tactic(auto, using(crate::proofs::ReachLemmas::reached_first))]

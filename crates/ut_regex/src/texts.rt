@@ -2,8 +2,8 @@
 ghost use Rattle.std.specs.Prelude.{◌≡◌, ◌+◌, ◌*◌, ◌<◌, ◌≤◌, IfOk, IfSome, length, slice_index_or};
 ghost use Rattle.std.specs.Option.{ForSome};
 ghost use Rattle.ps_lines.specs.Lines.{is_closed};
-ghost use Rattle.ut_regex.specs.Tables.{left_at_found, text_entry, BeginsLines, IsForTexts, IsRun, IsWhole};
-ghost use Rattle.ut_regex.specs.Idling.{Idles, WaitsForLine};
+ghost use Rattle.ut_regex.specs.Inner.Tables.{left_at_found, text_entry, BeginsLines, IsForTexts, IsRun, IsWhole};
+ghost use Rattle.ut_regex.specs.Inner.Idling.{Idles, WaitsForLine};
 
 use crate::cuts::cut_at_line;
 use crate::idle::{Idle, idle_of, left_behind_starts};
@@ -51,8 +51,8 @@ struct Runs<'t> {
 impl TextTable {
     ghost use Rattle.std.specs.Prelude.{◌≡◌, ◌*◌, ◌≤◌, IfOk, IfSome, length, true};
     ghost use Rattle.std.specs.Option.{ForSome};
-    ghost use Rattle.ut_regex.specs.Idling.{IsStuck};
-    ghost use Rattle.ut_regex.specs.Tables.{left_at_found, IsForTexts, IsWhole};
+    ghost use Rattle.ut_regex.specs.Inner.Idling.{IsStuck};
+    ghost use Rattle.ut_regex.specs.Inner.Tables.{left_at_found, IsForTexts, IsWhole};
 
     /// The table for texts of a table's lines.
     pub(crate) fn of(alloc: Global, next: &[u16], ends: &[bool]) -> Result<TextTable, AllocError>

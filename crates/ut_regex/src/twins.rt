@@ -1,7 +1,7 @@
 //! Bytes that a machine doesn't tell apart.
 ghost use Rattle.std.specs.Prelude.{◌≡◌, ◌<◌, ◌≤◌, ℕ, IfOk, length};
 ghost use Rattle.std.specs.Bool.{Decides};
-ghost use Rattle.ut_regex.specs.Twins.{AreFirst, AreTwins, HasTwins, tells};
+ghost use Rattle.ut_regex.specs.Inner.Twins.{AreFirst, AreTwins, HasTwins, tells};
 
 use crate::program::{Op, fits};
 use std::alloc::{AllocError, Global};

@@ -1,5 +1,5 @@
 use Rattle.std.proofs.Common.{◌≡◌}
-use Rattle.ut_regex.specs.Program.{Core, options, steps}
+use Rattle.ut_regex.specs.Inner.Program.{Core, options, steps}
 use Rattle.ut_regex.proofs.expansion.add_options.Given as goal
 
 abbrev pub invariant-loop-done : goal.invariant-loop-done

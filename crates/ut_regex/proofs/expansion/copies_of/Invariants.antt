@@ -1,5 +1,5 @@
 use Rattle.std.proofs.Common.{◌≡◌}
-use Rattle.ut_regex.specs.Program.{Core, copies, steps}
+use Rattle.ut_regex.specs.Inner.Program.{Core, copies, steps}
 use Rattle.ut_regex.proofs.expansion.copies_of.Given as goal
 
 abbrev pub invariant-loop-done : goal.invariant-loop-done

@@ -1,5 +1,5 @@
 use Rattle.std.proofs.Common.{◌∙◌, ap, sym}
-use Rattle.ut_regex.specs.Program.{programs}
+use Rattle.ut_regex.specs.Inner.Program.{programs}
 use Rattle.ut_regex.proofs.NodeLemmas.{with_nodes-take}
 use Rattle.ut_regex.proofs.expansion.program_of.Goals as goal
 

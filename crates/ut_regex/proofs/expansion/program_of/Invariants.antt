@@ -1,6 +1,6 @@
 use Rattle.std.proofs.Common.{◌≡◌, [], take}
 use Rattle.ut_regex.specs.Tree.{with_nodes}
-use Rattle.ut_regex.specs.Program.{parts_of, programs}
+use Rattle.ut_regex.specs.Inner.Program.{parts_of, programs}
 use Rattle.ut_regex.proofs.expansion.program_of.Given as goal
 
 abbrev pub invariant-loop-node : goal.invariant-loop-node

@@ -1,5 +1,5 @@
 use Rattle.std.proofs.Common.{◌≡◌, ◌≤◌, length}
-use Rattle.ut_regex.specs.Tables.{left_at_found}
+use Rattle.ut_regex.specs.Inner.Tables.{left_at_found}
 use Rattle.ut_regex.proofs.idle.left_behind_starts.Given as goal
 
 abbrev pub invariant-loop-run : goal.invariant-loop-run

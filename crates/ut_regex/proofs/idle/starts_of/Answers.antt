@@ -1,6 +1,6 @@
 use Rattle.std.proofs.Common.{sym, ap, ℕ, not, ◌∙◌}
 use Rattle.ps_lines.specs.ByteSet.{has_byte}
-use Rattle.ut_regex.specs.Idling.{stays}
+use Rattle.ut_regex.specs.Inner.Idling.{stays}
 use Rattle.ut_regex.proofs.IdleLemmas.{gains, stays-same}
 use Rattle.ut_regex.proofs.idle.starts_of.Goals.{then-not-stays, else-not-stays}
 use Rattle.ut_regex.proofs.idle.starts_of.Goals as goal

@@ -1,6 +1,6 @@
 use Rattle.std.proofs.Common.{◌≡◌, ◌-◌, [], take, reverse, ap, subst, sym, ◌∙◌}
 use Rattle.ut_regex.specs.Tree.{last_tree, trees_before}
-use Rattle.ut_regex.specs.Literals.{AreRequired}
+use Rattle.ut_regex.specs.Inner.Literals.{AreRequired}
 use Rattle.ut_regex.proofs.literals.last_part.Goals as goal
 
 pub returns-in-None : goal.returns-in-None

@@ -1,5 +1,5 @@
 use Rattle.std.proofs.Common.{subst, sym, reverse}
-use Rattle.ut_regex.specs.Literals.{AreRequired}
+use Rattle.ut_regex.specs.Inner.Literals.{AreRequired}
 use Rattle.ut_regex.proofs.LiteralLemmas.{before_contained, all_taken}
 use Rattle.ut_regex.proofs.NodeLemmas.{with_nodes-take}
 use Rattle.ut_regex.proofs.literals.literal_of.Goals as goal

@@ -1,6 +1,6 @@
 use Rattle.std.proofs.Common.{[], Bool, take, reverse}
 use Rattle.ut_regex.specs.Tree.{with_nodes}
-use Rattle.ut_regex.specs.Literals.{AreRequired}
+use Rattle.ut_regex.specs.Inner.Literals.{AreRequired}
 use Rattle.ut_regex.proofs.literals.literal_of.Given as goal
 
 abbrev pub invariant-loop-node : goal.invariant-loop-node

@@ -1,5 +1,5 @@
 use Rattle.std.proofs.Common.{◌∙◌, ◌∷◌, [], inr, ap, sym, arith}
-use Rattle.ut_regex.specs.Building.{grown_by}
+use Rattle.ut_regex.specs.Inner.Building.{grown_by}
 use Rattle.ut_regex.proofs.ReadingLemmas.{read_on, fault_on, fault_here, ends_there, unfinished_there, builder_reads}
 use Rattle.ut_regex.proofs.reading.read_nodes.Goals as goal
 

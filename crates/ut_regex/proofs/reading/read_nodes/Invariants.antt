@@ -2,7 +2,7 @@ use Rattle.std.proofs.Common.{◌≡◌, ◌+◌, ◌≤◌, List, length}
 use Rattle.ut_regex.specs.declared.fault.ReFault.{ReFault}
 use Rattle.ut_regex.specs.declared.pieces.Piece.{Piece}
 use Rattle.ut_regex.specs.declared.pieces.Before.TheVariants as before
-use Rattle.ut_regex.specs.Building.{built, start, grown_by}
+use Rattle.ut_regex.specs.Inner.Building.{built, start, grown_by}
 use Rattle.ut_regex.specs.Reading.{IsExpression, HasFault, Faults}
 use Rattle.ut_regex.proofs.reading.read_nodes.Given as goal
 

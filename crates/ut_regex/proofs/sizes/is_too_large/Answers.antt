@@ -1,5 +1,5 @@
 use Rattle.std.proofs.Common.{◌∙◌, ap, sym}
-use Rattle.ut_regex.specs.Sizes.{sizes_of}
+use Rattle.ut_regex.specs.Inner.Counted.{sizes_of}
 use Rattle.ut_regex.proofs.NodeLemmas.{with_nodes-take}
 use Rattle.ut_regex.proofs.sizes.is_too_large.Goals as goal
 

@@ -1,6 +1,6 @@
 use Rattle.std.proofs.Common.{◌≡◌, [], take, reverse}
 use Rattle.ut_regex.specs.Tree.{with_nodes}
-use Rattle.ut_regex.specs.Sizes.{sizes_of}
+use Rattle.ut_regex.specs.Inner.Counted.{sizes_of}
 use Rattle.ut_regex.proofs.sizes.is_too_large.Given as goal
 
 abbrev pub invariant-loop-node : goal.invariant-loop-node

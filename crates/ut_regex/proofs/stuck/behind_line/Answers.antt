@@ -1,5 +1,5 @@
 use Rattle.std.proofs.Common.{ap, subst, ◌∙◌}
-use Rattle.ut_regex.specs.Tables.{left_at_found}
+use Rattle.ut_regex.specs.Inner.Tables.{left_at_found}
 use Rattle.ut_regex.proofs.StuckLemmas.{stuck-line, stuck-end}
 use Rattle.ut_regex.proofs.RunLemmas.{AreBytes, are_bytes}
 use Rattle.ut_regex.proofs.stuck.behind_line.Goals as goal

@@ -1,5 +1,5 @@
 use Rattle.std.proofs.Common.{◌≡◌, ◌≤◌, length}
-use Rattle.ut_regex.specs.Tables.{left_at_found}
+use Rattle.ut_regex.specs.Inner.Tables.{left_at_found}
 use Rattle.ut_regex.proofs.stuck.left_by_lines.Given as goal
 
 abbrev pub invariant-loop-left : goal.invariant-loop-left

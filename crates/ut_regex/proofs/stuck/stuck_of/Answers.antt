@@ -1,6 +1,6 @@
 use Rattle.std.proofs.Common.{◌≡◌, ◌∙◌, sym, inl, inr, true≢false, subst, arith}
 use Rattle.std.proofs.lemmas.Bool.{cases_lt}
-use Rattle.ut_regex.specs.Idling.{IsStuck}
+use Rattle.ut_regex.specs.Inner.Idling.{IsStuck}
 use Rattle.ut_regex.proofs.stuck.stuck_of.Goals as goal
 
 pub loop-state-preserved : goal.loop-state-preserved

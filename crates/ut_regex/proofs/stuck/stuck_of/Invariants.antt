@@ -1,5 +1,5 @@
 use Rattle.std.proofs.Common.{◌<◌, ℕ}
-use Rattle.ut_regex.specs.Idling.{IsStuck}
+use Rattle.ut_regex.specs.Inner.Idling.{IsStuck}
 use Rattle.ut_regex.proofs.stuck.stuck_of.Given as goal
 
 abbrev pub invariant-loop-state : goal.invariant-loop-state

@@ -1,6 +1,6 @@
 use Rattle.std.proofs.Common.{◌≡◌, ◌+◌, ◌*◌, ◌≤◌, length, reverse}
-use Rattle.ut_regex.specs.Sweeps.{sunk}
-use Rattle.ut_regex.specs.Held.{sinking}
+use Rattle.ut_regex.specs.Inner.Sweeps.{sunk}
+use Rattle.ut_regex.specs.Inner.Held.{sinking}
 use Rattle.ut_regex.proofs.sweep.sweep_back.Given as goal
 
 abbrev pub invariant-loop-last : goal.invariant-loop-last

@@ -1,6 +1,6 @@
 use Rattle.std.proofs.Common.{◌≡◌, ◌+◌, ◌-◌, ◌*◌, ◌≤◌, length, drop}
-use Rattle.ut_regex.specs.Sweeps.{risen}
-use Rattle.ut_regex.specs.Held.{rising}
+use Rattle.ut_regex.specs.Inner.Sweeps.{risen}
+use Rattle.ut_regex.specs.Inner.Held.{rising}
 use Rattle.ut_regex.proofs.sweep.sweep_up.Given as goal
 
 abbrev pub invariant-loop-step : goal.invariant-loop-step

@@ -1,6 +1,6 @@
 use Rattle.std.proofs.Common.{subst, sym, slice_index_or, arith, rules}
-use Rattle.ut_regex.specs.Twins.{AreTwins}
-use Rattle.ut_regex.specs.Tables.{states_of}
+use Rattle.ut_regex.specs.Inner.Twins.{AreTwins}
+use Rattle.ut_regex.specs.Inner.Tables.{states_of}
 use Rattle.ut_regex.proofs.ReachLemmas.{reached_same, reached_back}
 use Rattle.ut_regex.proofs.TableLemmas.{keeps_more, entered_same, entered_back}
 use Rattle.ut_regex.proofs.table.add_entries.Goals as goal

@@ -1,7 +1,7 @@
 use Rattle.std.proofs.Common.{◌≡◌, ◌+◌, ◌*◌, ◌≤◌, length}
-use Rattle.ut_regex.specs.Seeks.{Same}
-use Rattle.ut_regex.specs.Reached.{AreReached}
-use Rattle.ut_regex.specs.Tables.{states_of, Entered, Keeps}
+use Rattle.ut_regex.specs.Inner.Seeks.{Same}
+use Rattle.ut_regex.specs.Inner.Reached.{AreReached}
+use Rattle.ut_regex.specs.Inner.Tables.{states_of, Entered, Keeps}
 use Rattle.ut_regex.proofs.table.add_entries.Given as goal
 
 abbrev pub invariant-loop-code : goal.invariant-loop-code

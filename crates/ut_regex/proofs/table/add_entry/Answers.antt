@@ -1,5 +1,5 @@
 use Rattle.std.proofs.Common.{◌<◌, length, refl, sym, ap, ◌∙◌, arith}
-use Rattle.ut_regex.specs.Tables.{state_of, states_of, after}
+use Rattle.ut_regex.specs.Inner.Tables.{state_of, states_of, after}
 use Rattle.ut_regex.proofs.ReachLemmas.{reached_entry}
 use Rattle.ut_regex.proofs.TableLemmas.{entered_push, states_length, state_there, entry_same}
 use Rattle.ut_regex.proofs.TwinLemmas.{entered_twin}

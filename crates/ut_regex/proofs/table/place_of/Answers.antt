@@ -1,6 +1,6 @@
 use Rattle.std.proofs.Common.{◌≡◌, ◌<◌, ap, arith, inl, inr, length, sym, ◌∙◌}
 use Rattle.std.proofs.lemmas.Bool.{cases_lt}
-use Rattle.ut_regex.specs.Tables.{states_of, state_at}
+use Rattle.ut_regex.specs.Inner.Tables.{states_of, state_at}
 use Rattle.ut_regex.proofs.TableLemmas.{state_there}
 use Rattle.ut_regex.proofs.table.place_of.Goals as goal
 

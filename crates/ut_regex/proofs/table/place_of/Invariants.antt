@@ -1,5 +1,5 @@
 use Rattle.std.proofs.Common.{◌≡◌, ◌<◌, ℕ}
-use Rattle.ut_regex.specs.Tables.{state_of, states_of, state_at}
+use Rattle.ut_regex.specs.Inner.Tables.{state_of, states_of, state_at}
 use Rattle.ut_regex.proofs.table.place_of.Given as goal
 
 abbrev pub invariant-loop-place : goal.invariant-loop-place

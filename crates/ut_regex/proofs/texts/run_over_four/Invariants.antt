@@ -1,5 +1,5 @@
 use Rattle.std.proofs.Common.{◌≡◌, ◌+◌, ◌*◌, ◌-◌, ◌<◌, ◌≤◌, length, drop}
-use Rattle.ut_regex.specs.Tables.{left_at_found}
+use Rattle.ut_regex.specs.Inner.Tables.{left_at_found}
 use Rattle.ut_regex.proofs.texts.run_over_four.Given as goal
 
 abbrev pub invariant-loop-at : goal.invariant-loop-at

@@ -1,6 +1,6 @@
 use Rattle.std.proofs.Common.{◌≡◌, ◌+◌, ◌*◌, ◌<◌, ℕ, length, slice_index_or}
 use Rattle.ut_regex.specs.declared.table.TheConstants.{FOUND}
-use Rattle.ut_regex.specs.Tables.{text_entry}
+use Rattle.ut_regex.specs.Inner.Tables.{text_entry}
 use Rattle.ut_regex.proofs.texts.text_entries.Given as goal
 
 abbrev pub invariant-loop-place : goal.invariant-loop-place

@@ -1,5 +1,5 @@
 use Rattle.std.proofs.Common.{length}
-use Rattle.ut_regex.specs.Twins.{AreTwins}
+use Rattle.ut_regex.specs.Inner.Twins.{AreTwins}
 use Rattle.ut_regex.proofs.twins.are_twins.Given as goal
 
 abbrev pub invariant-loop-left : goal.invariant-loop-left

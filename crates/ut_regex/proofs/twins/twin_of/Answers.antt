@@ -1,6 +1,6 @@
 use Rattle.std.proofs.Common.{◌≡◌, ◌<◌, arith, inl, inr, subst}
 use Rattle.std.proofs.lemmas.Bool.{cases_lt}
-use Rattle.ut_regex.specs.Twins.{AreTwins}
+use Rattle.ut_regex.specs.Inner.Twins.{AreTwins}
 use Rattle.ut_regex.proofs.TwinLemmas.{own_twin}
 use Rattle.ut_regex.proofs.twins.twin_of.Goals as goal
 

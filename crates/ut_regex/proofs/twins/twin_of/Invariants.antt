@@ -1,5 +1,5 @@
 use Rattle.std.proofs.Common.{◌<◌, ℕ}
-use Rattle.ut_regex.specs.Twins.{AreTwins}
+use Rattle.ut_regex.specs.Inner.Twins.{AreTwins}
 use Rattle.ut_regex.proofs.twins.twin_of.Given as goal
 
 abbrev pub invariant-loop-first : goal.invariant-loop-first

@@ -1,4 +1,4 @@
-use Rattle.ut_regex.specs.Twins.{AreFirst, HasTwins}
+use Rattle.ut_regex.specs.Inner.Twins.{AreFirst, HasTwins}
 use Rattle.ut_regex.proofs.twins.twins_of.Given as goal
 
 abbrev pub invariant-loop-code : goal.invariant-loop-code

@@ -1,6 +1,6 @@
 use Rattle.std.proofs.Common.{◌+◌, ◌-◌, true, refl, subst, sym, arith}
 use Rattle.std.proofs.lemmas.List.{take_rest}
-use Rattle.ut_regex.specs.Literals.{StandsAt}
+use Rattle.ut_regex.specs.Inner.Literals.{StandsAt}
 use Rattle.ut_regex.proofs.FoldedLemmas.{after-found, at-end, before-found, none-left, too-short}
 use Rattle.ut_regex.proofs.folded.Folded.first_place.Goals as goal
 

@@ -1,6 +1,6 @@
 use Rattle.std.proofs.Common.{◌-◌, ◌≤◌, true, length}
 use Rattle.memchr.specs.Find.{Nowhere}
-use Rattle.ut_regex.specs.Literals.{StandsAt}
+use Rattle.ut_regex.specs.Inner.Literals.{StandsAt}
 use Rattle.ut_regex.proofs.folded.Folded.first_place.Given as goal
 
 abbrev pub invariant-loop-from : goal.invariant-loop-from

@@ -1,6 +1,6 @@
 use Rattle.std.proofs.Common.{ap, ◌∙◌, drop}
 use Rattle.std.proofs.lemmas.List.{take_rest}
-use Rattle.ut_regex.specs.Tables.{left_at_found}
+use Rattle.ut_regex.specs.Inner.Tables.{left_at_found}
 use Rattle.ut_regex.proofs.IdleLemmas.{passed-over}
 use Rattle.ut_regex.proofs.RunLemmas.{are_bytes}
 use Rattle.ut_regex.proofs.idle.Idle.run_from.Goals as goal

@@ -1,5 +1,5 @@
 use Rattle.std.proofs.Common.{Bool}
-use Rattle.ut_regex.specs.Seeks.{Seeks, Same}
+use Rattle.ut_regex.specs.Inner.Seeks.{Seeks, Same}
 use Rattle.ut_regex.specs.Tree.{Tree}
 use Rattle.ut_regex.proofs.ScanLemmas.{Scanned}
 use Rattle.ut_regex.proofs.machine.Machine.has.Given as goal

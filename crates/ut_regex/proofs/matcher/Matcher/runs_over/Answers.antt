@@ -1,5 +1,5 @@
 use Rattle.std.proofs.Common.{IfSome, subst, sym, ◌∙◌}
-use Rattle.ut_regex.specs.Made.{IsMade}
+use Rattle.ut_regex.specs.Inner.Made.{IsMade}
 use Rattle.ut_regex.proofs.RunLemmas.{are_bytes, made_has}
 use Rattle.ut_regex.proofs.matcher.Matcher.runs_over.Goals as goal
 

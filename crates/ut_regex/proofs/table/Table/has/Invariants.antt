@@ -1,5 +1,5 @@
 use Rattle.std.proofs.Common.{◌≡◌, length}
-use Rattle.ut_regex.specs.Tables.{runs}
+use Rattle.ut_regex.specs.Inner.Tables.{runs}
 use Rattle.ut_regex.proofs.RunLemmas.{AreBytes}
 use Rattle.ut_regex.proofs.table.Table.has.Given as goal
 

@@ -1,7 +1,7 @@
 use Rattle.std.proofs.Common.{◌<◌, ◌+◌, length, sym, ap, ap₂, ◌∙◌, arith, rules, length-append, true}
-use Rattle.ut_regex.specs.Seeks.{Same}
-use Rattle.ut_regex.specs.Reached.{many_states}
-use Rattle.ut_regex.specs.Tables.{state_of, states_of, leads_at}
+use Rattle.ut_regex.specs.Inner.Seeks.{Same}
+use Rattle.ut_regex.specs.Inner.Reached.{many_states}
+use Rattle.ut_regex.specs.Inner.Tables.{state_of, states_of, leads_at}
 use Rattle.ut_regex.proofs.ReachLemmas.{reached_same, reached_back}
 use Rattle.ut_regex.proofs.TableLemmas.{states_length, state_there, entered_same, entered_back, ended_push}
 use Rattle.ut_regex.proofs.table.Table.of.Goals as goal

@@ -1,7 +1,7 @@
 use Rattle.std.proofs.Common.{◌≡◌, ◌-◌, ◌*◌, ◌<◌, ◌≤◌, ℕ, false, true, length, slice_index_or}
-use Rattle.ut_regex.specs.Seeks.{Same}
-use Rattle.ut_regex.specs.Reached.{AreReached}
-use Rattle.ut_regex.specs.Tables.{states_of, state_at, first_state, leads_at, Entered}
+use Rattle.ut_regex.specs.Inner.Seeks.{Same}
+use Rattle.ut_regex.specs.Inner.Reached.{AreReached}
+use Rattle.ut_regex.specs.Inner.Tables.{states_of, state_at, first_state, leads_at, Entered}
 use Rattle.ut_regex.proofs.table.Table.of.Given as goal
 
 abbrev pub invariant-states : goal.invariant-states

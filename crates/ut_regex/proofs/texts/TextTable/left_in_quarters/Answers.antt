@@ -1,5 +1,5 @@
 use Rattle.std.proofs.Common.{sym, ap, subst, ◌∙◌}
-use Rattle.ut_regex.specs.Tables.{left_at_found, BeginsLines}
+use Rattle.ut_regex.specs.Inner.Tables.{left_at_found, BeginsLines}
 use Rattle.ut_regex.proofs.TextLemmas.{left-in-first, left-in-second, left-in-third, left-in-fourth}
 use Rattle.ut_regex.proofs.texts.TextTable.left_in_quarters.Goals as goal
 

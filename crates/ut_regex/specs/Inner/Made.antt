@@ -2,7 +2,7 @@
 use Rattle.std.specs.Prelude.{Bool, List}
 use Rattle.ut_regex.specs.declared.program.Op.{Op}
 use Rattle.ut_regex.specs.declared.table.Table.{Table}
-use Rattle.ut_regex.specs.Tables.{State, IsTable}
+use Rattle.ut_regex.specs.Inner.Tables.{State, IsTable}
 
 -- a table is that of a program
 abbrev pub IsMade : List Op → Bool → Bool → Table → Type 0

@@ -1,6 +1,6 @@
 -- What a stack of bits holds, and how many it has room for.
 use Rattle.std.specs.Prelude.{ℕ, Bool, List}
-use Rattle.ut_regex.specs.Sweeps.{Rising, Sinking}
+use Rattle.ut_regex.specs.Inner.Sweeps.{Rising, Sinking}
 
 pub record Held : Type 0 where
   pub bits : List Bool

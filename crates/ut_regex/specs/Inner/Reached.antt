@@ -2,7 +2,7 @@
 use Rattle.std.specs.Prelude.{ℕ, ◌≡◌, ◌<◌, Bool, true, false, List, length}
 use Rattle.ut_regex.specs.declared.program.Op.{Op}
 use Rattle.ut_regex.specs.declared.table.TheConstants.{MAX_STATES, MAX_STEPS}
-use Rattle.ut_regex.specs.Tables.{State, first_state, state_at, after, leads_at}
+use Rattle.ut_regex.specs.Inner.Tables.{State, first_state, state_at, after, leads_at}
 
 -- a state behind which a machine goes on: the expression doesn't end there, or has to end with the line
 abbrev pub GoesOn : List Op → Bool → State → Type 0

@@ -3,8 +3,8 @@ use Rattle.std.specs.Prelude.{ℕ, ◌≡◌, Bool, ◌&&◌, ◌||◌, List, []
 use Rattle.ut_regex.specs.declared.machine.Machine.{Machine}
 use Rattle.ut_regex.specs.declared.program.Op.{Op}
 use Rattle.ut_regex.specs.Tree.{Tree}
-use Rattle.ut_regex.specs.Program.{core, steps}
-use Rattle.ut_regex.specs.Sweeps.{top, below, Rising, risen, sunk}
+use Rattle.ut_regex.specs.Inner.Program.{core, steps}
+use Rattle.ut_regex.specs.Inner.Sweeps.{top, below, Rising, risen, sunk}
 
 -- the machine seeks the expression; with `fold` in both cases of letters, with `whole` as the whole line
 pub record Seeks (machine : Machine) (fold whole : Bool) (re : Tree) : Type 0 where

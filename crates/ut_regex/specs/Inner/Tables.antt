@@ -6,7 +6,7 @@ use Rattle.ut_regex.specs.declared.machine.Row.{Row}
 use Rattle.ut_regex.specs.declared.program.Op.{Op}
 use Rattle.ut_regex.specs.declared.table.TheConstants.{FOUND}
 use Rattle.ut_regex.specs.declared.texts.Run.{Run}
-use Rattle.ut_regex.specs.Seeks.{swept, leads_on, marked}
+use Rattle.ut_regex.specs.Inner.Seeks.{swept, leads_on, marked}
 
 -- a state of a machine: whether it stands at the line's beginning, and its marks
 pub record State : Type 0 where

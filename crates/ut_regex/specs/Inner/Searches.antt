@@ -2,7 +2,7 @@
 use Rattle.std.specs.Prelude.{ℕ, ◌≡◌, ◌<◌, Bool, true, false, List, length}
 use Rattle.ut_regex.specs.declared.search.Search.{Search}
 use Rattle.ut_regex.specs.declared.search.Search.TheVariants.{Exact, Folded}
-use Rattle.ut_regex.specs.Literals.{IsLiteral}
+use Rattle.ut_regex.specs.Inner.Literals.{IsLiteral}
 use Rattle.ut_regex.specs.Tree.{Tree}
 
 -- what is searched for

@@ -1,0 +1,15 @@
+pub mod Program
+pub mod Sweeps
+pub mod Held
+pub mod Seeks
+pub mod Tables
+pub mod Reached
+pub mod Idling
+pub mod Starts
+pub mod Made
+pub mod Twins
+pub mod Literals
+pub mod Searches
+pub mod Passed
+pub mod Counted
+pub mod Building

@@ -2,3 +2,4 @@ pub mod CommandLemmas
 pub mod PieceLemmas
 pub mod ListLemmas
 pub mod WordLemmas
+pub mod OperandLemmas

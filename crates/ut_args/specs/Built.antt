@@ -7,7 +7,10 @@ use Rattle.ut_args.specs.declared.invocations.Inv.{Inv}
 use Rattle.ut_args.specs.declared.commands.Command.{Command}
 use Rattle.ut_args.specs.declared.commands.Command.TheVariants as command
 use Rattle.ut_args.specs.declared.commands.GrepArgs.{GrepArgs}
+use Rattle.ut_args.specs.declared.commands.TailArgs.{TailArgs}
 use Rattle.ut_args.specs.declared.commands.WcArgs.{WcArgs}
+use Rattle.ut_args.specs.declared.commands.Origin.{Origin}
+use Rattle.ut_args.specs.declared.commands.Origin.TheVariants as origin
 use Rattle.ut_args.specs.declared.commands.Report.{Report}
 use Rattle.ut_args.specs.declared.commands.Report.TheVariants as report
 use Rattle.ut_args.specs.declared.commands.Syntax.{Syntax}
@@ -46,10 +49,23 @@ has_none (operand ∷ operands) = false
 abbrev pub is_built_wc : WcArgs → Bool
 is_built_wc args = args.lines && (not args.words && (not args.bytes && has_none args.operands))
 
+-- tail: from some line or byte on, of one input
+abbrev pub is_from_start : Origin → Bool
+is_from_start (origin.Start number) = true
+is_from_start (origin.End number) = false
+
+abbrev pub is_built_tail : TailArgs → Bool
+is_built_tail args = is_from_start args.part.origin && has_at_most_one args.operands
+
+-- tr: where it doesn't squeeze
 abbrev pub is_built_by : Command → Bool
 is_built_by (command.Cat args) = true
 is_built_by (command.Grep args) = is_built_grep args
+is_built_by (command.Tr args) = not args.squeezes
+is_built_by (command.Cut args) = true
+is_built_by (command.Tail args) = is_built_tail args
 is_built_by (command.Wc args) = is_built_wc args
+is_built_by (command.Sort args) = true
 is_built_by other = false
 
 abbrev pub is_built_of : Inv → Bool

@@ -24,6 +24,31 @@ operands_by other = []
 abbrev pub operands_of : Inv → List (List ℕ)
 operands_of inv = operands_by (command_of inv)
 
+-- the command with these as the operands that name inputs; one that has no such operands stays
+abbrev pub with_operands : List (List ℕ) → Command → Command
+with_operands operands (command.Cat args) = command.Cat (record { operands = operands })
+with_operands operands (command.Grep args) = command.Grep (record args { operands = operands })
+with_operands operands (command.Cut args) = command.Cut (record args { operands = operands })
+with_operands operands (command.Head args) = command.Head (record args { operands = operands })
+with_operands operands (command.Tail args) = command.Tail (record args { operands = operands })
+with_operands operands (command.Wc args) = command.Wc (record args { operands = operands })
+with_operands operands (command.Uniq args) = command.Uniq (record args { operands = operands })
+with_operands operands (command.Sort args) = command.Sort (record args { operands = operands })
+with_operands operands (command.Paste args) = command.Paste (record args { operands = operands })
+with_operands operands other = other
+
+-- the empty text, which names no input, in place of each operand whose flag is set; an operand without a flag stays
+abbrev pub emptied : List Bool → List (List ℕ) → List (List ℕ)
+emptied flags [] = []
+emptied [] (operand ∷ operands) = operand ∷ operands
+emptied (flag ∷ flags) (operand ∷ operands) = (if flag then [] else operand) ∷ emptied flags operands
+
+-- the operands whose flag isn't set
+abbrev pub remaining : List Bool → List (List ℕ) → List (List ℕ)
+remaining flags [] = []
+remaining [] (operand ∷ operands) = operand ∷ operands
+remaining (flag ∷ flags) (operand ∷ operands) = if flag then remaining flags operands else operand ∷ remaining flags operands
+
 -- the paths of the files that are written
 abbrev pub files_by : Command → List (List ℕ)
 files_by (command.Tee args) = args.files

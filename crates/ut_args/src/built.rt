@@ -1,21 +1,26 @@
 //! The invocations that are built.
 ghost use Rattle.std.specs.Prelude.{◌≡◌};
 ghost use Rattle.ps_lines.specs.Texts.{texts_of};
-ghost use Rattle.ut_args.specs.Built.{changes_lines as changes_lines_lem, is_built_grep as is_built_grep_lem, is_built_of, is_built_wc as is_built_wc_lem, is_one_pattern as is_one_pattern_lem};
+ghost use Rattle.ut_args.specs.Built.{changes_lines as changes_lines_lem, is_built_grep as is_built_grep_lem, is_built_of, is_built_tail as is_built_tail_lem, is_built_wc as is_built_wc_lem, is_from_start as is_from_start_lem, is_one_pattern as is_one_pattern_lem};
 
-use crate::commands::{GrepArgs, Report, Syntax, WcArgs};
+use crate::commands::{GrepArgs, Origin, Report, Syntax, TailArgs, WcArgs};
 use crate::invocations::Inv;
 use crate::utilities::has_at_most_one;
 use ps_lines::NEWLINE;
 
-/// Whether an invocation is built: whether its utility has a stream so far, as `cat`, `grep -F PATTERN` and `wc -l` have.
+/// Whether an invocation is built: whether its utility has a stream so far, as `cat`, `sort`, `grep -F PATTERN`, `tr` without `-s`, `cut`,
+/// `tail` with `+N` and `wc -l` have.
 pub fn is_built(inv: &Inv) -> bool
     ensures { result ≡ is_built_of inv.now }
 {
     match inv {
         Inv::Cat(_) => true,
         Inv::Grep(grep) => is_built_grep(&grep.args),
+        Inv::Tr(tr) => !tr.args.squeezes,
+        Inv::Cut(_) => true,
+        Inv::Tail(tail) => is_built_tail(&tail.args),
         Inv::Wc(wc) => is_built_wc(&wc.args),
+        Inv::Sort(_) => true,
         _ => false,
     }
 }
@@ -53,4 +58,21 @@ fn is_built_wc(args: &WcArgs) -> bool
     ensures { result ≡ is_built_wc_lem args.now }
 {
     args.lines && !args.words && !args.bytes && args.operands.as_slice().is_empty()
+}
+
+/// Whether it is `tail` from some line or byte on, of one input.
+fn is_built_tail(args: &TailArgs) -> bool
+    ensures { result ≡ is_built_tail_lem args.now }
+{
+    is_from_start(args.part.origin) && has_at_most_one(&args.operands)
+}
+
+/// Whether it counts from the start.
+fn is_from_start(origin: Origin) -> bool
+    ensures { result ≡ is_from_start_lem origin }
+{
+    match origin {
+        Origin::Start(_) => true,
+        Origin::End(_) => false,
+    }
 }

@@ -1,11 +1,18 @@
 //! The inputs and the files of an invocation.
-ghost use Rattle.std.specs.Prelude.{◌≡◌, ◌≤◌, length};
+ghost use Rattle.std.specs.Prelude.{◌≡◌, ◌≤◌, ◌-◌, ◌∷◌, ◌++◌, [], length, take, drop, get_or, false, Ok, IfOk, OnOk, if◌then◌else◌};
 ghost use Rattle.std.specs.List.{count_by, list_all, list_any};
 ghost use Rattle.ps_lines.specs.Lines.{is_empty};
 ghost use Rattle.ps_lines.specs.Texts.{texts_of};
-ghost use Rattle.ut_args.specs.Inputs.{counted as counted_lem, files_of, inputs_of, is_file, is_named, is_standard, joined_inputs as joined_inputs_lem, operands_of, separate_inputs as separate_inputs_lem, shared_inputs as shared_inputs_lem};
+ghost use Rattle.ut_args.specs.Invocations.{command_of, words_of};
+ghost use Rattle.ut_args.specs.Reading.{invocation};
+ghost use Rattle.ut_args.specs.Inputs.{counted as counted_lem, emptied, files_of, inputs_of, is_file, is_named, is_standard, joined_inputs as joined_inputs_lem, operands_of, separate_inputs as separate_inputs_lem, shared_inputs as shared_inputs_lem, with_operands};
 
+use crate::faults::ArgFault;
 use crate::invocations::Inv;
+use crate::reading::read_inv;
+use ps_lines::Memory;
+use std::alloc::Global;
+use ut_options::Texts;
 
 impl Inv {
     /// The operands that name its inputs, in order: files, or `-` for standard input; the empty text names none.
@@ -54,6 +61,99 @@ impl Inv {
             Inv::Tr(_) | Inv::Tee(_) => 1,
             _ => 0,
         }
+    }
+
+    /// The invocation with the empty text, which names no input, in place of each operand whose flag is set.
+    ///
+    /// `lacking` has the flags of its operands, in order; an operand without a flag stays. The new words are read again, as they
+    /// determine the invocation.
+    pub fn without(&self, alloc: Global, lacking: &[bool]) -> Result<Inv, Memory>
+        ensures command { IfOk result (λ inv. command_of inv ≡ with_operands (emptied lacking.now (operands_of self.now)) (command_of self.now)) }
+        ensures words { IfOk result (λ inv. words_of inv ≡ take (length (words_of self.now) - length (operands_of self.now)) (words_of self.now) ++ emptied lacking.now (operands_of self.now)) }
+    {
+        let words = self.words_without(alloc, lacking)?;
+        match read_inv(alloc, words.as_slice()) {
+            Ok(inv) => Ok(inv),
+            Err(ArgFault::Memory) => Err(Memory),
+            // the words of an invocation are one with emptied operands too
+            Err(ArgFault::UnknownCommand(_)) => unreachable!(),
+            Err(ArgFault::UnsupportedFlag(_, _)) => unreachable!(),
+            Err(ArgFault::BadUsage(_)) => unreachable!(),
+        }
+    }
+
+    /// The words of that invocation.
+    fn words_without(&self, alloc: Global, lacking: &[bool]) -> Result<Texts, Memory>
+        ensures asked { IfOk result (λ words. invocation words ≡ Ok (with_operands (emptied lacking.now (operands_of self.now)) (command_of self.now))) }
+        ensures words { IfOk result (λ words. words ≡ take (length (words_of self.now) - length (operands_of self.now)) (words_of self.now) ++ emptied lacking.now (operands_of self.now)) }
+    {
+        emptied_words(alloc, self.words(), self.operands(), lacking)
+    }
+}
+
+/// Words, of which the last are operands, with the empty text in place of each operand whose flag is set.
+#[tactic(auto, using(crate::proofs::OperandLemmas::front_steps))]
+fn emptied_words(
+    alloc: Global,
+    words: &[Vec<u8>],
+    operands: &[Vec<u8>],
+    lacking: &[bool],
+) -> Result<Texts, Memory>
+    requires { length operands.now ≤ length words.now }
+    ensures { IfOk result (λ texts. texts ≡ take (length words.now - length operands.now) (texts_of words.now) ++ emptied lacking.now (texts_of operands.now)) }
+{
+    let mut texts = Texts::copy_of(alloc, &words[..words.len() - operands.len()])?;
+    push_emptied(alloc, &mut texts, operands, lacking)?;
+    Ok(texts)
+}
+
+/// Appends operands, with the empty text in place of each whose flag is set.
+#[tactic(auto, using(crate::proofs::OperandLemmas::emptied_steps))]
+fn push_emptied(
+    alloc: Global,
+    texts: &mut Texts,
+    operands: &[Vec<u8>],
+    lacking: &[bool],
+) -> Result<(), Memory>
+    ensures { OnOk result (texts.new ≡ texts.old ++ emptied lacking.now (texts_of operands.now)) }
+{
+    let mut flags = lacking;
+    let mut left = operands;
+    while let [operand, rest @ ..] = left {
+        push_operand(alloc, texts, operand.as_slice(), is_first_set(flags))?;
+        flags = behind_first(flags);
+        left = rest;
+    }
+    Ok(())
+}
+
+/// Appends an operand, or the empty text in its place.
+fn push_operand(alloc: Global, texts: &mut Texts, operand: &[u8], lacks: bool) -> Result<(), Memory>
+    ensures { OnOk result (texts.new ≡ texts.old ++ (if lacks then [] else operand.now) ∷ []) }
+{
+    if lacks {
+        return texts.push(alloc, b"");
+    }
+    texts.push(alloc, operand)
+}
+
+/// Whether there is a first flag, and it is set.
+fn is_first_set(flags: &[bool]) -> bool
+    ensures { result ≡ get_or flags.now 0 false }
+{
+    match flags {
+        [flag, ..] => *flag,
+        [] => false,
+    }
+}
+
+/// The flags behind the first.
+fn behind_first(flags: &[bool]) -> &[bool]
+    ensures { result.now ≡ drop 1 flags.now }
+{
+    match flags {
+        [_, others @ ..] => others,
+        [] => flags,
     }
 }
 

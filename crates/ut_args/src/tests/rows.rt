@@ -49,6 +49,39 @@ fn is_copied(inv: &Inv, words: &[Vec<u8>]) -> Result<bool, Memory> {
     Ok(copy.is(inv) && copy.words() == words)
 }
 
+/// Whether an invocation without the operands that a row marks has the words, the operands and the number of inputs that it says.
+pub(super) fn is_without(alloc: Global, row: &str) -> Result<bool, Memory> {
+    let mut columns = row.as_bytes().split(|byte| *byte == b'|');
+    let words = items_of(alloc, columns.next().unwrap_or(&[]))?;
+    let lacking = flags_of(alloc, columns.next().unwrap_or(&[]))?;
+    let others = items_of(alloc, columns.next().unwrap_or(&[]))?;
+    let operands = items_of(alloc, columns.next().unwrap_or(&[]))?;
+    let inputs = items_of(alloc, columns.next().unwrap_or(&[]))?;
+    if words.is_empty() {
+        return Ok(false);
+    }
+    let Ok(inv) = read_inv(alloc, words.as_slice()) else {
+        return Ok(false);
+    };
+    let without = inv.without(alloc, lacking.as_slice())?;
+    Ok(
+        others.as_slice() == without.words()
+            && operands.as_slice() == operands_of(&without)
+            && inputs.as_slice() == inputs_of(alloc, &without)?.as_slice(),
+    )
+}
+
+/// The flags of a column: `1` is one that is set.
+fn flags_of(alloc: Global, column: &[u8]) -> Result<Vec<bool>, Memory> {
+    let mut flags = Vec::new(alloc);
+    for &byte in column {
+        if byte != b' ' {
+            flags.push(byte == b'1')?;
+        }
+    }
+    Ok(flags)
+}
+
 /// Whether the words of a row have the class that it says, and keep texts closed where it says so.
 pub(super) fn has_class(alloc: Global, row: &str) -> Result<bool, Memory> {
     let mut columns = row.as_bytes().split(|byte| *byte == b'|');

@@ -1,5 +1,5 @@
 //! The words of the utilities, by their pages in XCU.
-use super::rows::is_read;
+use super::rows::{is_read, is_without};
 use std::test::Fail;
 
 static GREP: [&str; 46] = [
@@ -436,6 +436,30 @@ static CAT_TEE_AND_WC: [&str; 49] = [
 fn words_of_cat_tee_and_wc_are_read(rt: HostRuntime) -> Result<(), Fail> {
     for row in CAT_TEE_AND_WC.iter() {
         assert!(rt; is_read(rt.alloc(), row)?, "{row}");
+    }
+    Ok(())
+}
+
+// The words, the flags of their operands, the words then, the operands then, and how many inputs are left.
+static LACKING: [&str; 12] = [
+    r"cat a b c | 0 1 0 | cat a \e c | a \e c | 1",
+    r"cat a b | 1 1 | cat \e \e | \e \e | 0",
+    r"cat -- -a b | 1 0 | cat -- \e b | \e b | 1",
+    "cat | 1 | cat | | 1",
+    r"grep x f g | 1 | grep x \e g | \e g | 1",
+    r"grep -e x -- -f | 1 | grep -e x -- \e | \e | 0",
+    r"grep \e f g h | 0 1 0 | grep \e f \e h | f \e h | 2",
+    r"tail -5 f | 1 1 | tail -5 \e | \e | 0",
+    r"sort -k1,2 - f | 0 1 | sort -k1,2 - \e | - \e | 1",
+    r"paste -s - f - | 0 1 0 | paste -s - \e - | - \e - | 2",
+    "tr a b | 1 1 | tr a b | | 1",
+    "tee a b | 1 1 | tee a b | a b | 1",
+];
+
+#[test]
+fn operands_that_lack_an_input_are_empty(rt: HostRuntime) -> Result<(), Fail> {
+    for row in LACKING.iter() {
+        assert!(rt; is_without(rt.alloc(), row)?, "{row}");
     }
     Ok(())
 }

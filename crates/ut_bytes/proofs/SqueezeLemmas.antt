@@ -1,0 +1,68 @@
+-- Squeezing a text, from its parts.
+use Rattle.std.proofs.Common.{◌≡◌, ◌==◌, ℕ, List, [], ◌∷◌, ◌++◌, Bool, true, false, Option, None, Some, refl, ap, sym, ◌∙◌, if◌then◌else◌}
+use Rattle.std.proofs.lemmas.Bool.{and_parts, eqb-true, true≢false}
+use Rattle.ut_bytes.specs.Steps.{is_repeat, squeezed_behind}
+
+module _ (set : ℕ → Bool) where
+  -- the byte that a text leaves before what comes
+  abbrev last_byte : Option ℕ → List ℕ → Option ℕ
+  last_byte before [] = before
+  last_byte before (byte ∷ rest) = last_byte (Some byte) rest
+
+  -- a byte that is kept or not, before what is squeezed behind it
+  abbrev kept : Bool → ℕ → List ℕ → List ℕ
+  kept repeat byte rest = if repeat then rest else byte ∷ rest
+
+  kept-append : (repeat : Bool) (byte : ℕ) (front back : List ℕ) → kept repeat byte (front ++ back) ≡ kept repeat byte front ++ back
+  kept-append true byte front back = refl
+  kept-append false byte front back = refl
+
+  squeezed-append : (before : Option ℕ) (front back : List ℕ)
+      → squeezed_behind before set (front ++ back) ≡ squeezed_behind before set front ++ squeezed_behind (last_byte before front) set back
+  squeezed-append before [] back = refl
+  squeezed-append before (byte ∷ front) back =
+      ap (kept (is_repeat set before byte) byte) (squeezed-append (Some byte) front back)
+      ∙ kept-append (is_repeat set before byte) byte (squeezed_behind (Some byte) set front) (squeezed_behind (last_byte (Some byte) front) set back)
+
+  -- a repeated byte is the one before
+  repeated : (before : Option ℕ) (byte : ℕ) → is_repeat set before byte ≡ true → before ≡ Some byte
+  repeated None byte is = absurd (true≢false (sym is))
+  repeated (Some other) byte is = ap Some (sym (eqb-true byte other (and_parts (set byte) (byte == other) is).1))
+
+  -- squeezing again changes nothing
+  again-by : (repeat : Bool) (before : Option ℕ) (byte : ℕ) (rest : List ℕ) → is_repeat set before byte ≡ repeat
+      → squeezed_behind (Some byte) set (squeezed_behind (Some byte) set rest) ≡ squeezed_behind (Some byte) set rest
+      → squeezed_behind before set (kept repeat byte (squeezed_behind (Some byte) set rest)) ≡ kept repeat byte (squeezed_behind (Some byte) set rest)
+  again-by true before byte rest is same = ap (λ before. squeezed_behind before set (squeezed_behind (Some byte) set rest)) (repeated before byte is) ∙ same
+  again-by false before byte rest is same =
+      ap (λ repeat. kept repeat byte (squeezed_behind (Some byte) set (squeezed_behind (Some byte) set rest))) is ∙ ap (λ rest. byte ∷ rest) same
+
+  squeezed-again : (before : Option ℕ) (text : List ℕ) → squeezed_behind before set (squeezed_behind before set text) ≡ squeezed_behind before set text
+  squeezed-again before [] = refl
+  squeezed-again before (byte ∷ rest) = again-by (is_repeat set before byte) before byte rest refl (squeezed-again (Some byte) rest)
+
+  last-by : (repeat : Bool) (before : Option ℕ) (byte : ℕ) (rest : List ℕ) → is_repeat set before byte ≡ repeat
+      → last_byte (Some byte) (squeezed_behind (Some byte) set rest) ≡ last_byte (Some byte) rest
+      → last_byte before (kept repeat byte (squeezed_behind (Some byte) set rest)) ≡ last_byte (Some byte) rest
+  last-by true before byte rest is same = ap (λ before. last_byte before (squeezed_behind (Some byte) set rest)) (repeated before byte is) ∙ same
+  last-by false before byte rest is same = same
+
+  squeezed-last : (before : Option ℕ) (text : List ℕ) → last_byte before (squeezed_behind before set text) ≡ last_byte before text
+  squeezed-last before [] = refl
+  squeezed-last before (byte ∷ rest) = last-by (is_repeat set before byte) before byte rest refl (squeezed-last (Some byte) rest)
+
+  -- what was squeezed as if nothing stood before it
+  squeezed-begun : (before : Option ℕ) (text : List ℕ) → squeezed_behind before set (squeezed_behind None set text) ≡ squeezed_behind before set text
+  squeezed-begun before [] = refl
+  squeezed-begun before (byte ∷ rest) = ap (kept (is_repeat set before byte) byte) (squeezed-again (Some byte) rest)
+
+  pub squeezed-parts : (front back : List ℕ)
+      → squeezed_behind None set (front ++ back) ≡ squeezed_behind None set (squeezed_behind None set front ++ squeezed_behind None set back)
+  squeezed-parts front back =
+      squeezed-append None front back
+      ∙ sym (squeezed-append None (squeezed_behind None set front) (squeezed_behind None set back)
+      ∙ ap (λ front'. front' ++ squeezed_behind (last_byte None (squeezed_behind None set front)) set (squeezed_behind None set back)) (squeezed-again None front)
+      ∙ ap (λ last. squeezed_behind None set front ++ squeezed_behind last set (squeezed_behind None set back)) (squeezed-last None front)
+      ∙ ap (λ back. squeezed_behind None set front ++ back) (squeezed-begun (last_byte None front) back))
+
+pub ruleset squeeze_laws = (squeezed-parts)

@@ -1,0 +1,3 @@
+pub mod Tables
+pub mod Before
+pub mod Edits

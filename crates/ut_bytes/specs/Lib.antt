@@ -1,0 +1,4 @@
+pub mod Steps
+pub mod Tr
+pub mod Tee
+pub mod Inner

@@ -1,0 +1,12 @@
+use Rattle.std.proofs.Common.{length}
+use Rattle.ut_slices.proofs.PutLemmas.{PutSoFar}
+use Rattle.ut_slices.specs.Cut.{selected}
+use Rattle.ut_slices.specs.Inner.Runs.{in_runs}
+use Rattle.ut_slices.proofs.cuts.put_runs.Given as goal
+
+abbrev pub invariant-loop-run : goal.invariant-loop-run
+invariant-loop-run l =
+    PutSoFar (selected (in_runs l.runs l.rest_selected) 0 l.line) (selected (in_runs l.left l.rest_selected) 0 l.rest) l.initial.out.items l.out.items
+
+abbrev pub decreases-loop-run : goal.decreases-loop-run
+decreases-loop-run l = length l.left

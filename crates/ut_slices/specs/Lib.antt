@@ -1,0 +1,5 @@
+pub mod Ends
+pub mod Head
+pub mod Tail
+pub mod Cut
+pub mod Inner

@@ -12,12 +12,12 @@ use Rattle.std.proofs.lemmas.Bool.Decides.{nat_tests, eqb_tells}
 use Rattle.std.proofs.lemmas.Cmp.{ranked}
 use Rattle.ut_sort.specs.Numbers.{begins}
 
-record IsDigit (byte : ℕ) : Type 0 where
-  low : 48 ≤ byte
-  high : byte ≤ 57
-  value : digit_value byte ≡ byte - 48
+pub record IsDigit (byte : ℕ) : Type 0 where
+  pub low : 48 ≤ byte
+  pub high : byte ≤ 57
+  pub value : digit_value byte ≡ byte - 48
 
-digit-is : (byte : ℕ) → is_ascii_digit byte ≡ true → IsDigit byte
+pub digit-is : (byte : ℕ) → is_ascii_digit byte ≡ true → IsDigit byte
 digit-is byte is =
     let low : 48 ≤ byte = grind (arith, nat_tests) in
     let high : byte ≤ 57 = grind (arith, nat_tests) in

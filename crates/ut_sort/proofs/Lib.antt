@@ -7,4 +7,5 @@ pub mod LineLemmas
 pub mod MergeLemmas
 pub mod MergingLemmas
 pub mod PrefixLemmas
-pub mod KeyedLemmas
+pub mod PlaceLemmas
+pub mod UtilityLemmas

@@ -66,7 +66,7 @@ then_point Less = refl
 then_point Equal = refl
 then_point Greater = refl
 
-bytes_same : (one other : List ℕ) → bytes_cmp one other ≡ Equal → one ≡ other
+pub bytes_same : (one other : List ℕ) → bytes_cmp one other ≡ Equal → one ≡ other
 bytes_same = slice_cmp-IsAntisymmetric nat_cmp-IsAntisymmetric
 
 last_same : (unique reverse : Bool) (one other : List ℕ) → unique ≡ false → last_cmp unique reverse one other ≡ Equal → one ≡ other

@@ -52,21 +52,20 @@ abbrev pub keys_in_force : Ordering → List Key → List Key
 keys_in_force global [] = whole_line global ∷ []
 keys_in_force global (key ∷ others) = map (with_global global) (key ∷ others)
 
--- the place in a line that one end of a key counts its bytes from: its field, and behind the blanks there where it has b
-abbrev pub counted_from : Option ℕ → KeyEnd → List ℕ → List ℕ
-counted_from separator place line =
-    let field : List ℕ = behind_fields separator (place.field - 1) line in
-    if place.letters.blanks then behind_blanks field else field
+-- the place that one end of a key counts its bytes from: its field, and behind the blanks there where it has b
+abbrev pub counted_in : KeyEnd → List ℕ → List ℕ
+counted_in place field = if place.letters.blanks then behind_blanks field else field
 
 -- where a key begins, and where it ends: at its field's end where it counts no byte there
 abbrev pub start_in : Option ℕ → KeyEnd → List ℕ → List ℕ
-start_in separator start line = drop (start.byte - 1) (counted_from separator start line)
+start_in separator start line = drop (start.byte - 1) (counted_in start (behind_fields separator (start.field - 1) line))
+
+abbrev pub end_in_field : Option ℕ → KeyEnd → List ℕ → List ℕ
+end_in_field separator end field = if end.byte == 0 then field_end separator field else drop end.byte (counted_in end field)
 
 abbrev pub end_in : Option ℕ → Option KeyEnd → List ℕ → List ℕ
 end_in separator None line = []
-end_in separator (Some end) line =
-    if end.byte == 0 then field_end separator (behind_fields separator (end.field - 1) line)
-    else drop end.byte (counted_from separator end line)
+end_in separator (Some end) line = end_in_field separator end (behind_fields separator (end.field - 1) line)
 
 -- the bytes of a key in a line; none where its first field isn't there
 abbrev pub key_in : Option ℕ → Key → List ℕ → List ℕ

@@ -3,7 +3,9 @@ pub mod Numbers
 pub mod Keys
 pub mod Sorted
 pub mod Order
-pub mod LineOrders
 pub mod Merging
+pub mod Sort
 pub mod Prefixes
-pub mod KeyedLines
+pub mod LineOrders
+pub mod Places
+pub mod Writing

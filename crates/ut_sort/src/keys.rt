@@ -1,6 +1,6 @@
 //! The keys of lines, and how two are compared.
-ghost use Rattle.std.specs.Prelude.{◌≡◌, drop};
-ghost use Rattle.ut_sort.specs.Keys.{bytes_cmp, counted_from as counted_from_lem, end_in as end_in_lem, end_with as end_with_lem, end_with_if as end_with_if_lem, folded, has_letters as has_letters_lem, key_cmp, key_in as key_in_lem, keys_cmp, letters_of as letters_of_lem, start_in as start_in_lem, texts_cmp, whole_line as whole_line_lem, with_global as with_global_lem};
+ghost use Rattle.std.specs.Prelude.{◌≡◌, ◌-◌, drop};
+ghost use Rattle.ut_sort.specs.Keys.{bytes_cmp, counted_in as counted_in_lem, end_in_field, end_with as end_with_lem, end_with_if as end_with_if_lem, folded, has_letters as has_letters_lem, key_cmp, key_in as key_in_lem, keys_cmp, letters_of as letters_of_lem, texts_cmp, whole_line as whole_line_lem, with_global as with_global_lem};
 
 use crate::fields::{behind_blanks, behind_fields, field_end, up_to};
 use crate::numbers::compare_numbers;
@@ -84,11 +84,10 @@ pub(crate) fn whole_line(global: Letters) -> Key
     }
 }
 
-/// Where one end of a key counts its bytes from.
-fn counted_from<'t>(separator: Option<u8>, place: &KeyEnd, line: &'t [u8]) -> &'t [u8]
-    ensures { result.now ≡ counted_from_lem separator place.now line.now }
+/// Where one end of a key counts its bytes from, in its field.
+fn counted_in<'t>(place: &KeyEnd, field: &'t [u8]) -> &'t [u8]
+    ensures { result.now ≡ counted_in_lem place.now field.now }
 {
-    let field = behind_fields(separator, place.field.saturating_sub(1), line);
     if place.letters.blanks {
         behind_blanks(field)
     } else {
@@ -97,7 +96,7 @@ fn counted_from<'t>(separator: Option<u8>, place: &KeyEnd, line: &'t [u8]) -> &'
 }
 
 /// Behind so many bytes, and at most at the text's end.
-fn behind_bytes(count: u64, text: &[u8]) -> &[u8]
+pub(crate) fn behind_bytes(count: u64, text: &[u8]) -> &[u8]
     ensures { result.now ≡ drop count text.now }
 {
     if count < text.len() as u64 {
@@ -107,43 +106,47 @@ fn behind_bytes(count: u64, text: &[u8]) -> &[u8]
     }
 }
 
-/// Where a key begins.
-fn start_in<'t>(separator: Option<u8>, start: &KeyEnd, line: &'t [u8]) -> &'t [u8]
-    ensures { result.now ≡ start_in_lem separator start.now line.now }
+/// Where a key begins, in its field.
+fn start_in<'t>(start: &KeyEnd, field: &'t [u8]) -> &'t [u8]
+    ensures { result.now ≡ drop (start.now.byte - 1) (counted_in_lem start.now field.now) }
 {
-    behind_bytes(
-        start.byte.saturating_sub(1),
-        counted_from(separator, start, line),
-    )
+    behind_bytes(start.byte.saturating_sub(1), counted_in(start, field))
 }
 
-/// Where a key ends.
-fn end_in<'t>(separator: Option<u8>, end: &Option<KeyEnd>, line: &'t [u8]) -> &'t [u8]
-    ensures { result.now ≡ end_in_lem separator end.now line.now }
+/// Where a key ends, in the field that its end counts from.
+fn end_in<'t>(separator: Option<u8>, end: &KeyEnd, field: &'t [u8]) -> &'t [u8]
+    ensures { result.now ≡ end_in_field separator end.now field.now }
 {
-    match end {
-        None => &[],
-        Some(end) => {
-            if end.byte == 0 {
-                field_end(
-                    separator,
-                    behind_fields(separator, end.field.saturating_sub(1), line),
-                )
-            } else {
-                behind_bytes(end.byte, counted_from(separator, end, line))
-            }
-        }
+    if end.byte == 0 {
+        field_end(separator, field)
+    } else {
+        behind_bytes(end.byte, counted_in(end, field))
     }
 }
 
-/// The bytes of a key in a line; none where its first field isn't there.
+/// The bytes of a key in a line; none where its first field isn't there. A field that both ends count from is sought once.
 pub(crate) fn key_in<'t>(separator: Option<u8>, key: &Key, line: &'t [u8]) -> &'t [u8]
     ensures { result.now ≡ key_in_lem separator key.now line.now }
 {
-    up_to(
-        start_in(separator, &key.start, line),
-        end_in(separator, &key.end, line),
-    )
+    let field = behind_fields(separator, key.start.field.saturating_sub(1), line);
+    let start = start_in(&key.start, field);
+    match &key.end {
+        None => start,
+        Some(end) => {
+            if end.field == key.start.field {
+                up_to(start, end_in(separator, end, field))
+            } else {
+                up_to(
+                    start,
+                    end_in(
+                        separator,
+                        end,
+                        behind_fields(separator, end.field.saturating_sub(1), line),
+                    ),
+                )
+            }
+        }
+    }
 }
 
 /// The order of two texts by letters, but for `r`.

@@ -1,14 +1,16 @@
 //! What the order of lines and lines in order are, in laws: each is the contract of a function that does nothing.
 #![tactic(auto, using(crate::proofs::OrderLemmas::order_laws))]
 
-ghost use Rattle.std.specs.Prelude.{◌≡◌, ◌++◌, ℕ, List, true, false};
+ghost use Rattle.std.specs.Prelude.{◌≡◌, ◌∷◌, ◌++◌, ℕ, List, [], true, false};
 ghost use Rattle.std.specs.Cmp.{IsTotalOrder};
 ghost use Rattle.std.specs.declared.cmp.Ordering.TheVariants.{Equal};
 ghost use Rattle.ut_args.specs.declared.SortArgs.{SortArgs};
 ghost use Rattle.ut_sort.specs.Keys.{keys_cmp, keys_in_force};
 ghost use Rattle.ut_sort.specs.Order.{order_of, sorted_lines};
 ghost use Rattle.ut_sort.specs.Merging.{merged};
+ghost use Rattle.ut_sort.specs.Sort.{sort};
 ghost use Rattle.ut_sort.specs.Sorted.{IsSorted};
+ghost use Rattle.ps_lines.specs.Lines.{is_cutlist};
 
 /// Of every two lines one is before the other or both are equal, the same seen from either, and what is before a line that is before
 /// another is before that.
@@ -37,4 +39,11 @@ pub fn no_other_list_is_sorted()
 pub fn merge_sorts()
     ensures { (args : SortArgs) (texts others : List (List ℕ))
         → merged (order_of args) args.unique (sorted_lines args texts) (sorted_lines args others) ≡ sorted_lines args (texts ++ others) }
+{}
+
+/// What sort makes of a text that is cut at an end of lines is the merge of what it makes of the two parts.
+#[tactic(auto, using(crate::proofs::UtilityLemmas::sorts_parts))]
+pub fn parts_are_merged()
+    ensures { (args : SortArgs) (front back : List ℕ) → is_cutlist (front ∷ back ∷ []) ≡ true
+        → (sort args).part (front ++ back) ≡ (sort args).aggregate ((sort args).part front) ((sort args).part back) }
 {}

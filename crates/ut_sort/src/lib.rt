@@ -7,18 +7,20 @@
 #![tactic(auto)]
 
 mod fields;
-mod keyed;
 mod keys;
 pub mod laws;
-mod lines;
+mod line_orders;
 mod merging;
 mod numbers;
 mod orders;
+mod places;
 mod prefixes;
 mod sorter;
 #[cfg(test)]
 mod tests;
+mod writing;
 
 pub use merging::{merge, merge_some};
 pub use orders::order;
 pub use sorter::Sorter;
+pub use writing::SortedLines;

@@ -32,14 +32,14 @@ pub(crate) fn compare_numbers(one: &[u8], other: &[u8]) -> Ordering
 }
 
 /// How far a number is above zero.
-fn above_sign(text: &[u8]) -> &[u8]
+pub(crate) fn above_sign(text: &[u8]) -> &[u8]
     ensures { result.now ≡ above_sign_lem text.now }
 {
     if begins(MINUS, text) { &[] } else { text }
 }
 
 /// How far a number is below zero.
-fn below_sign(text: &[u8]) -> &[u8]
+pub(crate) fn below_sign(text: &[u8]) -> &[u8]
     ensures { result.now ≡ below_sign_lem text.now }
 {
     if begins(MINUS, text) {
@@ -82,7 +82,7 @@ fn compare_sizes(one: &[u8], other: &[u8]) -> Ordering
 }
 
 /// The digits that a text begins with, and what stands behind them.
-fn split_digits(text: &[u8]) -> (&[u8], &[u8])
+pub(crate) fn split_digits(text: &[u8]) -> (&[u8], &[u8])
     ensures front { result.0.now ≡ digits_front text.now }
     ensures digits { list_all is_ascii_digit result.0.now ≡ true }
     ensures behind { result.1.now ≡ behind_digits text.now }
@@ -100,7 +100,7 @@ fn split_digits(text: &[u8]) -> (&[u8], &[u8])
 }
 
 /// The digits of a fraction behind a point, without zeros at their end.
-fn fraction_behind(rest: &[u8]) -> &[u8]
+pub(crate) fn fraction_behind(rest: &[u8]) -> &[u8]
     ensures { result.now ≡ fraction_behind_lem rest.now }
 {
     if begins(POINT, rest) {

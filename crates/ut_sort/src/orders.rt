@@ -1,12 +1,13 @@
 //! The order of lines.
-ghost use Rattle.std.specs.Prelude.{◌≡◌, ℕ, map, List, IfOk, OnOk};
+ghost use Rattle.std.specs.Prelude.{◌≡◌, drop, map, IfOk};
 ghost use Rattle.ut_sort.specs.Keys.{keys_cmp, keys_in_force as keys_in_force_lem, with_global as with_global_lem};
-ghost use Rattle.ut_sort.specs.LineOrders.{cmp_by};
-ghost use Rattle.ut_sort.specs.Prefixes.{KeyBytes, number_by};
+ghost use Rattle.ut_sort.specs.LineOrders.{cmp_by, number_by, rest_by, tied_by};
+ghost use Rattle.ut_sort.specs.Prefixes.{FirstKey, begins_whole as begins_whole_lem, first_letters as first_letters_lem, is_whole_key as is_whole_key_lem, no_letters};
 ghost use Rattle.ut_sort.specs.Order.{last_cmp, order_of};
 
-use crate::keys::{compare_key, compare_keys, whole_line, with_global};
-use crate::prefixes::number_of_key;
+use crate::keys::{compare_key, compare_keys, letters_of, whole_line, with_global};
+use crate::line_orders::LineOrder;
+use crate::prefixes::{is_exact, number_of_key};
 use ps_lines::Memory;
 use std::alloc::Global;
 use std::cmp::Ordering;
@@ -83,17 +84,6 @@ pub(crate) fn compare_last(unique: bool, reverse: bool, one: &[u8], other: &[u8]
     }
 }
 
-/// The order of the lines of one invocation, which is read from it once.
-#[derive(Drop)]
-pub(crate) struct LineOrder {
-    /// The keys with the letters that count for them; one at least.
-    keys: Vec<Key>,
-    separator: Option<u8>,
-    /// Equal lines are one, and what no key tells apart is equal.
-    pub(crate) unique: bool,
-    reverse: bool,
-}
-
 impl LineOrder {
     /// The order of the lines of this invocation.
     pub(crate) fn new(alloc: Global, args: &SortArgs) -> Result<LineOrder, Memory>
@@ -102,11 +92,16 @@ impl LineOrder {
         ensures unique { IfOk result (λ order. order.unique ≡ args.now.unique) }
         ensures reverse { IfOk result (λ order. order.reverse ≡ args.now.ordering.reverse) }
     {
+        let keys = keys_in_force(alloc, args.ordering, args.keys.as_slice())?;
+        let letters = first_letters(keys.as_slice());
+        let whole = begins_whole(keys.as_slice());
         Ok(LineOrder {
-            keys: keys_in_force(alloc, args.ordering, args.keys.as_slice())?,
+            keys,
             separator: args.separator,
             unique: args.unique,
             reverse: args.ordering.reverse,
+            letters,
+            whole,
         })
     }
 
@@ -120,16 +115,93 @@ impl LineOrder {
         }
     }
 
+    /// The order of two lines that both have this number: a number that says all of the first key spares a look at it.
+    pub(crate) fn compare_tied(&self, number: u64, one: &[u8], other: &[u8]) -> Ordering
+        ensures { result ≡ tied_by self.now number one.now other.now }
+    {
+        if is_exact(self.letters, number) {
+            self.compare_rest(one, other)
+        } else {
+            self.compare(one, other)
+        }
+    }
+
+    /// The order of two lines whose first keys are equal.
+    fn compare_rest(&self, one: &[u8], other: &[u8]) -> Ordering
+        ensures { result ≡ rest_by self.now one.now other.now }
+    {
+        if self.whole {
+            return Ordering::Equal;
+        }
+        match compare_keys(
+            self.separator,
+            behind_first_key(self.keys.as_slice()),
+            one,
+            other,
+        ) {
+            Ordering::Equal => compare_last(self.unique, self.reverse, one, other),
+            decided => decided,
+        }
+    }
+
     /// The number of a line: where it is less than another's, the line is before the other.
     pub(crate) fn number_of(&self, line: &[u8]) -> u64
         ensures number { result ≡ number_by self.now line.now }
-        ensures bytes { KeyBytes self.now.separator self.now.keys.items line.now }
+        ensures key { FirstKey self.now.separator self.now.keys.items line.now }
     {
         match self.keys.as_slice() {
             [] => 0,
             [key, ..] => number_of_key(self.separator, key, line),
         }
     }
+}
+
+/// The keys behind the first.
+fn behind_first_key(keys: &[Key]) -> &[Key]
+    ensures { result.now ≡ drop 1 keys.now }
+{
+    match keys {
+        [] => keys,
+        [_, others @ ..] => others,
+    }
+}
+
+/// The letters of the first key; none where there is no key.
+fn first_letters(keys: &[Key]) -> Letters
+    ensures { result ≡ first_letters_lem keys.now }
+{
+    match keys {
+        [] => Letters {
+            blanks: false,
+            fold: false,
+            numeric: false,
+            reverse: false,
+        },
+        [key, ..] => letters_of(key),
+    }
+}
+
+/// Whether the first key is the line as it stands.
+fn begins_whole(keys: &[Key]) -> bool
+    ensures { result ≡ begins_whole_lem keys.now }
+{
+    match keys {
+        [] => false,
+        [key, ..] => is_whole_key(key),
+    }
+}
+
+/// Whether a key is the line as it stands.
+fn is_whole_key(key: &Key) -> bool
+    ensures { result ≡ is_whole_key_lem key.now }
+{
+    let start = key.start;
+    start.field == 1
+        && start.byte == 1
+        && !start.letters.blanks
+        && key.end.is_none()
+        && !start.letters.fold
+        && !start.letters.numeric
 }
 
 /// The keys with the letters that count for them, or the whole line where there are none.

@@ -1,16 +1,18 @@
 //! The stream of `sort`.
-ghost use Rattle.std.specs.Prelude.{◌≡◌, ◌++◌, ℕ, List, false, IfOk, OnOk};
+ghost use Rattle.std.specs.Prelude.{◌≡◌, ◌++◌, ℕ, List, [], false, not, IfOk, OnOk};
 ghost use Rattle.std.specs.Result.{is_ok};
 ghost use Rattle.ps_lines.specs.Lines.{lines as lines_lem, text_of_lines};
 ghost use Rattle.ut_streams.specs.Streams.{Put};
 ghost use Rattle.ut_sort.specs.LineOrders.{sorted_by};
 ghost use Rattle.ut_sort.specs.Order.{sorted_text};
+ghost use Rattle.ut_sort.specs.Writing.{left_of};
 
-use crate::keyed::put_all_sorted;
-use crate::lines::{lines_of, put_lines, sort_lines};
-use crate::orders::LineOrder;
+use crate::line_orders::LineOrder;
+use crate::places::sorted_places;
+use crate::writing::{SortedLines, put_lines};
 use ps_lines::Memory;
 use std::alloc::Global;
+use std::mem;
 use ut_args::SortInv;
 use ut_streams::Stream;
 
@@ -35,6 +37,31 @@ impl Sorter {
             text: Vec::new(alloc),
             spent: false,
         })
+    }
+
+    /// Takes the next piece of the input. `feed` does the same, and writes nothing.
+    #[tactic(auto, using(crate::proofs::LineLemmas::gathers))]
+    pub fn gather(&mut self, piece: &[u8]) -> Result<(), Memory>
+        requires { ⟦<Sorter as Stream>⟧.spent self.old ≡ false }
+        ensures due { OnOk result ((more : List ℕ) → ⟦<Sorter as Stream>⟧.due self.new more ≡ ⟦<Sorter as Stream>⟧.due self.old (piece.now ++ more)) }
+        ensures spent { ⟦<Sorter as Stream>⟧.spent self.new ≡ not (is_ok result) }
+    {
+        let held = hold(&mut self.text, piece);
+        self.spent = held.is_err();
+        held
+    }
+
+    /// The input has ended: its lines in order, for writing them in pieces; the sorter is empty then. `finish` writes them at once.
+    ///
+    /// Where memory is wanted, the text is dropped.
+    pub fn sort(&mut self) -> Result<SortedLines, Memory>
+        ensures lines { IfOk result (λ lines. left_of lines ≡ ⟦<Sorter as Stream>⟧.due self.old []) }
+        ensures spent { ⟦<Sorter as Stream>⟧.spent self.new ≡ ⟦<Sorter as Stream>⟧.spent self.old }
+    {
+        let alloc = *self.text.allocator();
+        let text = mem::replace(&mut self.text, Vec::new(alloc));
+        let places = sorted_places(&self.order, alloc, text.as_slice())?;
+        Ok(SortedLines::new(text, places))
     }
 }
 
@@ -82,15 +109,8 @@ fn hold(held: &mut Vec<u8>, piece: &[u8]) -> Result<(), Memory>
 fn put_sorted(order: &LineOrder, text: &[u8], out: &mut Vec<u8>) -> Result<(), Memory>
     ensures { Put (text_of_lines (sorted_by order.now (lines_lem text.now))) out.old.items out.new.items (is_ok result) }
 {
-    if !order.unique {
-        return put_all_sorted(order, text, out);
-    }
-    let mut lines = match lines_of(*out.allocator(), text) {
-        Ok(lines) => lines,
-        Err(memory) => return Err(memory),
-    };
-    match sort_lines(order, &mut lines) {
-        Ok(()) => put_lines(lines.as_slice(), out),
+    match sorted_places(order, *out.allocator(), text) {
+        Ok(places) => put_lines(text, places.as_slice(), out),
         Err(memory) => Err(memory),
     }
 }

@@ -108,7 +108,7 @@ fn writes_merged(
 }
 
 fn writes(alloc: Global, inv: &SortInv, text: &[u8], wanted: &[u8]) -> Result<bool, Memory> {
-    let mut same = true;
+    let mut same = writes_pieces(alloc, inv, text, wanted)?;
     for cuts in [0, 6148914691236517205, 18446744073709551615] {
         same &= writes_cut(alloc, inv, text, cuts, wanted)?;
     }
@@ -127,6 +127,21 @@ fn writes_cut(
     let mut out = Vec::new(alloc);
     feed_all(&mut sorter, pieces.as_slice(), &mut out)?;
     Ok(out.as_slice() == wanted && !sorter.is_spent() && !sorter.has_selected())
+}
+
+/// Whether the sorted lines, written piece by piece, are what is wanted.
+fn writes_pieces(alloc: Global, inv: &SortInv, text: &[u8], wanted: &[u8]) -> Result<bool, Memory> {
+    let mut sorter = Sorter::new(alloc, inv)?;
+    sorter.gather(text)?;
+    let mut lines = sorter.sort()?;
+    let mut out = Vec::new(alloc);
+    for _ in 0..1000 {
+        if lines.is_done() {
+            break;
+        }
+        lines.put_piece(&mut out)?;
+    }
+    Ok(out.as_slice() == wanted)
 }
 
 /// The invocation of a row's words, if there is one.

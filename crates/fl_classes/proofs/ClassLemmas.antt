@@ -1,5 +1,5 @@
 -- The laws of the classes.
-use Rattle.std.proofs.Common.{◌≡◌, ℕ, ◌+◌, ◌-◌, ◌||◌, Bool, true, false, List, [], ◌∷◌, ◌++◌, length, take, decimal, if◌then◌else◌, refl, ap, sym, ◌∙◌, append-nil, length-append, arith}
+use Rattle.std.proofs.Common.{◌≡◌, ℕ, ◌+◌, ◌-◌, ◌||◌, ◌&&◌, Bool, true, false, not, List, [], ◌∷◌, ◌++◌, length, take, decimal, if◌then◌else◌, refl, ap, sym, ◌∙◌, append-nil, length-append, arith}
 use Rattle.std.specs.List.{list_any}
 use Rattle.std.specs.Option.{unwrap_or}
 use Rattle.std.proofs.lemmas.Bool.{cond-true, true≢false}
@@ -12,24 +12,37 @@ use Rattle.ps_lines.specs.Numbers.{number_of}
 use Rattle.ps_lines.proofs.ClosedLemmas.{closed-append}
 use Rattle.ps_lines.proofs.LineLemmas.{lines_of_cut, is_closed-push}
 use Rattle.ps_lines.proofs.NumberLemmas.{number_of-decimal}
-use Rattle.ut_args.specs.Built.{is_built_of, is_built_grep, is_built_wc}
-use Rattle.ut_args.specs.Classes.{class_of, keeps_closed_of, of_one, report_class}
+use Rattle.ut_args.specs.Built.{is_built_of, is_built_grep, is_built_tail, is_built_wc, is_from_start}
+use Rattle.ut_args.specs.Classes.{class_of, keeps_closed_of, of_one, origin_class, report_class}
+use Rattle.ut_args.specs.Strings.{keeps_newline}
 use Rattle.ut_args.specs.Invocations.{command_of}
 use Rattle.ut_args.specs.Utilities.{has_at_most_one}
 use Rattle.ut_args.specs.declared.classes.Class.{Class}
 use Rattle.ut_args.specs.declared.classes.Class.TheVariants as class
 use Rattle.ut_args.specs.declared.classes.Seam.{Seam}
 use Rattle.ut_args.specs.declared.classes.Seam.TheVariants as seam
+use Rattle.ut_args.specs.declared.commands.Origin.{Origin}
+use Rattle.ut_args.specs.declared.commands.Origin.TheVariants as origin
 use Rattle.ut_args.specs.declared.commands.Report.{Report}
 use Rattle.ut_args.specs.declared.commands.Report.TheVariants as report
 use Rattle.ut_args.specs.declared.invocations.GrepInv.{GrepInv}
+use Rattle.ut_args.specs.declared.invocations.SortInv.{SortInv}
+use Rattle.ut_args.specs.declared.invocations.TrInv.{TrInv}
+use Rattle.ut_args.specs.declared.invocations.CutInv.{CutInv}
+use Rattle.ut_args.specs.declared.invocations.TailInv.{TailInv}
 use Rattle.ut_args.specs.declared.invocations.WcInv.{WcInv}
 use Rattle.ut_args.specs.declared.invocations.Inv.{Inv}
 use Rattle.ut_args.specs.declared.invocations.Inv.TheVariants as inv
 use Rattle.ut_streams.specs.Utilities.{Utility}
 use Rattle.ut_grep.specs.Fixed.{kept, has_part, selected_lines, has_selected, selected_of, pattern_of}
+use Rattle.ut_bytes.specs.Tr.{tr_output}
+use Rattle.ut_slices.specs.Cut.{cut_output}
+use Rattle.ut_slices.specs.Tail.{tail_output}
 use Rattle.ut_groups.specs.Counting.{newlines, saturated, count_line, line_count}
 use Rattle.ut_groups.specs.Wc.{count_on}
+use Rattle.ut_sort.specs.Order.{sorted_text}
+use Rattle.ut_sort.proofs.UtilityLemmas.{sorted_text-joins}
+use Rattle.fl_classes.proofs.SliceLemmas.{cut-closed, cut-joins, tr-closed, tr-joins, tr-none}
 use Rattle.fl_classes.specs.Utilities.{output_of, selects_of, utility_by, utility_of, silent, names_of, labelled}
 use Rattle.fl_classes.specs.Aggregates.{map_of, joined_maps, finish_of}
 use Rattle.fl_classes.specs.Laws.{IsOfClass, IsStateless, IsParallel, KeepsClosed, MayBeCut}
@@ -164,6 +177,36 @@ module _ (grep : GrepInv) where
   by_report report.Path numbers = tt
   by_report report.Nothing numbers = grep-lines
 
+-- tr
+tr-bytes : (tr : TrInv) (squeezes : Bool) → tr.args.squeezes ≡ squeezes → IsOfClass (if squeezes then class.P else class.S seam.Bytes) (inv.Tr tr)
+tr-bytes tr true squeezes = unbuilt (inv.Tr tr) (ap not squeezes) class.P
+tr-bytes tr false squeezes =
+    stateless (inv.Tr tr) seam.Bytes (λ built text. append-nil (tr_output tr.args text)) (λ built front back cut. tr-joins tr.args squeezes front back)
+    (λ built front back cut. refl)
+
+plain-tr : (squeezes : Bool) → not squeezes ≡ true → squeezes ≡ false
+plain-tr true built = absurd (true≢false (sym built))
+plain-tr false built = refl
+
+tr-keeps : (tr : TrInv) → keeps_newline tr.args ≡ true → KeepsClosed (inv.Tr tr)
+tr-keeps tr keeps_it =
+    keeps (inv.Tr tr) (λ built text. append-nil (tr_output tr.args text)) (λ built. tr-closed tr.args (plain-tr tr.args.squeezes built) keeps_it)
+    (λ built. tr-none tr.args (plain-tr tr.args.squeezes built))
+
+-- cut
+cut-lines : (cut : CutInv) → IsStateless seam.Lines (inv.Cut cut)
+cut-lines cut =
+    stateless (inv.Cut cut) seam.Lines (λ built text. append-nil (cut_output cut.args text)) (λ built. cut-joins cut.args) (λ built front back cut. refl)
+
+cut-keeps : (cut : CutInv) → KeepsClosed (inv.Cut cut)
+cut-keeps cut =
+    keeps (inv.Cut cut) (λ built text. append-nil (cut_output cut.args text)) (λ built text closed. cut-closed cut.args text) (λ built. refl)
+
+-- tail, of which those from the start are built
+tail-origin : (tail : TailInv) (from : Origin) → tail.args.part.origin ≡ from → IsOfClass (origin_class from) (inv.Tail tail)
+tail-origin tail (origin.Start number) is = tt
+tail-origin tail (origin.End number) is = unbuilt (inv.Tail tail) (ap (λ from. is_from_start from && has_at_most_one tail.args.operands) is) class.P
+
 -- wc
 -- a count is read back from its line
 first-bytes : (text : List ℕ) (byte : ℕ) → take (length (text ++ byte ∷ []) - 1) (text ++ byte ∷ []) ≡ text
@@ -189,17 +232,31 @@ pub wc-parallel : (wc : WcInv) → IsParallel (inv.Wc wc)
 wc-parallel wc =
     parallel (inv.Wc wc) (λ built text. append-nil (line_count text)) (λ built front back cut. line_count-joins front back) (λ built front back cut. refl)
 
+-- sort
+sort-parallel : (sort : SortInv) → IsParallel (inv.Sort sort)
+sort-parallel sort =
+    parallel (inv.Sort sort) (λ built text. append-nil (sorted_text sort.args text)) (λ built front back cut. sorted_text-joins sort.args front back cut)
+    (λ built front back cut. refl)
+
 -- each invocation
 pub is-of-class : (inv : Inv) → IsOfClass (class_of inv) inv
 is-of-class (inv.Cat cat) = stateless (inv.Cat cat) seam.Bytes (λ built text. append-nil text) (λ built front back cut. refl) (λ built front back cut. refl)
 is-of-class (inv.Grep grep) = of-one (inv.Grep grep) grep.args.operands (report_class grep.args.report grep.args.numbers) (by_report grep grep.args.report grep.args.numbers)
+is-of-class (inv.Tr tr) = tr-bytes tr tr.args.squeezes refl
+is-of-class (inv.Cut cut) = cut-lines cut
+is-of-class (inv.Tail tail) = tail-origin tail tail.args.part.origin refl
 is-of-class (inv.Wc wc) = of-one (inv.Wc wc) wc.args.operands class.P (wc-parallel wc)
+is-of-class (inv.Sort sort) = sort-parallel sort
 is-of-class other = unbuilt other refl (class_of other)
 
 pub keeps-closed : (inv : Inv) → keeps_closed_of inv ≡ true → KeepsClosed inv
 keeps-closed (inv.Cat cat) keeps_it = keeps (inv.Cat cat) (λ built text. append-nil text) (λ built text closed. closed) (λ built. refl)
 keeps-closed (inv.Grep grep) keeps_it = grep-closed grep
+keeps-closed (inv.Tr tr) keeps_it = tr-keeps tr keeps_it
+keeps-closed (inv.Cut cut) keeps_it = cut-keeps cut
+keeps-closed (inv.Tail tail) keeps_it = absurd (true≢false (sym keeps_it))
 keeps-closed (inv.Wc wc) keeps_it = absurd (true≢false (sym keeps_it))
+keeps-closed (inv.Sort sort) keeps_it = absurd (true≢false (sym keeps_it))
 keeps-closed other keeps_it = unbuilt-closed other refl
 
 -- what those that are built make of a part
@@ -208,6 +265,12 @@ built-utility inv built = cond-true (is_built_of inv) (utility_by (command_of in
 
 pub grep-map : (grep : GrepInv) → is_built_grep grep.args ≡ true → (text : List ℕ) → map_of (inv.Grep grep) text ≡ selected_lines (pattern_of grep.args.patterns) text
 grep-map grep built text = ap (λ utility. utility.part text) (built-utility (inv.Grep grep) built)
+
+pub tr-map : (tr : TrInv) → not tr.args.squeezes ≡ true → (text : List ℕ) → map_of (inv.Tr tr) text ≡ tr_output tr.args text
+tr-map tr built text = ap (λ utility. utility.part text) (built-utility (inv.Tr tr) built)
+
+pub tail-map : (tail : TailInv) → is_built_tail tail.args ≡ true → (text : List ℕ) → map_of (inv.Tail tail) text ≡ tail_output tail.args text
+tail-map tail built text = ap (λ utility. utility.part text) (built-utility (inv.Tail tail) built)
 
 pub wc-map : (wc : WcInv) → is_built_wc wc.args ≡ true → (text : List ℕ) → map_of (inv.Wc wc) text ≡ line_count text
 wc-map wc built text = ap (λ utility. utility.part text) (built-utility (inv.Wc wc) built)

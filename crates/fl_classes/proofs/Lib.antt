@@ -1,4 +1,6 @@
+pub mod SliceLemmas
 pub mod ClassLemmas
 pub mod PartLemmas
 pub mod FlowLemmas
 pub mod CutLemmas
+pub mod OperandLemmas

@@ -2,5 +2,8 @@ pub mod Utilities
 pub mod Aggregates
 pub mod Parts
 pub mod Flow
+pub mod Kinds
+pub mod Sources
+pub mod Used
 pub mod Nodes
 pub mod Laws

@@ -10,7 +10,11 @@ use Rattle.ut_args.specs.declared.commands.Command.TheVariants as command
 use Rattle.ut_args.specs.declared.invocations.Inv.{Inv}
 use Rattle.ut_streams.specs.Utilities.{Input, Utility, cat, each_by_itself}
 use Rattle.ut_grep.specs.Grep.{grep}
+use Rattle.ut_bytes.specs.Tr.{tr}
+use Rattle.ut_slices.specs.Cut.{cut}
+use Rattle.ut_slices.specs.Tail.{tail}
 use Rattle.ut_groups.specs.Wc.{wc}
+use Rattle.ut_sort.specs.Sort.{sort}
 
 -- one that writes nothing
 abbrev pub silent : Utility
@@ -20,7 +24,11 @@ silent = each_by_itself (λ text. []) (λ text. false)
 abbrev pub utility_by : Command → Utility
 utility_by (command.Cat args) = cat
 utility_by (command.Grep args) = grep args
+utility_by (command.Tr args) = tr args
+utility_by (command.Cut args) = cut args
+utility_by (command.Tail args) = tail args
 utility_by (command.Wc args) = wc args
+utility_by (command.Sort args) = sort args
 utility_by other = silent
 
 -- that of an invocation; one that isn't built writes nothing

@@ -1,17 +1,22 @@
 //! What each class says of its commands, in laws: each is the contract of a function that does nothing.
-#![tactic(auto, using(crate::proofs::ClassLemmas::class_laws, crate::proofs::PartLemmas::part_laws, crate::proofs::FlowLemmas::flow_laws, crate::proofs::CutLemmas::cut_laws))]
+#![tactic(auto, using(crate::proofs::ClassLemmas::class_laws, crate::proofs::PartLemmas::part_laws, crate::proofs::FlowLemmas::flow_laws, crate::proofs::CutLemmas::cut_laws, crate::proofs::OperandLemmas::operand_laws))]
 
-ghost use Rattle.std.specs.Prelude.{◌≡◌, ◌<◌, ◌∷◌, ℕ, List, length, map, true};
-ghost use Rattle.std.specs.List.{concat};
+ghost use Rattle.std.specs.Prelude.{◌≡◌, ◌<◌, ◌∷◌, ℕ, Bool, List, length, map, true};
+ghost use Rattle.std.specs.List.{concat, filter};
 ghost use Rattle.ps_lines.specs.Lines.{is_cutlist};
 ghost use Rattle.ut_args.specs.Classes.{class_of, keeps_closed_of};
+ghost use Rattle.ut_args.specs.Inputs.{emptied, is_named, operands_by, operands_of, remaining, with_operands};
+ghost use Rattle.ut_args.specs.Invocations.{command_of};
 ghost use Rattle.ut_args.specs.declared.classes.Seam.{Seam as Seams};
+ghost use Rattle.ut_args.specs.declared.commands.Command.{Command};
 ghost use Rattle.ut_args.specs.declared.invocations.Inv.{Inv};
+ghost use Rattle.ut_streams.specs.Utilities.{Input};
 ghost use Rattle.fl_graph.specs.Net.{gives};
 ghost use Rattle.fl_graph.specs.Valid.{Valid};
 ghost use Rattle.fl_classes.specs.Flow.{flow, placed, Solves};
 ghost use Rattle.fl_classes.specs.Aggregates.{aggregate_of, map_of};
 ghost use Rattle.fl_classes.specs.Parts.{parts_of};
+ghost use Rattle.fl_classes.specs.Utilities.{names_of, utility_by, utility_of};
 ghost use Rattle.fl_classes.specs.Laws.{IsOfClass, IsParallel, IsStateless, KeepsClosed};
 
 use fl_graph::Graph;
@@ -34,6 +39,19 @@ pub fn classes_go_over_cut_lists()
     ensures parts { (inv : Inv) → IsParallel inv → (first : List ℕ) (texts : List (List ℕ)) → is_cutlist (first ∷ texts) ≡ true →
         aggregate_of inv (map (map_of inv) (first ∷ texts)) ≡ map_of inv (concat (first ∷ texts)) }
     ensures closed { (inv : Inv) → KeepsClosed inv → (texts : List (List ℕ)) → is_cutlist texts ≡ true → is_cutlist (map (map_of inv) texts) ≡ true }
+{}
+
+/// An operand that lacks an input changes which inputs there are, and nothing else: with the empty text in its place an invocation
+/// writes and selects the same for the same inputs, and these have the names of the other operands.
+pub fn operands_may_lack_an_input()
+    ensures output { (asked : Command) (flags : List Bool) (inputs : List Input) →
+        (utility_by (with_operands (emptied flags (operands_by asked)) asked)).output inputs ≡ (utility_by asked).output inputs }
+    ensures selects { (asked : Command) (flags : List Bool) (inputs : List Input) →
+        (utility_by (with_operands (emptied flags (operands_by asked)) asked)).selects inputs ≡ (utility_by asked).selects inputs }
+    ensures utility { (one other : Inv) (flags : List Bool) → command_of other ≡ with_operands (emptied flags (operands_of one)) (command_of one) →
+        utility_of other ≡ utility_of one }
+    ensures names { (one other : Inv) (flags : List Bool) → command_of other ≡ with_operands (emptied flags (operands_of one)) (command_of one) →
+        names_of other ≡ filter is_named (remaining flags (operands_of one)) }
 {}
 
 /// The parts of a text, joined, are the text, and it is cut at ends of lines.

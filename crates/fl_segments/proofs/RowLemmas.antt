@@ -1,0 +1,70 @@
+-- Numbers in a row.
+use Rattle.std.proofs.Common.{◌≡◌, ℕ, zero, suc, ◌+◌, ◌<◌, ◌≤◌, ◌==◌, List, [], ◌∷◌, ◌++◌, Bool, true, false, ◌||◌, if◌then◌else◌, get_or, length, map, refl, ap, sym, ◌∙◌, length-append, append_assoc, arith, eq-eqb}
+use Rattle.std.specs.List.{range_with_len}
+use Rattle.std.proofs.lemmas.Bool.{true≢false, eqb-true, ne_eqb}
+use Rattle.fl_graph.specs.Net.{has, count}
+
+-- what stands behind a list's front, and in it
+pub get-here : {Value : Type 0} (front rest : List Value) (value spare : Value) → get_or (front ++ value ∷ rest) (length front) spare ≡ value
+get-here [] rest value spare = refl
+get-here (first ∷ front) rest value spare = get-here front rest value spare
+
+pub get-front : {Value : Type 0} (front rest : List Value) (place : ℕ) (spare : Value) → place < length front → get_or (front ++ rest) place spare ≡ get_or front place spare
+get-front [] rest place spare below = absurd (omega (arith, below))
+get-front (first ∷ front) rest zero spare below = refl
+get-front (first ∷ front) rest (suc place) spare below = get-front front rest place spare (omega (arith, below))
+
+-- two rows, one behind the other, are one
+pub range-append : (start front back : ℕ) → range_with_len start front ++ range_with_len (start + front) back ≡ range_with_len start (front + back)
+range-append start zero back =
+    let none : start + 0 ≡ start = omega arith in let all : 0 + back ≡ back = omega arith in rw none (rw all refl)
+range-append start (suc front) back =
+    let on : start + suc front ≡ (start + 1) + front = omega arith in let all : suc front + back ≡ suc (front + back) = omega arith in
+    rw on (rw all (ap (λ rest. start ∷ rest) (range-append (start + 1) front back)))
+
+-- which numbers are in a row, and how often
+pub range-has : (start size edge : ℕ) → start ≤ edge → edge < start + size → has edge (range_with_len start size) ≡ true
+range-has start zero edge from below = absurd (omega arith)
+range-has start (suc size) edge from below = by_first (start == edge) refl (λ next. range-has (start + 1) size edge next (omega arith))
+  where
+    by_first : (here : Bool) → (start == edge) ≡ here → (start + 1 ≤ edge → has edge (range_with_len (start + 1) size) ≡ true) → (here || has edge (range_with_len (start + 1) size)) ≡ true
+    by_first true _ later = refl
+    by_first false differ later = let other : start ≡ edge → ⊥ = λ same. true≢false (sym (eq-eqb start edge same) ∙ differ) in later (omega (arith, other))
+
+pub range-none : (start size edge : ℕ) → edge < start → count edge (range_with_len start size) ≡ 0
+range-none start zero edge below = refl
+range-none start (suc size) edge below =
+    let differ : (start == edge) ≡ false = ne_eqb start edge (λ same. omega arith) in
+    let rest = range-none (start + 1) size edge (omega arith) in
+    rw differ (omega (arith, rest))
+
+pub range-once : (start size edge : ℕ) → count edge (range_with_len start size) ≤ 1
+range-once start zero edge = omega arith
+range-once start (suc size) edge = by_first (start == edge) refl (range-once (start + 1) size edge)
+  where
+    by_first : (here : Bool) → (start == edge) ≡ here → count edge (range_with_len (start + 1) size) ≤ 1 → (if here then 1 else 0) + count edge (range_with_len (start + 1) size) ≤ 1
+    by_first true same rest =
+        let is = eqb-true start edge same in let none = range-none (start + 1) size edge (omega (arith, is)) in omega (arith, none)
+    by_first false _ rest = omega (arith, rest)
+
+-- a number that is in a row is below its end
+pub range-below : (start size edge : ℕ) → has edge (range_with_len start size) ≡ true → edge < start + size
+range-below start zero edge there = absurd (cc)
+range-below start (suc size) edge there = by_first (start == edge) refl there (range-below (start + 1) size edge)
+  where
+    by_first : (here : Bool) → (start == edge) ≡ here → (here || has edge (range_with_len (start + 1) size)) ≡ true
+        → (has edge (range_with_len (start + 1) size) ≡ true → edge < start + 1 + size) → edge < start + suc size
+    by_first true same _ _ = let is = eqb-true start edge same in omega (arith, is)
+    by_first false _ later rest = let below = rest later in omega (arith, below)
+
+-- a list is what its places read, in a row
+pub range-reads : {Value : Type 0} (before values : List Value) (spare : Value) → map (λ place. get_or (before ++ values) place spare) (range_with_len (length before) (length values)) ≡ values
+range-reads before [] spare = refl
+range-reads {Value} before (value ∷ values) spare =
+    let size : length before + 1 ≡ length (before ++ value ∷ []) = sym (length-append before (value ∷ [])) in
+    let whole : (before ++ value ∷ []) ++ values ≡ before ++ value ∷ values = append_assoc before (value ∷ []) values in
+    ap (λ (first : Value). first ∷ map (λ place. get_or (before ++ value ∷ values) place spare) (range_with_len (length before + 1) (length values))) (get-here before values value spare)
+    ∙ ap (λ (rest : List Value). value ∷ rest)
+    (ap (λ (from : ℕ). map (λ place. get_or (before ++ value ∷ values) place spare) (range_with_len from (length values))) size
+    ∙ ap (λ (all : List Value). map (λ place. get_or all place spare) (range_with_len (length (before ++ value ∷ [])) (length values))) (sym whole)
+    ∙ range-reads (before ++ value ∷ []) values spare)

@@ -1,0 +1,81 @@
+//! A graph that is being made, node by node.
+ghost use Rattle.std.specs.Prelude.{◌≡◌, ◌+◌, ◌++◌, [], ◌∷◌, IfOk, OnOk};
+
+use fl_graph::{Node, NodeKind, Seq};
+use ps_lines::Memory;
+use std::alloc::Global;
+
+/// Nodes in their order. Edges are numbered in the order in which they are given.
+#[derive(Drop)]
+pub(crate) struct Drawing {
+    pub(crate) nodes: Vec<Node>,
+    /// The number of the next edge to be given.
+    pub(crate) next: u32,
+}
+
+/// The edges of a node that is to come. They are made before the node's kind, so that no exit has a kind to let go.
+#[derive(Drop)]
+pub(crate) struct Edges {
+    ins: Seq<u32>,
+    outs: Seq<u32>,
+    /// The number of the next edge behind the node.
+    next: u32,
+}
+
+impl Drawing {
+    /// No nodes.
+    pub(crate) fn new(alloc: Global) -> Drawing
+        ensures nodes { result.nodes.items ≡ [] }
+        ensures next { result.next ≡ 0 }
+    {
+        Drawing {
+            nodes: Vec::new(alloc),
+            next: 0,
+        }
+    }
+
+    /// The edges of a node that takes these and gives the next one. An edge that has no number of 32 bits wants memory.
+    pub(crate) fn giving(&self, alloc: Global, ins: &[u32]) -> Result<Edges, Memory>
+        ensures ins { IfOk result (λ edges. edges.ins ≡ ins.now) }
+        ensures outs { IfOk result (λ edges. edges.outs ≡ self.now.next ∷ []) }
+        ensures next { IfOk result (λ edges. edges.next ≡ self.now.next + 1) }
+    {
+        let Some(next) = self.next.checked_add(1) else {
+            return Err(Memory);
+        };
+        let ins = Seq::from_vec(Vec::from_slice(alloc, ins)?);
+        let outs = Seq::from_vec(Vec::from_slice(alloc, &[self.next])?);
+        Ok(Edges { ins, outs, next })
+    }
+
+    /// The edges of a node that takes these and gives none.
+    pub(crate) fn ending(&self, alloc: Global, ins: &[u32]) -> Result<Edges, Memory>
+        ensures ins { IfOk result (λ edges. edges.ins ≡ ins.now) }
+        ensures outs { IfOk result (λ edges. edges.outs ≡ []) }
+        ensures next { IfOk result (λ edges. edges.next ≡ self.now.next) }
+    {
+        let ins = Seq::from_vec(Vec::from_slice(alloc, ins)?);
+        let outs = Seq::from_vec(Vec::new(alloc));
+        Ok(Edges {
+            ins,
+            outs,
+            next: self.next,
+        })
+    }
+
+    /// Adds a node.
+    pub(crate) fn add(&mut self, kind: NodeKind, edges: Edges, stage: u32) -> Result<(), Memory>
+        ensures nodes { OnOk result (self.new.nodes.items ≡ self.old.nodes.items ++ record { kind = kind; ins = edges.ins; outs = edges.outs; stage = stage } ∷ []) }
+        ensures next { OnOk result (self.new.next ≡ edges.next) }
+    {
+        let Edges { ins, outs, next } = edges;
+        self.nodes.push(Node {
+            kind,
+            ins,
+            outs,
+            stage,
+        })?;
+        self.next = next;
+        Ok(())
+    }
+}

@@ -1,0 +1,15 @@
+//! Segments of pipelines as graphs.
+//!
+//! A segment is a list of stages that are utilities, behind all expansion: each says what it reads, where its output goes, and what was told
+//! of it. `chain` makes the graph of a segment, with one node for each utility.
+//!
+//! `specs/Stages.antt` says which stages there may be, and which files they read and write; `specs/Chains.antt` what a segment means.
+//! `specs/Inner/` has words that only proofs need.
+#![tactic(auto)]
+
+mod chains;
+mod drawing;
+mod stages;
+
+pub use chains::chain;
+pub use stages::{Does, First, In, Out, Stage};

@@ -1,14 +1,17 @@
 -- Streams in machines, and what is due of a machine at its beginning.
-use Rattle.std.proofs.Common.{◌≡◌, ℕ, zero, suc, ◌+◌, ◌≤◌, ◌==◌, ◌&&◌, nat_lt, List, [], ◌∷◌, Bool, true, false, if◌then◌else◌, get_or, refl, ap, sym, ◌∙◌, append-nil, arith}
+use Rattle.std.proofs.Common.{◌≡◌, ℕ, zero, suc, ◌+◌, ◌-◌, ◌≤◌, ◌==◌, ◌&&◌, nat_lt, List, [], ◌∷◌, ◌++◌, Bool, true, false, if◌then◌else◌, get_or, refl, ap, sym, ◌∙◌, append-nil, arith}
 use Rattle.std.specs.List.{list_all}
 use Rattle.std.proofs.lemmas.Bool.{true≢false, and_parts, eqb-true, eq-eqb, ltb-true, lt-ltb, false_from_ne_true}
 use Rattle.std.proofs.Math.Dec.{eqb-suc-zero}
 use Rattle.ps_lines.specs.Lines.{is_empty}
 use Rattle.ut_streams.proofs.StreamLemmas.{Wrote-put}
-use Rattle.ut_args.specs.Built.{is_built_of, is_built_grep, is_built_wc, is_one_pattern, is_fixed_syntax, is_of_lines, has_none}
+use Rattle.ut_args.specs.Built.{is_built_of, is_built_grep, is_built_wc, is_from_start, is_one_pattern, is_fixed_syntax, is_of_lines, has_none}
 use Rattle.ut_args.specs.Inputs.{counted, inputs_of, is_named, joined_inputs, separate_inputs}
 use Rattle.ut_args.specs.Utilities.{has_at_most_one}
 use Rattle.ut_args.specs.declared.commands.GrepArgs.{GrepArgs}
+use Rattle.ut_args.specs.declared.commands.Origin.{Origin}
+use Rattle.ut_args.specs.declared.commands.Origin.TheVariants as origin
+use Rattle.ut_args.specs.declared.commands.Unit.{Unit}
 use Rattle.ut_args.specs.declared.commands.WcArgs.{WcArgs}
 use Rattle.ut_args.specs.declared.invocations.Inv.{Inv}
 use Rattle.ut_args.specs.declared.invocations.Inv.TheVariants as inv
@@ -25,6 +28,11 @@ use Rattle.fl_classes.specs.Utilities.{labelled, names_of, output_of, selects_of
 use Rattle.fl_classes.proofs.ClassLemmas.{by_built}
 use Rattle.ut_args.specs.Invocations.{command_of}
 use Rattle.ut_grep.specs.Fixed.{pattern_of, selected_lines}
+use Rattle.ut_sort.specs.Order.{sorted_text}
+use Rattle.ut_bytes.specs.Tr.{tr_output}
+use Rattle.ut_slices.specs.Cut.{cut_output}
+use Rattle.ut_slices.specs.Tail.{tail_by, tail_output}
+use Rattle.ut_slices.proofs.EndLemmas.{behind-empty}
 use Rattle.ut_groups.specs.Counting.{line_count}
 use Rattle.fl_machines.specs.Kinds.{is_utility_node, runs_utility, stream_output, stream_selects}
 use Rattle.fl_machines.specs.Through.{only_port}
@@ -72,7 +80,11 @@ wc-few args built = none-few args.operands (wc-plain args built)
 built-few : (command : Inv) → is_built_of command ≡ true → inputs_of command ≤ 1
 built-few (inv.Cat cat) built = joined-few cat.args.operands
 built-few (inv.Grep grep) built = grep-few grep.args built
+built-few (inv.Tr tr) built = omega arith
+built-few (inv.Cut cut) built = joined-few cut.args.operands
+built-few (inv.Tail tail) built = separate-few tail.args.operands (and_parts (is_from_start tail.args.part.origin) (has_at_most_one tail.args.operands) built).1
 built-few (inv.Wc wc) built = wc-few wc.args built
+built-few (inv.Sort sort) built = joined-few sort.args.operands
 built-few other built = absurd (true≢false (sym built))
 
 -- so far the output for one input is the map, and no finish changes it
@@ -83,7 +95,11 @@ whole-is-map command text = by_built command (λ utility. utility.part text ≡ 
         → (utility_by (command_of command)).part text ≡ (utility_by (command_of command)).output (labelled (names_of command) (text ∷ []))
     by_command (inv.Cat cat) = sym (append-nil text)
     by_command (inv.Grep grep) = sym (append-nil (selected_lines (pattern_of grep.args.patterns) text))
+    by_command (inv.Tr tr) = sym (append-nil (tr_output tr.args text))
+    by_command (inv.Cut cut) = sym (append-nil (cut_output cut.args text))
+    by_command (inv.Tail tail) = sym (append-nil (tail_output tail.args text))
     by_command (inv.Wc wc) = sym (append-nil (line_count text))
+    by_command (inv.Sort sort) = sym (append-nil (sorted_text sort.args text))
     by_command other = refl
 
 pub ruleset wholes = (whole-is-map)
@@ -94,7 +110,11 @@ finish-is-same command text = by_built command (λ utility. text ≡ utility.fin
     by_command : (command : Inv) → text ≡ (utility_by (command_of command)).finish text
     by_command (inv.Cat cat) = refl
     by_command (inv.Grep grep) = refl
+    by_command (inv.Tr tr) = refl
+    by_command (inv.Cut cut) = refl
+    by_command (inv.Tail tail) = refl
     by_command (inv.Wc wc) = refl
+    by_command (inv.Sort sort) = refl
     by_command other = refl
 
 pub ruleset finishes = (finish-is-same)
@@ -107,11 +127,23 @@ nothing-from (inv.Grep grep) built none = (
   by_built (inv.Grep grep) (λ utility. utility.output (labelled (names_of (inv.Grep grep)) ([] ∷ [])) ≡ utility.output []) (λ built. refl) refl,
   by_built (inv.Grep grep) (λ utility. utility.selects (labelled (names_of (inv.Grep grep)) ([] ∷ [])) ≡ utility.selects []) (λ built. refl) refl,
 )
+nothing-from (inv.Tr tr) built none = absurd (omega (arith, none))
+nothing-from (inv.Cut cut) built none = (refl, refl)
+nothing-from (inv.Tail tail) built none = (
+  by_built (inv.Tail tail) (λ utility. utility.output (labelled (names_of (inv.Tail tail)) ([] ∷ [])) ≡ utility.output [])
+      (λ built. ap (λ text. text ++ []) (from-start tail.args.part.unit tail.args.part.origin (and_parts (is_from_start tail.args.part.origin) (has_at_most_one tail.args.operands) built).0)) refl,
+  by_built (inv.Tail tail) (λ utility. utility.selects (labelled (names_of (inv.Tail tail)) ([] ∷ [])) ≡ utility.selects []) (λ built. refl) refl,
+)
+  where
+    from-start : (of : Unit) (from : Origin) → is_from_start from ≡ true → tail_by of from [] ≡ []
+    from-start of (origin.Start number) built = behind-empty of (number - 1)
+    from-start of (origin.End number) built = absurd (true≢false (sym built))
 nothing-from (inv.Wc wc) built none = absurd (some wc.args.operands (wc-plain wc.args built) none)
   where
     some : (operands : List (List ℕ)) → has_none operands ≡ true → separate_inputs operands ≡ 0 → ⊥
     some [] plain none = absurd (omega (arith, none))
     some (operand ∷ operands) plain none = true≢false (sym plain)
+nothing-from (inv.Sort sort) built none = (refl, refl)
 nothing-from other built none = absurd (true≢false (sym built))
 
 -- how many ins and outs a node has that runs a utility

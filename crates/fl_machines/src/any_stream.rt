@@ -11,8 +11,11 @@ use fl_graph::NodeKind;
 use ps_lines::Memory;
 use std::alloc::Global;
 use ut_args::Inv;
+use ut_bytes::Tr;
 use ut_grep::Grep;
 use ut_groups::Wc;
+use ut_slices::{Cut, Tail};
+use ut_sort::Sorter;
 use ut_streams::Stream;
 
 /// The stream of a utility, whichever it is.
@@ -20,7 +23,11 @@ use ut_streams::Stream;
 pub enum AnyStream {
     Copy(Copy),
     Grep(Grep),
+    Tr(Tr),
+    Cut(Cut),
+    Tail(Tail),
     Wc(Wc),
+    Sort(Sorter),
 }
 
 impl AnyStream {
@@ -52,8 +59,24 @@ impl AnyStream {
                 Ok(grep) => Ok(AnyStream::Grep(grep)),
                 Err(memory) => Err(memory),
             },
+            Inv::Tr(tr) => match Tr::new(alloc, tr) {
+                Ok(tr) => Ok(AnyStream::Tr(tr)),
+                Err(memory) => Err(memory),
+            },
+            Inv::Cut(cut) => match Cut::new(alloc, cut) {
+                Ok(cut) => Ok(AnyStream::Cut(cut)),
+                Err(memory) => Err(memory),
+            },
+            Inv::Tail(tail) => match Tail::new(alloc, tail) {
+                Ok(tail) => Ok(AnyStream::Tail(tail)),
+                Err(memory) => Err(memory),
+            },
             Inv::Wc(wc) => match Wc::new(alloc, wc) {
                 Ok(wc) => Ok(AnyStream::Wc(wc)),
+                Err(memory) => Err(memory),
+            },
+            Inv::Sort(sort) => match Sorter::new(alloc, sort) {
+                Ok(sorter) => Ok(AnyStream::Sort(sorter)),
                 Err(memory) => Err(memory),
             },
             _ => unreachable!(),
@@ -83,37 +106,57 @@ impl AnyStream {
 }
 
 impl Stream for AnyStream {
-    ghost use Rattle.fl_machines.specs.declared.any_stream.AnyStream.TheVariants.{Copy, Grep, Wc};
+    ghost use Rattle.fl_machines.specs.declared.any_stream.AnyStream.TheVariants.{Copy, Grep, Tr, Cut, Tail, Wc, Sort};
 
     ghost due = { λ stream more. elim stream [
       | Copy copy ↦ ⟦<Copy as Stream>⟧.due copy more
       | Grep grep ↦ ⟦<Grep as Stream>⟧.due grep more
+      | Tr tr ↦ ⟦<Tr as Stream>⟧.due tr more
+      | Cut cut ↦ ⟦<Cut as Stream>⟧.due cut more
+      | Tail tail ↦ ⟦<Tail as Stream>⟧.due tail more
       | Wc wc ↦ ⟦<Wc as Stream>⟧.due wc more
+      | Sort sorter ↦ ⟦<Sorter as Stream>⟧.due sorter more
     ] };
 
     ghost selects = { λ stream more. elim stream [
       | Copy copy ↦ ⟦<Copy as Stream>⟧.selects copy more
       | Grep grep ↦ ⟦<Grep as Stream>⟧.selects grep more
+      | Tr tr ↦ ⟦<Tr as Stream>⟧.selects tr more
+      | Cut cut ↦ ⟦<Cut as Stream>⟧.selects cut more
+      | Tail tail ↦ ⟦<Tail as Stream>⟧.selects tail more
       | Wc wc ↦ ⟦<Wc as Stream>⟧.selects wc more
+      | Sort sorter ↦ ⟦<Sorter as Stream>⟧.selects sorter more
     ] };
 
     ghost selected = { λ stream. elim stream [
       | Copy copy ↦ ⟦<Copy as Stream>⟧.selected copy
       | Grep grep ↦ ⟦<Grep as Stream>⟧.selected grep
+      | Tr tr ↦ ⟦<Tr as Stream>⟧.selected tr
+      | Cut cut ↦ ⟦<Cut as Stream>⟧.selected cut
+      | Tail tail ↦ ⟦<Tail as Stream>⟧.selected tail
       | Wc wc ↦ ⟦<Wc as Stream>⟧.selected wc
+      | Sort sorter ↦ ⟦<Sorter as Stream>⟧.selected sorter
     ] };
 
     ghost spent = { λ stream. elim stream [
       | Copy copy ↦ ⟦<Copy as Stream>⟧.spent copy
       | Grep grep ↦ ⟦<Grep as Stream>⟧.spent grep
+      | Tr tr ↦ ⟦<Tr as Stream>⟧.spent tr
+      | Cut cut ↦ ⟦<Cut as Stream>⟧.spent cut
+      | Tail tail ↦ ⟦<Tail as Stream>⟧.spent tail
       | Wc wc ↦ ⟦<Wc as Stream>⟧.spent wc
+      | Sort sorter ↦ ⟦<Sorter as Stream>⟧.spent sorter
     ] };
 
     fn feed(&mut self, piece: &[u8], out: &mut Vec<u8>) -> Result<(), Memory> {
         match self {
             AnyStream::Copy(copy) => copy.feed(piece, out),
             AnyStream::Grep(grep) => grep.feed(piece, out),
+            AnyStream::Tr(tr) => tr.feed(piece, out),
+            AnyStream::Cut(cut) => cut.feed(piece, out),
+            AnyStream::Tail(tail) => tail.feed(piece, out),
             AnyStream::Wc(wc) => wc.feed(piece, out),
+            AnyStream::Sort(sorter) => sorter.feed(piece, out),
         }
     }
 
@@ -121,7 +164,11 @@ impl Stream for AnyStream {
         match self {
             AnyStream::Copy(copy) => copy.finish(out),
             AnyStream::Grep(grep) => grep.finish(out),
+            AnyStream::Tr(tr) => tr.finish(out),
+            AnyStream::Cut(cut) => cut.finish(out),
+            AnyStream::Tail(tail) => tail.finish(out),
             AnyStream::Wc(wc) => wc.finish(out),
+            AnyStream::Sort(sorter) => sorter.finish(out),
         }
     }
 
@@ -129,7 +176,11 @@ impl Stream for AnyStream {
         match self {
             AnyStream::Copy(copy) => copy.has_selected(),
             AnyStream::Grep(grep) => grep.has_selected(),
+            AnyStream::Tr(tr) => tr.has_selected(),
+            AnyStream::Cut(cut) => cut.has_selected(),
+            AnyStream::Tail(tail) => tail.has_selected(),
             AnyStream::Wc(wc) => wc.has_selected(),
+            AnyStream::Sort(sorter) => sorter.has_selected(),
         }
     }
 
@@ -137,7 +188,11 @@ impl Stream for AnyStream {
         match self {
             AnyStream::Copy(copy) => copy.is_spent(),
             AnyStream::Grep(grep) => grep.is_spent(),
+            AnyStream::Tr(tr) => tr.is_spent(),
+            AnyStream::Cut(cut) => cut.is_spent(),
+            AnyStream::Tail(tail) => tail.is_spent(),
             AnyStream::Wc(wc) => wc.is_spent(),
+            AnyStream::Sort(sorter) => sorter.is_spent(),
         }
     }
 }

@@ -23,7 +23,7 @@ fn invocation(alloc: Global, words: &[&str]) -> Result<Option<Inv>, Fail> {
     }
 }
 
-/// What a machine puts that takes these pieces and then an end; None where it puts `Broken`.
+/// What a machine puts that takes these pieces and then an end: its bytes, and `.` for an end; None where it puts anything else.
 fn run(
     alloc: Global,
     machine: &mut UtilMachine,
@@ -46,15 +46,15 @@ fn run(
             },
             Act::Put(_) => match machine.put()? {
                 Piece::Bytes(bytes) => out.extend_from_slice(bytes.as_slice())?,
-                Piece::Broken => return Ok(None),
-                _ => {}
+                Piece::End => out.push(b'.')?,
+                _ => return Ok(None),
             },
         }
     }
     Ok(None)
 }
 
-/// A map and a whole of this invocation put what is wanted for these pieces, and select a line or don't.
+/// A map and a whole of this invocation put what is wanted for these pieces, with `.` for an end, and select a line or don't.
 fn expect_runs(
     rt: &impl Abort,
     alloc: Global,
@@ -88,7 +88,7 @@ fn expect_nothing(rt: &impl Abort, alloc: Global, inv: Inv) -> Result<(), Fail> 
         let out = run(alloc, &mut machine, [].as_slice())?;
         assert_eq!(rt;
             out.as_ref().map(|out| out.as_slice()),
-            Some(b"".as_slice())
+            Some(b".".as_slice())
         );
     } else {
         assert!(rt; false, "no node");
@@ -101,10 +101,10 @@ fn nodes_put_what_their_utility_writes(rt: HostRuntime) -> Result<(), Fail> {
     let alloc = rt.alloc();
     let pieces = ["b a\na", "b\nc\n", "xa"];
     for (words, wanted, selects) in [
-        (["grep", "-F", "a"].as_slice(), "b a\nab\nxa\n", true),
-        (["grep", "-F", "q"].as_slice(), "", false),
-        (["wc", "-l"].as_slice(), "3\n", false),
-        (["cat", "f"].as_slice(), "b a\nab\nc\nxa", false),
+        (["grep", "-F", "a"].as_slice(), "b a\nab\nxa\n.", true),
+        (["grep", "-F", "q"].as_slice(), ".", false),
+        (["wc", "-l"].as_slice(), "3\n.", false),
+        (["cat", "f"].as_slice(), "b a\nab\nc\nxa.", false),
     ] {
         match invocation(alloc, words)? {
             Some(inv) => expect_runs(&rt, alloc, inv, pieces.as_slice(), wanted, selects)?,

@@ -15,7 +15,7 @@ use Rattle.fl_graph.specs.declared.kinds.From.TheVariants as from
 use Rattle.fl_graph.specs.declared.kinds.To.TheVariants as to
 use Rattle.fl_classes.specs.Flow.{is_source}
 use Rattle.fl_core.specs.EndLists.{Blames, HasItsEnds, IsFaultOf, KeepsOthers, NodeEnd, Reader, Writer, end_at, numbers_of, own_end, place_of}
-use Rattle.fl_core.specs.Kinds.{is_sink}
+use Rattle.fl_classes.specs.Kinds.{is_sink}
 use Rattle.fl_core.specs.Roles.{AreApart, HasRoles, end_by, is_read, is_written, kept, needs_no_more, role_at, Kept}
 use Rattle.fl_core.specs.declared.end_lists.Ends.{Ends}
 use Rattle.fl_core.specs.declared.end_lists.Ran.{Ran}

@@ -2,7 +2,7 @@
 use Rattle.std.proofs.Common.{◌≡◌, ℕ, zero, suc, ◌<◌, ◌≤◌, List, [], ◌∷◌, Bool, true, false, if◌then◌else◌, length, map, slice_get, get_or, IfSome, Option, Some, refl, ap, sym, subst, ◌∙◌, arith}
 use Rattle.std.proofs.lemmas.List.{length-map}
 use Rattle.std.proofs.lemmas.Option.{slice_get_within}
-use Rattle.ps_world.specs.Told.{then_bytes, GrewByPrefix, IsEnded}
+use Rattle.ps_world.specs.Told.{then_bytes, GrewByPrefix}
 use Rattle.fl_graph.specs.declared.graphs.Cell.{Cell}
 use Rattle.fl_graph.specs.Machines.{State}
 use Rattle.fl_graph.specs.Valid.{Valid}
@@ -11,7 +11,8 @@ use Rattle.fl_graph.specs.declared.kinds.NodeKind.{NodeKind}
 use Rattle.fl_graph.specs.declared.pieces.Act.TheVariants as doing
 use Rattle.fl_graph.specs.declared.pieces.Piece.{Piece}
 use Rattle.fl_classes.specs.Flow.{flow, is_source, only, selects, selections}
-use Rattle.fl_core.specs.Kinds.{is_sink}
+use Rattle.fl_classes.specs.Kinds.{is_sink}
+use Rattle.fl_core.specs.Ends.{IsReadOff}
 use Rattle.fl_core.specs.Plans.{outer_edge, AreTold, HasRooms, IsNetOf}
 use Rattle.fl_core.specs.Runs.{AreDrained, Follows, Halted, Halts, Leads}
 use Rattle.fl_core.specs.Steps.{waiting_on}
@@ -84,7 +85,7 @@ module _ {Machine : Type 0} (state : Machine → State) (cells : List (Cell Node
     -- a run that has finished
     module _ (stopped : (node : ℕ) (machine : Machine) → slice_get machines' node ≡ Some machine
         → ((port : ℕ) → (state machine).takes port ≡ false) × ((port : ℕ) → (state machine).puts port ≡ false)) where
-      pub done_reads : (node : ℕ) (cell : Cell NodeKind) → slice_get cells node ≡ Some cell → is_source cell.kind ≡ true → IsEnded (left' node)
+      pub done_reads : (node : ℕ) (cell : Cell NodeKind) → slice_get cells node ≡ Some cell → is_source cell.kind ≡ true → IsReadOff (left node) (left' node)
       done_reads =
           let own = net_plan state cells status valid ports machines wires net left taken in
           finished_reads state cells status own.0 valid own.1 machines' wires' left' taken' (leads own.0 own.2 own.3 own.4) (counted ∙ net.all_machines) ((leads own.0 own.2 own.3 own.4).sound own.7) stopped

@@ -1,10 +1,11 @@
 -- What a run leaves at the ends of a graph's plan: the sinks' ends have fronts of the flow where it halted, and where it finished all of
 -- it, with the sources' ends at their end and each node selecting by the flow.
-use Rattle.std.proofs.Common.{◌≡◌, ℕ, ◌+◌, List, [], ◌∷◌, ◌++◌, Bool, true, false, ◌||◌, if◌then◌else◌, length, map, drop, slice_get, nat_lt, Option, Some, refl, ap, sym, subst, ◌∙◌, append-nil, arith}
+use Rattle.std.proofs.Common.{◌≡◌, ℕ, ◌+◌, List, [], ◌∷◌, ◌++◌, Bool, true, false, ◌||◌, if◌then◌else◌, length, map, drop, slice_get, nat_lt, Option, Some, None, refl, ap, sym, subst, ◌∙◌, append-nil, arith}
 use Rattle.std.proofs.lemmas.Bool.{or_parts, true≢false, lt-ltb}
 use Rattle.std.proofs.lemmas.List.{take-append-drop}
 use Rattle.std.proofs.lemmas.Option.{slice_get_within}
-use Rattle.ps_world.specs.Told.{then_bytes, GrewByPrefix, IsEnded}
+use Rattle.std.specs.Option.{option_map}
+use Rattle.ps_world.specs.Told.{bytes_then, then_bytes, GrewByPrefix, IsEnded}
 use Rattle.ps_world.proofs.ToldLemmas.{grew_by_front}
 use Rattle.fl_graph.specs.declared.graphs.Cell.{Cell}
 use Rattle.fl_graph.specs.Machines.{State}
@@ -17,7 +18,8 @@ use Rattle.fl_graph.specs.declared.pieces.Piece.{Piece}
 use Rattle.fl_graph.proofs.StateLemmas.{Run-shut}
 use Rattle.fl_classes.specs.Flow.{is_source, only, flow, selects}
 use Rattle.fl_classes.specs.Nodes.{texts_at}
-use Rattle.fl_core.specs.Kinds.{is_sink, run_kind, run_ins}
+use Rattle.fl_classes.specs.Kinds.{is_sink, run_kind, run_ins}
+use Rattle.fl_core.specs.Ends.{IsReadOff}
 use Rattle.fl_core.specs.Laws.{Carries, at_ports}
 use Rattle.fl_core.specs.Steps.{waiting_on}
 use Rattle.fl_core.specs.Runs.{Plan, IsUnbroken, Reached, Halted}
@@ -35,6 +37,14 @@ grew_by_carried old new pieces text carries grew =
     let whole : text_of pieces ++ rest ≡ text =
     ap (λ (front : List ℕ). front ++ rest) (sym carries.front) ∙ take-append-drop (length (text_of pieces)) text in
     subst (λ (it : List ℕ). GrewByPrefix old new it) whole (grew_by_front old new (text_of pieces) rest grew)
+
+abbrev emptied_of : Option (List ℕ) → Option (List ℕ)
+emptied_of told = option_map (λ (bytes : List ℕ). []) told
+
+-- what was read of a text up to its end is all of it
+read_off : (text : List ℕ) (before after : Option (List ℕ)) → before ≡ bytes_then text after → IsEnded after → IsReadOff before after
+read_off text before None is ended = ap emptied_of (sym is)
+read_off text before (Some left) is ended = ended ∙ ap emptied_of (sym is)
 
 module _ (cells : List (Cell NodeKind)) (status : StatusRule) (plan : Plan) (valid : Valid cells status) (planned : IsPlanOf cells plan)
     (taken : ℕ → Option (List ℕ)) (halted : Halted plan (length cells) taken) (sources : List (List ℕ)) (told : AreTold sources cells plan.left)
@@ -102,15 +112,17 @@ module _ {Machine : Type 0} (state : Machine → State) (cells : List (Cell Node
         let stop = its_stop node machine at_machine in
         taken_ends state plan machines wires left taken reached unbroken edge (ap are_closed (sym (at_ports-stands (plan.ins node) reached.took port edge stands)) ∙ stop.ins port opened)
 
-    pub finished_reads : (node : ℕ) (cell : Cell NodeKind) → slice_get cells node ≡ Some cell → is_source cell.kind ≡ true → IsEnded (left node)
+    pub finished_reads : (node : ℕ) (cell : Cell NodeKind) → slice_get cells node ≡ Some cell → is_source cell.kind ≡ true → IsReadOff (plan.left node) (left node)
     finished_reads node cell at_node source =
         let found = its_machine node cell at_node in
         let outer = source_edge cells status plan valid planned node cell at_node source in
         let begins = planned.begins node cell at_node in
         let opened : (plan.starts node).takes 0 ≡ true = begins.takes_all 0 ∙ ap (λ (test : Bool). nat_lt 0 (if test then 1 else length cell.ins)) source in
         let ended = in_ends node found.0 0 (outer_edge cells node) found.1 (ap (λ (edges : List ℕ). slice_get edges 0) outer) opened in
-        reached.ended node (outer_edge cells node) (planned.reads node cell at_node ∙ source) outer
-        (ap has_end (reached.queued (outer_edge cells node)) ∙ has_end-front (reached.took (outer_edge cells node)) (waiting_on wires (outer_edge cells node)) ended)
+        let reads = planned.reads node cell at_node ∙ source in
+        read_off (text_of (reached.put (outer_edge cells node))) (plan.left node) (left node) (reached.read node (outer_edge cells node) reads outer)
+        (reached.ended node (outer_edge cells node) reads outer
+        (ap has_end (reached.queued (outer_edge cells node)) ∙ has_end-front (reached.took (outer_edge cells node)) (waiting_on wires (outer_edge cells node)) ended))
 
     -- a sink has put the end of its text
     pub sink_ended : (node : ℕ) (cell : Cell NodeKind) → slice_get cells node ≡ Some cell → is_sink cell.kind ≡ true → has_end (reached.put (outer_edge cells node)) ≡ true

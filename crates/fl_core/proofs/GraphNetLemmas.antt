@@ -8,7 +8,7 @@ use Rattle.fl_graph.specs.Machines.{State}
 use Rattle.fl_graph.specs.declared.kinds.NodeKind.{NodeKind}
 use Rattle.fl_graph.specs.declared.pieces.Piece.{Piece}
 use Rattle.fl_classes.specs.Flow.{is_source}
-use Rattle.fl_core.specs.Kinds.{is_sink}
+use Rattle.fl_classes.specs.Kinds.{is_sink}
 use Rattle.fl_core.specs.Plans.{IsNetOf}
 use Rattle.fl_core.specs.Starts.{BeginsAs, HasPorts, NodesHave}
 use Rattle.fl_core.specs.Steps.{waiting_on}

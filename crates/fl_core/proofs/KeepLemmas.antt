@@ -15,7 +15,7 @@ use Rattle.fl_graph.specs.declared.kinds.NodeKind.TheVariants as kind
 use Rattle.fl_graph.specs.declared.pieces.Piece.{Piece}
 use Rattle.fl_classes.specs.Flow.{Placed, placed, placed_from, is_source, texts_given}
 use Rattle.fl_classes.specs.Nodes.{given_on}
-use Rattle.fl_core.specs.Kinds.{is_sink, run_kind, run_ins, run_outs}
+use Rattle.fl_classes.specs.Kinds.{is_sink, run_kind, run_ins, run_outs}
 use Rattle.fl_core.specs.Laws.{Carries, is_clean, at_ports, given, Keeps, NodesKeep, NetKeeps}
 use Rattle.fl_core.specs.Runs.{Plan, Halted}
 use Rattle.fl_core.specs.Plans.{outer_edge, IsPlanOf, AreTold}

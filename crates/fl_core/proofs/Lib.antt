@@ -1,3 +1,4 @@
+pub mod KindLemmas
 pub mod StepLemmas
 pub mod PieceLemmas
 pub mod PlacedLemmas
@@ -31,3 +32,5 @@ pub mod OutputLemmas
 pub mod RanLemmas
 pub mod FileLemmas
 pub mod HistoryLemmas
+pub mod OwnLemmas
+pub mod OwnRunLemmas

@@ -16,7 +16,7 @@ use Rattle.fl_graph.specs.declared.pieces.Piece.TheVariants as piece
 use Rattle.fl_graph.proofs.ListLemmas.{count-has}
 use Rattle.fl_classes.specs.Flow.{Placed, flow, is_source, only, placed}
 use Rattle.fl_core.specs.Inputs.{RunsOver}
-use Rattle.fl_core.specs.Kinds.{is_sink}
+use Rattle.fl_classes.specs.Kinds.{is_sink}
 use Rattle.fl_core.specs.Laws.{is_clean, NetKeeps}
 use Rattle.fl_core.specs.Moves.{moves_at, most_moves, most_pieces, outer_texts}
 use Rattle.fl_core.specs.Plans.{outer_edge, AreTold}

@@ -14,7 +14,7 @@ use Rattle.fl_graph.specs.declared.pieces.Piece.{Piece}
 use Rattle.fl_classes.specs.Flow.{flow, only}
 use Rattle.fl_graph.proofs.StateLemmas.{Run-weaken}
 use Rattle.fl_core.specs.Inputs.{marked, AreBrought, RunsOver}
-use Rattle.fl_core.specs.Kinds.{is_sink}
+use Rattle.fl_classes.specs.Kinds.{is_sink}
 use Rattle.fl_core.specs.Laws.{Carries}
 use Rattle.fl_core.specs.Plans.{outer_edge, AreTold, IsPlanOf}
 use Rattle.fl_core.specs.Moves.{moves_of}

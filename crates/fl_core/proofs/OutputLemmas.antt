@@ -13,7 +13,7 @@ use Rattle.fl_graph.specs.declared.kinds.NodeKind.TheVariants as kind
 use Rattle.fl_graph.specs.declared.kinds.To.TheVariants as to
 use Rattle.fl_classes.specs.Flow.{Write, flow, only, outcome, to_output, writes_of}
 use Rattle.fl_core.specs.EndLists.{KeepsOthers, Output, own_end, taken_at, taken_by}
-use Rattle.fl_core.specs.Kinds.{is_sink}
+use Rattle.fl_classes.specs.Kinds.{is_sink}
 use Rattle.fl_core.specs.declared.end_lists.Ends.{Ends}
 use Rattle.fl_core.proofs.LawLemmas.{writes_of_the_flow}
 use Rattle.fl_core.proofs.RoleLemmas.{counted, is_counted, mark, marked}
@@ -22,7 +22,7 @@ some_is : {X : Type 0} (one other : X) → Some one ≡ Some other → one ≡ o
 some_is one other is = cc
 
 -- one that passes, or none
-sought : {Item : Type 0} (test : Item → Bool) (items : List Item)
+pub sought : {Item : Type 0} (test : Item → Bool) (items : List Item)
     → ((place : ℕ) × ((item : Item) × ((slice_get items place ≡ Some item) × (test item ≡ true)))) ⊎ ((place : ℕ) (item : Item) → slice_get items place ≡ Some item → test item ≡ false)
 sought test [] = inr (λ place item at. absurd (cc))
 sought {Item} test (first ∷ items) = by_test (test first) refl (sought test items)

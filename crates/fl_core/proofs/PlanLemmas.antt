@@ -12,7 +12,7 @@ use Rattle.fl_graph.specs.declared.kinds.NodeKind.{NodeKind}
 use Rattle.fl_graph.specs.declared.kinds.NodeKind.TheVariants as kind
 use Rattle.fl_graph.proofs.ListLemmas.{count-has, count-none}
 use Rattle.fl_classes.specs.Flow.{is_source}
-use Rattle.fl_core.specs.Kinds.{is_sink}
+use Rattle.fl_classes.specs.Kinds.{is_sink}
 use Rattle.fl_core.specs.Runs.{Plan, IsWired}
 use Rattle.fl_core.specs.Plans.{outer_edge, IsPlanOf}
 use Rattle.fl_core.proofs.PortLemmas.{part_within, single_part, one_part}

@@ -19,7 +19,7 @@ use Rattle.fl_graph.proofs.EdgeLemmas.{leads_on-each}
 use Rattle.fl_graph.proofs.ListLemmas.{holds-has}
 use Rattle.fl_classes.specs.Flow.{is_source}
 use Rattle.fl_core.specs.Inputs.{RunsOver}
-use Rattle.fl_core.specs.Kinds.{is_sink}
+use Rattle.fl_classes.specs.Kinds.{is_sink}
 use Rattle.fl_core.specs.Laws.{is_clean, at_ports}
 use Rattle.fl_core.specs.Plans.{outer_edge, HasRooms, IsPlanOf, is_sole}
 use Rattle.fl_core.specs.Runs.{Plan, IsWired, Follows, Reached}

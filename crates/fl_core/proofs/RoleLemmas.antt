@@ -16,7 +16,7 @@ use Rattle.fl_graph.specs.declared.kinds.NodeKind.TheVariants as kind
 use Rattle.fl_graph.specs.declared.kinds.From.TheVariants as from
 use Rattle.fl_graph.specs.declared.kinds.To.TheVariants as to
 use Rattle.fl_classes.specs.Flow.{is_source}
-use Rattle.fl_core.specs.Kinds.{is_sink}
+use Rattle.fl_classes.specs.Kinds.{is_sink}
 use Rattle.fl_core.specs.EndLists.{place_of, numbers_of, end_in, end_of, reads_file, writes_file, NodeEnd, Reader, Writer, Input, Output, own_end, end_at, KeepsOthers}
 use Rattle.fl_core.specs.Roles.{role_of, role_at, AreApart, is_same, is_used, end_by, HasRoles, is_read, is_written, Kept, kept}
 use Rattle.fl_core.specs.Starts.{NodesHave}

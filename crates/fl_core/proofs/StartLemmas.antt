@@ -19,7 +19,7 @@ use Rattle.fl_graph.proofs.ListLemmas.{count-has, count-none}
 use Rattle.fl_graph.proofs.StateLemmas.{Run-start}
 use Rattle.fl_classes.specs.Flow.{is_source}
 use Rattle.fl_classes.specs.Nodes.{Begins}
-use Rattle.fl_core.specs.Kinds.{is_sink, run_kind, run_ins, run_outs}
+use Rattle.fl_classes.specs.Kinds.{is_sink, run_kind, run_ins, run_outs}
 use Rattle.fl_core.specs.Laws.{at_ports}
 use Rattle.fl_core.specs.Runs.{Plan, IsWired, Follows, Reached}
 use Rattle.fl_core.specs.Plans.{outer_edge, edges_in, edges_out, IsPlanOf, IsNetOf}

@@ -13,7 +13,7 @@ use Rattle.fl_graph.specs.declared.kinds.NodeKind.TheVariants as kind
 use Rattle.fl_graph.specs.declared.kinds.From.TheVariants as from
 use Rattle.fl_graph.specs.declared.kinds.To.TheVariants as to
 use Rattle.fl_classes.specs.Flow.{is_source}
-use Rattle.fl_core.specs.Kinds.{is_sink}
+use Rattle.fl_classes.specs.Kinds.{is_sink}
 use Rattle.fl_core.specs.declared.end_lists.Ends.{Ends}
 use Rattle.fl_core.specs.declared.end_lists.Ran.{Ran}
 use Rattle.fl_core.specs.declared.end_lists.Ran.TheVariants as ran
@@ -44,10 +44,21 @@ abbrev pub writes_file : NodeKind → Bool
 writes_file (kind.Sink (to.File path mode)) = true
 writes_file other = false
 
--- the numbers of those that write one, counted on from this number
+-- the numbers of the nodes of such kinds, counted on from this number
+abbrev pub numbers_where : (NodeKind → Bool) → ℕ → List (Cell NodeKind) → List ℕ
+numbers_where test number [] = []
+numbers_where test number (cell ∷ cells) = if test cell.kind then number ∷ numbers_where test (number + 1) cells else numbers_where test (number + 1) cells
+
+-- those that write a file, or those that read one
+abbrev pub has_file : Bool → NodeKind → Bool
+has_file true = writes_file
+has_file false = reads_file
+
+abbrev pub file_sources : ℕ → List (Cell NodeKind) → List ℕ
+file_sources number cells = numbers_where reads_file number cells
+
 abbrev pub file_nodes : ℕ → List (Cell NodeKind) → List ℕ
-file_nodes number [] = []
-file_nodes number (cell ∷ cells) = if writes_file cell.kind then number ∷ file_nodes (number + 1) cells else file_nodes (number + 1) cells
+file_nodes number cells = numbers_where writes_file number cells
 
 -- the ends of these nodes have grown by the texts of these files, each by its own
 abbrev pub GrewByFiles : (ℕ → Option (List ℕ)) → (ℕ → Option (List ℕ)) → List ℕ → List (Components × (Mode × List ℕ)) → Type 0

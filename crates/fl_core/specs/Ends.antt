@@ -1,10 +1,11 @@
 -- What a network is at its end (own).
-use Rattle.std.specs.Prelude.{◌≡◌, ℕ, List, true, map, slice_get, Option, Some}
-use Rattle.ps_world.specs.Told.{then_bytes, GrewByPrefix, IsEnded}
+use Rattle.std.specs.Prelude.{◌≡◌, ℕ, List, [], true, map, slice_get, Option, Some}
+use Rattle.std.specs.Option.{option_map}
+use Rattle.ps_world.specs.Told.{then_bytes, GrewByPrefix}
 use Rattle.fl_graph.specs.declared.graphs.Cell.{Cell}
 use Rattle.fl_graph.specs.declared.kinds.NodeKind.{NodeKind}
 use Rattle.fl_classes.specs.Flow.{flow, is_source, only}
-use Rattle.fl_core.specs.Kinds.{is_sink}
+use Rattle.fl_classes.specs.Kinds.{is_sink}
 use Rattle.fl_core.specs.Plans.{AreTold}
 use Rattle.fl_core.specs.declared.engine.Ending.{Ending}
 use Rattle.fl_core.specs.declared.engine.Ending.TheVariants as ending
@@ -21,9 +22,13 @@ HasWrittenFronts cells left taken taken' =
     (sources : List (List ℕ)) → AreTold sources cells left → (node : ℕ) (cell : Cell NodeKind) → slice_get cells node ≡ Some cell → is_sink cell.kind ≡ true
     → GrewByPrefix (taken node) (taken' node) (only (map (flow cells sources) cell.ins))
 
--- nothing is left at the end of a source
-abbrev pub HasRead : List (Cell NodeKind) → (ℕ → Option (List ℕ)) → Type 0
-HasRead cells left = (node : ℕ) (cell : Cell NodeKind) → slice_get cells node ≡ Some cell → is_source cell.kind ≡ true → IsEnded (left node)
+-- all that was left was read: nothing is left, where it was told
+abbrev pub IsReadOff : Option (List ℕ) → Option (List ℕ) → Type 0
+IsReadOff left left' = left' ≡ option_map (λ _. []) left
+
+-- so at the end of each source
+abbrev pub HasRead : List (Cell NodeKind) → (ℕ → Option (List ℕ)) → (ℕ → Option (List ℕ)) → Type 0
+HasRead cells left left' = (node : ℕ) (cell : Cell NodeKind) → slice_get cells node ≡ Some cell → is_source cell.kind ≡ true → IsReadOff (left node) (left' node)
 
 -- what holds where a run is done, of its status
 abbrev pub OnDone : Ending → (ℕ → Type 0) → Type 0

@@ -1,4 +1,3 @@
-pub mod Kinds
 pub mod Laws
 pub mod Steps
 pub mod Runs
@@ -10,5 +9,7 @@ pub mod Starts
 pub mod Moves
 pub mod Inputs
 pub mod EndLists
+pub mod Engines
+pub mod OwnEnds
 pub mod Roles
 pub mod Stuck

@@ -8,7 +8,7 @@ use Rattle.fl_graph.specs.declared.kinds.NodeKind.TheVariants as kind
 use Rattle.fl_graph.specs.declared.kinds.From.TheVariants as from
 use Rattle.fl_graph.specs.declared.kinds.To.TheVariants as to
 use Rattle.fl_classes.specs.Flow.{is_source}
-use Rattle.fl_core.specs.Kinds.{is_sink}
+use Rattle.fl_classes.specs.Kinds.{is_sink}
 use Rattle.fl_core.specs.EndLists.{place_of, numbers_of, end_in, own_end, NodeEnd, Reader, Writer, Input, Output}
 use Rattle.fl_core.specs.Starts.{NodesHave}
 use Rattle.fl_core.specs.declared.end_lists.Ends.{Ends}

@@ -5,7 +5,7 @@ use Rattle.fl_graph.specs.Machines.{State}
 use Rattle.fl_graph.specs.declared.kinds.NodeKind.{NodeKind}
 use Rattle.fl_classes.specs.Flow.{is_source}
 use Rattle.fl_classes.specs.Nodes.{Begins}
-use Rattle.fl_core.specs.Kinds.{is_sink, run_kind, run_ins, run_outs}
+use Rattle.fl_classes.specs.Kinds.{is_sink, run_kind, run_ins, run_outs}
 use Rattle.fl_core.specs.Plans.{edges_in, edges_out}
 use Rattle.fl_core.specs.declared.nets.Ports.{Ports}
 

@@ -5,7 +5,7 @@ ghost use Rattle.fl_graph.specs.Valid.{Valid};
 ghost use Rattle.fl_classes.specs.Flow.{outcome};
 ghost use Rattle.fl_core.specs.EndLists.{Blames, HasItsEnds, IfDone, KeepsOthers, faults_at, given_back, left_at, taken_at, file_nodes, GrewByFiles};
 ghost use Rattle.fl_core.specs.Ends.{HasRead, HasWritten, HasWrittenFronts};
-ghost use Rattle.fl_core.specs.Kinds.{are_run};
+ghost use Rattle.fl_classes.specs.Kinds.{are_run};
 ghost use Rattle.fl_core.specs.Plans.{AreTold};
 
 use crate::engine::{Ending, run_over_ends};
@@ -62,7 +62,7 @@ pub fn run_in_turn<R: Source, W: Sink, I: Source, O: Sink>(
     ensures files { IfDone result (λ _. (sources : List (List ℕ)) → AreTold sources graph.now.nodes (left_at R.left I.left graph.now.nodes ends) →
         GrewByFiles (taken_at W.taken O.taken graph.now.nodes ends) (taken_at W.taken O.taken graph.now.nodes (given_back result))
         (file_nodes 0 graph.now.nodes) (outcome graph.now sources).files) }
-    ensures read { IfDone result (λ _. HasRead graph.now.nodes (left_at R.left I.left graph.now.nodes (given_back result))) }
+    ensures read { IfDone result (λ _. HasRead graph.now.nodes (left_at R.left I.left graph.now.nodes ends) (left_at R.left I.left graph.now.nodes (given_back result))) }
     ensures status { IfDone result (λ status. (sources : List (List ℕ)) → AreTold sources graph.now.nodes (left_at R.left I.left graph.now.nodes ends) →
         status ≡ (outcome graph.now sources).status) }
     ensures front { HasWrittenFronts graph.now.nodes (left_at R.left I.left graph.now.nodes ends)

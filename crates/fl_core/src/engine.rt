@@ -7,7 +7,7 @@ ghost use Rattle.fl_graph.specs.declared.kinds.NodeKind.{NodeKind};
 ghost use Rattle.fl_graph.specs.declared.pieces.TheConstants.{MAX_PIECE};
 ghost use Rattle.fl_classes.specs.Flow.{is_source, outcome};
 ghost use Rattle.fl_core.specs.Ends.{HasRead, HasWritten, HasWrittenFronts, OnDone};
-ghost use Rattle.fl_core.specs.Kinds.{are_run, is_sink};
+ghost use Rattle.fl_classes.specs.Kinds.{are_run, is_sink};
 ghost use Rattle.fl_core.specs.Plans.{AreTold};
 
 use crate::ends::NodeEnds;
@@ -39,7 +39,7 @@ pub fn run_over_ends<E: NodeEnds>(alloc: Global, graph: &Graph, ends: &mut E) ->
     requires reads { (node : ℕ) (cell : Cell NodeKind) → slice_get graph.now.nodes node ≡ Some cell → is_source cell.kind ≡ true → E.reads ends.old node ≡ true }
     requires writes { (node : ℕ) (cell : Cell NodeKind) → slice_get graph.now.nodes node ≡ Some cell → is_sink cell.kind ≡ true → E.writes ends.old node ≡ true }
     ensures written { OnDone result (λ _. HasWritten graph.now.nodes (E.left ends.old) (E.taken ends.old) (E.taken ends.new)) }
-    ensures read { OnDone result (λ _. HasRead graph.now.nodes (E.left ends.new)) }
+    ensures read { OnDone result (λ _. HasRead graph.now.nodes (E.left ends.old) (E.left ends.new)) }
     ensures status { OnDone result (λ status. (sources : List (List ℕ)) → AreTold sources graph.now.nodes (E.left ends.old) →
         status ≡ (outcome graph.now sources).status) }
     ensures front { HasWrittenFronts graph.now.nodes (E.left ends.old) (E.taken ends.old) (E.taken ends.new) }

@@ -5,7 +5,7 @@ ghost use Rattle.fl_graph.specs.Kinds.{has_its_ports, reads_one_input, runs_what
 ghost use Rattle.fl_graph.specs.Net.{gives};
 ghost use Rattle.fl_graph.specs.Valid.{Valid};
 ghost use Rattle.fl_classes.specs.Flow.{is_source as is_source_lem};
-ghost use Rattle.fl_core.specs.Kinds.{are_run, is_run, is_sink as is_sink_lem};
+ghost use Rattle.fl_classes.specs.Kinds.{are_run, is_run, is_sink as is_sink_lem};
 ghost use Rattle.fl_core.specs.Plans.{HasRooms, IsNetOf, is_sole, room_of};
 ghost use Rattle.fl_core.specs.Starts.{BeginsAs, HasPorts, NodesHave};
 ghost use Rattle.fl_core.specs.Steps.{room_on, waiting_on};

@@ -4,7 +4,7 @@ ghost use Rattle.fl_graph.specs.Net.{gives};
 ghost use Rattle.fl_graph.specs.Valid.{Valid};
 ghost use Rattle.fl_classes.specs.Flow.{is_source as is_source_lem};
 ghost use Rattle.fl_core.specs.Inputs.{input_of as input_of_lem, AreWhole, BeginsOver, IsLoaded, RunsOver};
-ghost use Rattle.fl_core.specs.Kinds.{are_run};
+ghost use Rattle.fl_classes.specs.Kinds.{are_run};
 ghost use Rattle.fl_core.specs.Plans.{HasRooms};
 ghost use Rattle.fl_core.specs.Steps.{waiting_on};
 

@@ -1,6 +1,6 @@
 //! Which nodes the engine runs.
 ghost use Rattle.std.specs.Prelude.{◌≡◌};
-ghost use Rattle.fl_core.specs.Kinds.{are_run as are_run_lem, is_run as is_run_lem};
+ghost use Rattle.fl_classes.specs.Kinds.{are_run as are_run_lem, is_run as is_run_lem};
 
 use fl_graph::{Node, NodeKind};
 use ut_args::Inv;

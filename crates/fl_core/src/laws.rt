@@ -14,7 +14,7 @@ ghost use Rattle.fl_graph.specs.declared.pieces.Piece.{Piece};
 ghost use Rattle.fl_classes.specs.Flow.{flow, is_source, only, writes, writes_of, selections, selects};
 ghost use Rattle.fl_classes.specs.Nodes.{Begins};
 ghost use Rattle.fl_core.specs.Inputs.{RunsOver};
-ghost use Rattle.fl_core.specs.Kinds.{is_sink};
+ghost use Rattle.fl_classes.specs.Kinds.{is_sink};
 ghost use Rattle.fl_core.specs.Laws.{given, is_clean, Carries, NetKeeps, NetRan, NodeRan};
 ghost use Rattle.fl_core.specs.Moves.{most_moves};
 ghost use Rattle.fl_core.specs.Plans.{outer_edge, AreTold, HasRooms, IsPlanOf};

@@ -1,8 +1,10 @@
 //! The machine of any node.
-ghost use Rattle.std.specs.Prelude.{◌≡◌, true, false, IfOk};
+ghost use Rattle.std.specs.Prelude.{◌≡◌, ◌||◌, true, false, IfOk};
 ghost use Rattle.fl_graph.specs.Kinds.{may_have, reads_one_input, runs_what_is_built};
 ghost use Rattle.fl_classes.specs.Nodes.{Begins};
-ghost use Rattle.fl_core.specs.Kinds.{is_run, run_kind, run_ins, run_outs};
+ghost use Rattle.fl_classes.specs.Flow.{is_source};
+ghost use Rattle.fl_classes.specs.Kinds.{is_run, is_sink, run_kind, run_ins, run_outs};
+ghost use Rattle.fl_machines.specs.Kinds.{runs_utility as runs_utility_lem};
 
 use fl_graph::{Act, Machine, NodeKind, Piece};
 use fl_joints::{Joint, joint};
@@ -22,6 +24,7 @@ pub enum NodeMachine {
 /// The machine of a node of this kind with so many ins and outs, at its beginning.
 ///
 /// A source and a sink hand on what comes: that of a source from outside, and that of a sink to the outside.
+#[tactic(auto, using(crate::proofs::KindLemmas::joint_if_run))]
 pub fn node_machine(
     alloc: Global,
     kind: &NodeKind,
@@ -35,19 +38,36 @@ pub fn node_machine(
     ensures { IfOk result (λ machine. Begins (run_kind kind.now) (run_ins kind.now ins) (run_outs kind.now outs)
         (⟦<NodeMachine as Machine>⟧.state machine)) }
 {
-    match kind {
-        NodeKind::Source(_) | NodeKind::Sink(_) => hand_on(alloc),
-        NodeKind::Map(_) | NodeKind::Whole(_) | NodeKind::Finish(_) => {
-            match util_machine(alloc, kind, ins, outs) {
-                Ok(machine) => Ok(NodeMachine::Util(machine)),
-                Err(memory) => Err(memory),
-            }
-        }
-        _ => match joint(alloc, kind, ins, outs) {
-            Ok(joint) => Ok(NodeMachine::Joint(joint)),
-            Err(memory) => Err(memory),
-        },
+    if is_end(kind) {
+        return hand_on(alloc);
     }
+    if runs_utility(kind) {
+        return match util_machine(alloc, kind, ins, outs) {
+            Ok(machine) => Ok(NodeMachine::Util(machine)),
+            Err(memory) => Err(memory),
+        };
+    }
+    match joint(alloc, kind, ins, outs) {
+        Ok(joint) => Ok(NodeMachine::Joint(joint)),
+        Err(memory) => Err(memory),
+    }
+}
+
+/// Whether this is a source or a sink.
+fn is_end(kind: &NodeKind) -> bool
+    ensures { result ≡ (is_source kind.now || is_sink kind.now) }
+{
+    matches!(kind, NodeKind::Source(_) | NodeKind::Sink(_))
+}
+
+/// Whether this is a map, a whole or a finish.
+fn runs_utility(kind: &NodeKind) -> bool
+    ensures { result ≡ runs_utility_lem kind.now }
+{
+    matches!(
+        kind,
+        NodeKind::Map(_) | NodeKind::Whole(_) | NodeKind::Finish(_)
+    )
 }
 
 /// The machine that hands on what comes.

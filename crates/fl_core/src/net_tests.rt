@@ -2,7 +2,7 @@
 ghost use Rattle.std.specs.Prelude.{◌≡◌, ◌<◌, ◌^◌, true, length, IfOk};
 ghost use Rattle.fl_graph.specs.Valid.{Valid};
 ghost use Rattle.fl_core.specs.Inputs.{CanStep};
-ghost use Rattle.fl_core.specs.Kinds.{are_run as are_run_lem};
+ghost use Rattle.fl_classes.specs.Kinds.{are_run as are_run_lem};
 
 use crate::{Net, NodeMachine, are_run, net_of};
 use fl_graph::{From, Graph, Machine, Node, NodeKind, Piece, Seq, StatusRule, To, validate};
@@ -91,19 +91,19 @@ fn a_graph_runs_over_a_text_step_by_step(rt: HostRuntime) -> Result<(), Fail> {
     assert!(rt; validate(&graph));
     assert!(rt; are_run(graph.nodes.as_slice()));
     let mut net = run_over(alloc, &graph, b"a\nb\nc\nd")?;
+    // What the sink has put: its bytes, `.` for an end, and `!` for anything else. The last wire is that from the sink, which is the last
+    // node, to the outside.
     let mut text = Vec::new(alloc);
-    let mut ends = 0;
-    // The last wire is that from the sink, which is the last node, to the outside.
     if let Some(mut wire) = net.wires.pop() {
         for _ in 0..20 {
             match wire.pop() {
                 Some(Piece::Bytes(bytes)) => text.extend_from_slice(bytes.as_slice())?,
-                Some(Piece::End) => ends = 1,
-                _ => {}
+                Some(Piece::End) => text.push(b'.')?,
+                Some(_) => text.push(b'!')?,
+                None => {}
             }
         }
     }
-    assert_eq!(rt; text.as_slice(), b"a\nb\nc\nd".as_slice());
-    assert_eq!(rt; ends, 1);
+    assert_eq!(rt; text.as_slice(), b"a\nb\nc\nd.".as_slice());
     Ok(())
 }

@@ -48,7 +48,8 @@ returns-in-Done-clause-files g c = λ sources told.
 pub returns-in-Done-clause-read : goal.returns-in-Done-clause-read
 returns-in-Done-clause-read g c =
     moved _ c.args.ends _ c.in-Ok.ensures _ c.run_over_ends-ending.new.ends.ends c.run_over_ends-ending.ensures.borrows
-    (λ old new. HasRead c.args.graph.now.nodes (λ node. left_by g.R.Source.left g.I.Source.left (new node))) c.in-Done.ensures.read
+    (λ old new. HasRead c.args.graph.now.nodes (λ node. left_by g.R.Source.left g.I.Source.left (old node)) (λ node. left_by g.R.Source.left g.I.Source.left (new node)))
+    c.in-Done.ensures.read
 
 pub returns-in-Done-clause-status : goal.returns-in-Done-clause-status
 returns-in-Done-clause-status g c =

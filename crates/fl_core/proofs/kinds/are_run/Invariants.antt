@@ -1,5 +1,5 @@
 use Rattle.std.proofs.Common.{◌≡◌, drop}
-use Rattle.fl_core.specs.Kinds.{are_run}
+use Rattle.fl_classes.specs.Kinds.{are_run}
 use Rattle.fl_core.proofs.kinds.are_run.Given as goal
 
 abbrev pub invariant-loop-node : goal.invariant-loop-node

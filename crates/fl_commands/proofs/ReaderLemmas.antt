@@ -1,0 +1,156 @@
+-- Readers, one behind the other.
+use Rattle.std.proofs.Common.{◌≡◌, ℕ, zero, ◌≤◌, ◌<◌, ◌+◌, suc, List, [], ◌∷◌, ◌++◌, Bool, true, false, ◌||◌, nat_lt, length, map, Option, Some, None, refl, sym, ap, subst, ◌∙◌, append_assoc, drop, get_or, IfSome, arith}
+use Rattle.std.specs.List.{filter_map}
+use Rattle.std.proofs.lemmas.Bool.{lt-ltb, true≢false}
+use Rattle.std.proofs.lemmas.List.{drop_more}
+use Rattle.ps_world.specs.Counts.{Rose}
+use Rattle.ps_world.specs.Files.{Files, bytes_at}
+use Rattle.ps_world.specs.TreeState.{AreOut, TreeState, lend, take_back}
+use Rattle.ps_world.proofs.TreeStateLemmas.{balanced-none, out-lend, out-take_back}
+use Rattle.fl_core.specs.OwnEnds.{each_of}
+use Rattle.fl_segments.specs.Stages.{file_in}
+use Rattle.fl_segments.specs.declared.stages.In.{In}
+use Rattle.fl_segments.specs.declared.stages.In.TheVariants as inlet
+use Rattle.fl_commands.specs.Readers.{AreThere, IsThere, has_count}
+
+-- what is told of one more
+each-behind : {End Told : Type 0} (tell : End → Told) (entries : List (ℕ × End)) (number : ℕ) (end : End)
+    → each_of tell (entries ++ (number, end) ∷ []) ≡ each_of tell entries ++ tell end ∷ []
+each-behind tell [] number end = refl
+each-behind tell (first ∷ rest) number end = ap (λ it. tell first.1 ∷ it) (each-behind tell rest number end)
+
+pub each-more : {End Told : Type 0} (tell : End → Told) (entries all : List (ℕ × End)) (number : ℕ) (end : End) (told : Told) → all ≡ entries ++ (number, end) ∷ [] → tell end ≡ told
+    → each_of tell all ≡ each_of tell entries ++ told ∷ []
+each-more tell entries all number end told is tells =
+    ap (each_of tell) is ∙ each-behind tell entries number end ∙ ap (λ it. each_of tell entries ++ it ∷ []) tells
+
+-- counts behind one another
+or-false : (test : Bool) → (test || false) ≡ test
+or-false true = refl
+or-false false = refl
+
+or-assoc : (one two three : Bool) → (one || (two || three)) ≡ ((one || two) || three)
+or-assoc true two three = refl
+or-assoc false two three = refl
+
+count-more : (counts : List ℕ) (count : ℕ) → has_count (counts ++ count ∷ []) ≡ (has_count counts || nat_lt 0 count)
+count-more [] count = or-false (nat_lt 0 count)
+count-more (first ∷ rest) count = ap (λ it. nat_lt 0 first || it) (count-more rest count) ∙ or-assoc (nat_lt 0 first) (has_count rest) (nat_lt 0 count)
+
+-- one more is in a list, whatever it is
+pub one-more : {X : Type 0} (all rest : List X) (last : X) → all ≡ rest ++ last ∷ [] → length all ≡ suc (length rest)
+one-more all rest last is = ap (λ it. length it) is ∙ by_items rest
+  where
+    by_items : (items : List _) → length (items ++ last ∷ []) ≡ suc (length items)
+    by_items [] = refl
+    by_items (first ∷ items) = ap suc (by_items items)
+
+-- readers, and one that is opened behind them
+module _ {End : Type 0} (entries all : List (ℕ × End)) (number : ℕ) (end : End) (is : all ≡ entries ++ (number, end) ∷ []) where
+  pub count-opened : length all ≡ length entries + 1
+  count-opened = let longer = one-more all entries (number, end) is in omega (arith, longer)
+
+  pub out-opened : (first mid new : TreeState) → new ≡ lend mid → AreOut (length entries) first mid → AreOut (length all) first new
+  out-opened first mid new lent out =
+      subst (λ (it : TreeState). AreOut (length all) first it) (sym lent) (subst (λ (it : ℕ). AreOut it first (lend mid)) (sym (one-more all entries (number, end) is)) (out-lend (length entries) first mid out))
+
+  pub fresh-opened : (faults : End → ℕ) → faults end ≡ 0 → has_count (each_of faults entries) ≡ false → has_count (each_of faults all) ≡ false
+  fresh-opened faults none fresh =
+      ap has_count (each-more faults entries all number end 0 is none) ∙ count-more (each_of faults entries) 0 ∙ or-false (has_count (each_of faults entries)) ∙ fresh
+
+-- one that is opened, and goes back at once
+pub out-returned : (count : ℕ) (first old mid new : TreeState) → mid ≡ lend old → new ≡ take_back mid → AreOut count first old → AreOut count first new
+out-returned count first old mid new lent back out =
+    subst (λ (it : TreeState). AreOut count first it) (sym (back ∙ ap take_back lent)) (out-take_back count first (lend old) (out-lend count first old out))
+
+-- counts that rose go on to stand above, and one of those that are told last rises the tree's
+rose-later : (first before now : ℕ) → Rose first before → before ≤ now → Rose first now
+rose-later first before now rose later = omega (arith, rose, later)
+
+rose-earlier : (first before now : ℕ) → first ≤ before → Rose before now → Rose first now
+rose-earlier first before now earlier rose = omega (arith, earlier, rose)
+
+either : (one two : Bool) → (one || two) ≡ false → (one ≡ false) × (two ≡ false)
+either false false is = (refl, refl)
+either false true is = absurd (cc)
+either true two is = absurd (cc)
+
+none-above : (count : ℕ) → nat_lt 0 count ≡ false → count ≡ 0
+none-above zero is = refl
+none-above (suc count) is = let above : 0 < suc count = omega arith in absurd (true≢false (sym (lt-ltb 0 (suc count) above) ∙ is))
+
+-- readers that are left, and the last of them, which goes back
+module _ {End : Type 0} (faults : End → ℕ) (entries rest : List (ℕ × End)) (number : ℕ) (end : End) (is : entries ≡ rest ++ (number, end) ∷ []) where
+  counted : has_count (each_of faults entries) ≡ (has_count (each_of faults rest) || nat_lt 0 (faults end))
+  counted = ap has_count (each-more faults rest entries number end (faults end) is refl) ∙ count-more (each_of faults rest) (faults end)
+
+  pub shorter : length entries ≡ suc (length rest)
+  shorter = one-more entries rest (number, end) is
+
+  pub out-next : (first mid new : TreeState) → new ≡ take_back mid → AreOut (length entries) first mid → AreOut (length rest) first new
+  out-next first mid new back out =
+      subst (λ (it : TreeState). AreOut (length rest) first it) (sym back) (out-take_back (length rest) first mid (subst (λ (it : ℕ). AreOut it first mid) shorter out))
+
+  pub calm-next : (all : Bool) (first before now : ℕ) → (all ≡ false → (has_count (each_of faults entries) ≡ false) × (before ≡ first)) → (faults end ≡ 0 → now ≡ before)
+      → all ≡ false → (has_count (each_of faults rest) ≡ false) × (now ≡ first)
+  calm-next all first before now so calm none =
+      let parts = either (has_count (each_of faults rest)) (nat_lt 0 (faults end)) (sym counted ∙ (so none).0) in
+      (parts.0, calm (none-above (faults end) parts.1) ∙ (so none).1)
+
+  pub rose-next : (all : Bool) (first before now : ℕ) → (all ≡ true → has_count (each_of faults entries) ≡ false → Rose first before) → first ≤ before → before ≤ now
+      → (0 < faults end → Rose before now) → all ≡ true → has_count (each_of faults rest) ≡ false → Rose first now
+  rose-next all first before now so earlier later rises some none = by_count (faults end) refl
+    where
+      by_count : (count : ℕ) → count ≡ faults end → Rose first now
+      by_count zero same =
+          rose-later first before now (so some (counted ∙ ap (λ it. it || nat_lt 0 (faults end)) none ∙ ap (nat_lt 0) (sym same))) later
+      by_count (suc count) same = rose-earlier first before now earlier (rises (omega (arith, same)))
+
+-- the texts of the files among inputs, from the first on
+abbrev pub texts_of_files : Files → List In → List (Option (List ℕ))
+texts_of_files files ins = map (λ path. Some (bytes_at files path)) (filter_map file_in ins)
+
+texts-more : (files : Files) (first : In) (rest : List In)
+    → map (λ path. Some (bytes_at files path)) (filter_map file_in (first ∷ rest))
+    ≡ map (λ path. Some (bytes_at files path)) (filter_map file_in (first ∷ [])) ++ map (λ path. Some (bytes_at files path)) (filter_map file_in rest)
+texts-more files inlet.Stream rest = refl
+texts-more files (inlet.File path closed) rest = refl
+texts-more files inlet.Empty rest = refl
+
+files-more : (first : In) (rest : List In) → length (filter_map file_in (first ∷ rest)) ≡ length (filter_map file_in (first ∷ [])) + length (filter_map file_in rest)
+files-more inlet.Stream rest = omega arith
+files-more (inlet.File path closed) rest = omega arith
+files-more inlet.Empty rest = omega arith
+
+-- the first of the inputs that are left, and the rest
+module _ (ins : List In) (place : ℕ) (one : In) (here : one ≡ get_or ins place one) (below : place < length ins) where
+  cut : drop place ins ≡ one ∷ drop (place + 1) ins
+  cut = drop_more ins place one below ∙ ap (λ (it : In). it ∷ drop (place + 1) ins) (sym here)
+
+  pub there-now : (held : Option Files) → IfSome held (λ files. AreThere files (drop place ins)) → IfSome held (λ files. IsThere files one)
+  there-now None there = tt
+  there-now (Some files) there = (subst (AreThere files) cut there).0
+
+  pub there-next : (held : Option Files) → IfSome held (λ files. AreThere files (drop place ins)) → IfSome held (λ files. AreThere files (drop (place + 1) ins))
+  there-next None there = tt
+  there-next (Some files) there = (subst (AreThere files) cut there).1
+
+  pub texts-next : (files : Files) (first before after : List (Option (List ℕ))) → first ++ texts_of_files files ins ≡ before ++ texts_of_files files (drop place ins)
+      → after ≡ before ++ texts_of_files files (one ∷ []) → first ++ texts_of_files files ins ≡ after ++ texts_of_files files (drop (place + 1) ins)
+  texts-next files first before after so is =
+      so ∙ ap (λ (it : List In). before ++ texts_of_files files it) cut
+      ∙ ap (λ (it : List (Option (List ℕ))). before ++ it) (texts-more files one (drop (place + 1) ins))
+      ∙ sym (append_assoc before (texts_of_files files (one ∷ [])) (texts_of_files files (drop (place + 1) ins)))
+      ∙ ap (λ (it : List (Option (List ℕ))). it ++ texts_of_files files (drop (place + 1) ins)) (sym is)
+
+  pub count-next : (first before after : ℕ) → first + length (filter_map file_in ins) ≡ before + length (filter_map file_in (drop place ins))
+      → after ≡ before + length (filter_map file_in (one ∷ [])) → first + length (filter_map file_in ins) ≡ after + length (filter_map file_in (drop (place + 1) ins))
+  count-next first before after so is =
+      let left = ap (λ (it : List In). length (filter_map file_in it)) cut ∙ files-more one (drop (place + 1) ins) in
+      omega (arith, so, is, left)
+
+-- none is out yet
+pub out-none : {End : Type 0} (entries : List (ℕ × End)) → entries ≡ [] → (state : TreeState) → AreOut (length entries) state state
+out-none entries is state = subst (λ (it : List (ℕ × _)). AreOut (length it) state state) (sym is) (balanced-none state)
+
+pub ruleset reader_steps = (each-more, count-opened, out-opened, fresh-opened, out-returned)

@@ -1,0 +1,3 @@
+-- Words that the functions of this crate need for themselves.
+pub mod Stages
+pub mod Overs

@@ -1,0 +1,49 @@
+-- A graph that is run over the readers of a utility's files.
+use Rattle.std.specs.Prelude.{◌≡◌, ℕ, List, false, length, map, Option, Some}
+use Rattle.std.specs.List.{filter_map}
+use Rattle.ps_world.specs.Files.{Files, bytes_at}
+use Rattle.ps_world.specs.TreeState.{AreOut, TreeState}
+use Rattle.ps_world.specs.declared.error.WorldErr.{WorldErr}
+use Rattle.ps_world.specs.declared.error.WorldErr.TheVariants as error
+use Rattle.fl_graph.specs.declared.graphs.Graph.{Graph}
+use Rattle.fl_core.specs.OwnEnds.{RunsOwn, each_of}
+use Rattle.fl_core.specs.declared.end_lists.Ends.{Ends}
+use Rattle.fl_core.specs.declared.own_ends.Came.{Came}
+use Rattle.fl_core.specs.declared.own_ends.Came.TheVariants as came
+use Rattle.fl_segments.specs.Stages.{file_in}
+use Rattle.fl_commands.specs.Operands.{ins_of}
+use Rattle.fl_commands.specs.Readers.{has_count}
+use Rattle.fl_commands.specs.declared.operands.Operand.{Operand}
+use Rattle.fl_commands.specs.declared.runs.Ended.{Ended}
+use Rattle.fl_commands.specs.declared.runs.Ended.TheVariants as ended
+
+-- how a run of a utility came out, by how that of its graph did
+abbrev pub ended_by : Came → Ended
+ended_by (came.Done status) = ended.Done status
+ended_by came.Input = ended.Input
+ended_by came.Output = ended.Output
+ended_by came.Reader = ended.Tree
+ended_by came.Writer = ended.Memory
+ended_by came.Memory = ended.Memory
+
+abbrev pub ended_of : WorldErr → Ended
+ended_of error.Failed = ended.Tree
+ended_of error.Memory = ended.Memory
+
+-- these readers of the files that operands name are out, and have failed never
+pub record Opens {R : Type 0} (of_reader : R → Option (List ℕ)) (reader_faults : R → ℕ) (operands : List Operand) (tree tree' : TreeState) (readers : List (ℕ × R)) : Type 0 where
+  pub texts : (files : Files) → tree.held ≡ Some files → each_of of_reader readers ≡ map (λ path. Some (bytes_at files path)) (filter_map file_in (ins_of operands))
+  pub count : length readers ≡ length (filter_map file_in (ins_of operands))
+  pub fresh : has_count (each_of reader_faults readers) ≡ false
+  pub out : AreOut (length readers) tree tree'
+
+-- the graph ran over them, under some numbers
+pub record RunsOver {R W I O : Type 0} (of_reader : R → Option (List ℕ)) (of_input : I → Option (List ℕ)) (of_writer : W → Option (List ℕ)) (of_output : O → Option (List ℕ))
+    (reader_faults : R → ℕ) (writer_faults : W → ℕ) (input_faults : I → ℕ) (output_faults : O → ℕ)
+    (graph : Graph) (readers : List (ℕ × R)) (input : I) (out : O) (used used' : Option (List (List (List ℕ)))) (came : Came) (back : Ends R W I O) : Type 0 where
+  pub numbered : Ends R W I O
+  pub readers_are : map (λ entry. entry.1) numbered.readers.items ≡ map (λ entry. entry.1) readers
+  pub writers_are : length numbered.writers.items ≡ 0
+  pub input_is : numbered.input ≡ input
+  pub out_is : numbered.out ≡ out
+  pub runs : RunsOwn of_reader of_input of_writer of_output reader_faults writer_faults input_faults output_faults graph numbered used used' came back

@@ -1,0 +1,82 @@
+-- The one stage of a utility, and its graph.
+use Rattle.std.specs.Prelude.{◌≡◌, ℕ, List, [], ◌∷◌, ◌++◌, Bool, true, ◌&&◌, ◌||◌, ◌==◌, ◌-◌, length, map, take, if◌then◌else◌}
+use Rattle.std.specs.List.{filter_map, list_any}
+use Rattle.ps_world.specs.Paths.{Components}
+use Rattle.ut_args.specs.Inputs.{emptied, operands_of, remaining, with_operands}
+use Rattle.ut_args.specs.Invocations.{command_of, words_of}
+use Rattle.ut_args.specs.declared.commands.Command.{Command}
+use Rattle.ut_args.specs.declared.commands.Command.TheVariants as command
+use Rattle.ut_args.specs.declared.invocations.Inv.{Inv}
+use Rattle.ut_streams.specs.Utilities.{Input}
+use Rattle.fl_graph.specs.Kinds.{is_input, is_output}
+use Rattle.fl_graph.specs.Paths.{paths_read, paths_written}
+use Rattle.fl_graph.specs.Valid.{Valid}
+use Rattle.fl_graph.specs.declared.graphs.Graph.{Graph}
+use Rattle.fl_classes.specs.Flow.{Outcome, outcome}
+use Rattle.fl_classes.specs.Kinds.{are_run}
+use Rattle.fl_classes.specs.Sources.{source_texts}
+use Rattle.fl_classes.specs.Used.{is_cat, words_used}
+use Rattle.fl_classes.specs.Utilities.{labelled}
+use Rattle.fl_segments.specs.Chains.{begins_with, text_in}
+use Rattle.fl_segments.specs.Stages.{file_in, is_shell_input, is_stream}
+use Rattle.fl_segments.specs.declared.stages.Does.TheVariants as does
+use Rattle.fl_segments.specs.declared.stages.First.{First}
+use Rattle.fl_segments.specs.declared.stages.Out.TheVariants as out
+use Rattle.fl_segments.specs.declared.stages.Stage.{Stage}
+use Rattle.fl_commands.specs.Inputs.{output_for, selects_for, status_of}
+use Rattle.fl_commands.specs.Operands.{ins_of, lacks}
+use Rattle.fl_commands.specs.declared.operands.Operand.{Operand}
+
+-- an operand has no input
+abbrev pub some_lacks : List Operand → Bool
+some_lacks operands = list_any lacks operands
+
+-- the status where no line that grep selects changes it
+abbrev pub plain_status : Command → Bool → ℕ
+plain_status (command.Grep args) some = if some then 2 else 0
+plain_status (command.Sort args) some = if some then 2 else 0
+plain_status other some = if some then 1 else 0
+
+-- the inputs of a command with these operands, where the standard input and the files have these texts
+abbrev pub inputs_with : List (List ℕ) → List Operand → List ℕ → (Components → List ℕ) → List Input
+inputs_with texts operands stream files = labelled (remaining (map lacks operands) texts) (map (text_in stream files) (ins_of operands))
+
+-- what it leaves
+abbrev pub left_by : Command → List Input → Bool → Outcome
+left_by asked inputs some = record { output = output_for asked inputs; files = []; status = status_of asked some (selects_for asked inputs) }
+
+-- the words that are noted of it: with the empty text in place of operands without an input, and none of cat, nor where there is no input
+abbrev pub words_left : List (List ℕ) → List (List ℕ) → List Operand → List (List ℕ)
+words_left words texts operands = take (length words - length texts) words ++ emptied (map lacks operands) texts
+
+abbrev pub words_noted : Inv → List Operand → List (List (List ℕ))
+words_noted inv operands = if is_cat inv || (length (ins_of operands) == 0) then [] else words_left (words_of inv) (operands_of inv) operands ∷ []
+
+-- the stage of an invocation with these operands
+pub record IsStageOf (inv : Inv) (operands : List Operand) (stage : Stage) : Type 0 where
+  pub without : Inv
+  pub asks : command_of without ≡ with_operands (emptied (map lacks operands) (operands_of inv)) (command_of inv)
+  pub words : words_of without ≡ words_left (words_of inv) (operands_of inv) operands
+  pub is : stage ≡ record {
+    does = does.Util without;
+    ins = ins_of operands;
+    out = out.Next;
+    first = [];
+    piped = [];
+    status = plain_status (command_of inv) (some_lacks operands);
+    reads = [];
+    writes = [];
+    tees = [];
+  }
+
+-- its graph, where the segment begins so
+pub record IsGraphOf (inv : Inv) (operands : List Operand) (from : First) (graph : Graph) : Type 0 where
+  pub valid : Valid graph.nodes graph.status
+  pub kinds : are_run graph.nodes ≡ true
+  pub reads : paths_read graph.nodes ≡ filter_map file_in (ins_of operands)
+  pub writes : paths_written graph.nodes ≡ []
+  pub input : list_any (λ cell. is_input cell.kind) graph.nodes ≡ (is_shell_input from && list_any is_stream (ins_of operands))
+  pub output : list_any (λ cell. is_output cell.kind) graph.nodes ≡ true
+  pub outcome_is : (input : List ℕ) (files : Components → List ℕ) → outcome graph (source_texts graph.nodes input files)
+      ≡ left_by (command_of inv) (inputs_with (operands_of inv) operands (begins_with from input) files) (some_lacks operands)
+  pub used : words_used graph.nodes ≡ words_noted inv operands

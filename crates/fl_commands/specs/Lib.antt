@@ -1,0 +1,5 @@
+pub mod Operands
+pub mod Readers
+pub mod Inputs
+pub mod Runs
+pub mod Inner

@@ -1,0 +1,81 @@
+-- What comes of a utility that is run over its inputs (own).
+use Rattle.std.specs.Prelude.{◌≡◌, ◌≤◌, ℕ, List, [], ◌++◌, ◌&&◌, Bool, Option, Some, if◌then◌else◌}
+use Rattle.std.specs.List.{list_any}
+use Rattle.std.specs.Option.{option_map}
+use Rattle.ps_world.specs.Counts.{Rose}
+use Rattle.ps_world.specs.Files.{Files, bytes_at}
+use Rattle.ps_world.specs.Told.{then_bytes, GrewByPrefix}
+use Rattle.ps_world.specs.TreeState.{Balanced, TreeState}
+use Rattle.ut_args.specs.Inputs.{operands_of}
+use Rattle.ut_args.specs.Invocations.{command_of}
+use Rattle.ut_args.specs.declared.invocations.Inv.{Inv}
+use Rattle.ut_streams.specs.Utilities.{Input}
+use Rattle.fl_segments.specs.Chains.{begins_with}
+use Rattle.fl_segments.specs.Stages.{is_shell_input, is_stream}
+use Rattle.fl_segments.specs.declared.stages.First.{First}
+use Rattle.fl_commands.specs.Inner.Stages.{inputs_with, some_lacks, words_noted}
+use Rattle.fl_commands.specs.Inputs.{output_for, selects_for, status_of}
+use Rattle.fl_commands.specs.Operands.{ins_of}
+use Rattle.fl_commands.specs.declared.operands.Operand.{Operand}
+use Rattle.fl_commands.specs.declared.runs.Ended.{Ended}
+use Rattle.fl_commands.specs.declared.runs.Ended.TheVariants as ended
+
+-- the counts of faults of the input, the output and the tree
+pub record Counts : Type 0 where
+  pub input : ℕ
+  pub output : ℕ
+  pub tree : ℕ
+
+abbrev pub counts_of : ℕ → ℕ → ℕ → Counts
+counts_of input output tree = record { input = input; output = output; tree = tree }
+
+-- what holds where it has run to its end, of its status
+abbrev pub IfDone : Ended → (ℕ → Type 0) → Type 0
+IfDone (ended.Done status) holds = holds status
+IfDone ended.Input holds = Unit {0}
+IfDone ended.Output holds = Unit {0}
+IfDone ended.Tree holds = Unit {0}
+IfDone ended.Memory holds = Unit {0}
+
+-- a fault comes where the count of its object rose, and an end where none did
+abbrev pub HasCause : Ended → Counts → Counts → Type 0
+HasCause (ended.Done status) old new = new ≡ old
+HasCause ended.Input old new = Rose old.input new.input
+HasCause ended.Output old new = Rose old.output new.output
+HasCause ended.Tree old new = Rose old.tree new.tree
+HasCause ended.Memory old new = Unit {0}
+
+pub record NoFewer (old new : Counts) : Type 0 where
+  pub input : old.input ≤ new.input
+  pub output : old.output ≤ new.output
+  pub tree : old.tree ≤ new.tree
+
+-- the run's own input is read: the stream begins with it, and an operand or the lack of one names the stream
+abbrev pub reads_input : List Operand → First → Bool
+reads_input operands from = is_shell_input from && list_any is_stream (ins_of operands)
+
+-- what is left of the input then
+abbrev pub left_behind : Bool → Option (List ℕ) → Option (List ℕ)
+left_behind reads left = if reads then option_map (λ _. []) left else left
+
+-- the texts that an invocation reads, where the input has this text
+abbrev pub inputs_at : Inv → List Operand → First → List ℕ → Files → List Input
+inputs_at inv operands from input files = inputs_with (operands_of inv) operands (begins_with from input) (bytes_at files)
+
+-- an invocation with these operands ran
+pub record RunsCommand (inv : Inv) (operands : List Operand) (from : First) (tree tree' : TreeState) (left left' taken taken' : Option (List ℕ)) (old new : Counts)
+    (used used' : Option (List (List (List ℕ)))) (came : Ended) : Type 0 where
+  -- where it has come to its end, its output is written, its status is left, the input is read to its end, and its words are noted
+  pub output : (input : List ℕ) (files : Files) → tree.held ≡ Some files → left ≡ Some input
+      → IfDone came (λ status. taken' ≡ then_bytes taken (output_for (command_of inv) (inputs_at inv operands from input files)))
+  pub status : (input : List ℕ) (files : Files) → tree.held ≡ Some files → left ≡ Some input
+      → IfDone came (λ status. status ≡ status_of (command_of inv) (some_lacks operands) (selects_for (command_of inv) (inputs_at inv operands from input files)))
+  pub read : IfDone came (λ status. left' ≡ left_behind (reads_input operands from) left)
+  pub noted : IfDone came (λ status. used' ≡ option_map (λ used. used ++ words_noted inv operands) used)
+  -- whatever comes, a front of its output is written
+  pub part : (input : List ℕ) (files : Files) → tree.held ≡ Some files → left ≡ Some input
+      → GrewByPrefix taken taken' (output_for (command_of inv) (inputs_at inv operands from input files))
+  pub held : tree'.held ≡ tree.held
+  pub lent : Balanced tree tree'
+  pub later : NoFewer old new
+  pub cause : HasCause came old new

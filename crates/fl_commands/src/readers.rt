@@ -1,0 +1,166 @@
+//! The readers of the files among a utility's inputs.
+ghost use Rattle.std.specs.Prelude.{◌≡◌, ℕ, ◌+◌, ◌≤◌, ◌∷◌, ◌++◌, [], false, true, length, map, Some, IfErr, IfOk, IfSome, OnErr, OnOk};
+ghost use Rattle.std.specs.List.{filter_map};
+ghost use Rattle.ps_world.specs.Counts.{Counts, Rose};
+ghost use Rattle.ps_world.specs.Files.{Files, IsFileAt, bytes_at};
+ghost use Rattle.ps_world.specs.TreeState.{AreOut, Balanced, TreeState};
+ghost use Rattle.fl_core.specs.OwnEnds.{each_of};
+ghost use Rattle.fl_segments.specs.Stages.{file_in};
+ghost use Rattle.fl_commands.specs.Readers.{AreThere, IsThere, has_count};
+
+use fl_segments::In;
+use ps_world::{Path, Tree, WorldErr};
+use std::alloc::Global;
+
+/// Readers that a tree has lent, and the paths of their files, in the order of a utility's inputs.
+pub(crate) struct Opened<R> {
+    /// The readers. Each gets its number with the graph that it is read by.
+    pub(crate) readers: Vec<(u32, R)>,
+    pub(crate) paths: Vec<Path>,
+}
+
+impl<R> Opened<R> {
+    /// Puts a reader behind the others. It comes back where memory is refused.
+    fn add(&mut self, path: Path, reader: R) -> Result<(), R>
+        ensures ok { OnOk result (self.new.readers.items ≡ self.old.readers.items ++ (0, reader) ∷ []) }
+        ensures err { IfErr result (λ back. (back ≡ reader) × (self.new.readers.items ≡ self.old.readers.items)) }
+        ensures paths { length self.old.paths.items ≡ length self.old.readers.items → length self.new.paths.items ≡ length self.new.readers.items }
+    {
+        if self.paths.push(path).is_err() {
+            return Err(reader);
+        }
+        match self.readers.push((0, reader)) {
+            Ok(()) => Ok(()),
+            Err(refused) => {
+                let _ = self.paths.pop();
+                Err(refused.value.1)
+            }
+        }
+    }
+}
+
+/// Opens the files among inputs, in their order.
+///
+/// An error leaves none out. A fault is the tree's.
+pub(crate) fn open_files<T: Tree>(
+    alloc: Global,
+    ins: &[In],
+    tree: &mut T,
+) -> Result<Opened<T::Reader>, WorldErr>
+    requires there { IfSome (T.state tree.old).held (λ files. AreThere files ins.now) }
+    ensures texts { (files : Files) → (T.state tree.old).held ≡ Some files
+        → IfOk result (λ opened. each_of T.Reader.left opened.readers.items ≡ map (λ path. Some (bytes_at files path)) (filter_map file_in ins.now)) }
+    ensures count { IfOk result (λ opened. length opened.readers.items ≡ length (filter_map file_in ins.now)) }
+    ensures fresh { IfOk result (λ opened. has_count (each_of T.Reader.faults opened.readers.items) ≡ false) }
+    ensures out { IfOk result (λ opened. AreOut (length opened.readers.items) (T.state tree.old) (T.state tree.new)) }
+    ensures paths { IfOk result (λ opened. length opened.paths.items ≡ length opened.readers.items) }
+    ensures back { OnErr result (Balanced (T.state tree.old) (T.state tree.new)) }
+    ensures held { (T.state tree.new).held ≡ (T.state tree.old).held }
+    ensures cause { Counts (T.faults tree.old) (T.faults tree.new) result }
+{
+    let mut opened = Opened {
+        readers: Vec::new(alloc),
+        paths: Vec::new(alloc),
+    };
+    match open_each(ins, &mut opened, tree) {
+        Ok(()) => Ok(opened),
+        Err(error) => {
+            let Opened { readers, paths } = opened;
+            give_back(readers, paths, tree);
+            Err(error)
+        }
+    }
+}
+
+/// Opens the files among inputs, behind those that are open.
+fn open_each<T: Tree>(
+    ins: &[In],
+    opened: &mut Opened<T::Reader>,
+    tree: &mut T,
+) -> Result<(), WorldErr>
+    requires there { IfSome (T.state tree.old).held (λ files. AreThere files ins.now) }
+    ensures texts { (files : Files) → (T.state tree.old).held ≡ Some files
+        → OnOk result (each_of T.Reader.left opened.new.readers.items ≡ each_of T.Reader.left opened.old.readers.items ++ map (λ path. Some (bytes_at files path)) (filter_map file_in ins.now)) }
+    ensures count { OnOk result (length opened.new.readers.items ≡ length opened.old.readers.items + length (filter_map file_in ins.now)) }
+    ensures fresh { has_count (each_of T.Reader.faults opened.old.readers.items) ≡ false → has_count (each_of T.Reader.faults opened.new.readers.items) ≡ false }
+    ensures out { (first : TreeState) → AreOut (length opened.old.readers.items) first (T.state tree.old) → AreOut (length opened.new.readers.items) first (T.state tree.new) }
+    ensures paths { length opened.old.paths.items ≡ length opened.old.readers.items → length opened.new.paths.items ≡ length opened.new.readers.items }
+    ensures held { (T.state tree.new).held ≡ (T.state tree.old).held }
+    ensures cause { Counts (T.faults tree.old) (T.faults tree.new) result }
+{
+    for input in ins {
+        open_input(input, opened, tree)?;
+    }
+    Ok(())
+}
+
+/// Opens the file of an input, if it has one, behind those that are open.
+#[tactic(auto, using(crate::proofs::ReaderLemmas::reader_steps))]
+fn open_input<T: Tree>(
+    input: &In,
+    opened: &mut Opened<T::Reader>,
+    tree: &mut T,
+) -> Result<(), WorldErr>
+    requires there { IfSome (T.state tree.old).held (λ files. IsThere files input.now) }
+    ensures texts { (files : Files) → (T.state tree.old).held ≡ Some files
+        → OnOk result (each_of T.Reader.left opened.new.readers.items ≡ each_of T.Reader.left opened.old.readers.items ++ map (λ path. Some (bytes_at files path)) (filter_map file_in (input.now ∷ []))) }
+    ensures count { OnOk result (length opened.new.readers.items ≡ length opened.old.readers.items + length (filter_map file_in (input.now ∷ []))) }
+    ensures fresh { has_count (each_of T.Reader.faults opened.old.readers.items) ≡ false → has_count (each_of T.Reader.faults opened.new.readers.items) ≡ false }
+    ensures out { (first : TreeState) → AreOut (length opened.old.readers.items) first (T.state tree.old) → AreOut (length opened.new.readers.items) first (T.state tree.new) }
+    ensures paths { length opened.old.paths.items ≡ length opened.old.readers.items → length opened.new.paths.items ≡ length opened.new.readers.items }
+    ensures held { (T.state tree.new).held ≡ (T.state tree.old).held }
+    ensures cause { Counts (T.faults tree.old) (T.faults tree.new) result }
+{
+    match input {
+        In::File(path, _) => open_file(path, opened, tree),
+        In::Stream | In::Empty => Ok(()),
+    }
+}
+
+/// Opens a file, behind those that are open.
+#[tactic(auto, using(crate::proofs::ReaderLemmas::reader_steps))]
+fn open_file<T: Tree>(
+    path: &Path,
+    opened: &mut Opened<T::Reader>,
+    tree: &mut T,
+) -> Result<(), WorldErr>
+    requires there { IfSome (T.state tree.old).held (λ files. IsFileAt files path.now) }
+    ensures texts { (files : Files) → (T.state tree.old).held ≡ Some files
+        → OnOk result (each_of T.Reader.left opened.new.readers.items ≡ each_of T.Reader.left opened.old.readers.items ++ Some (bytes_at files path.now) ∷ []) }
+    ensures count { OnOk result (length opened.new.readers.items ≡ length opened.old.readers.items + 1) }
+    ensures fresh { has_count (each_of T.Reader.faults opened.old.readers.items) ≡ false → has_count (each_of T.Reader.faults opened.new.readers.items) ≡ false }
+    ensures out { (first : TreeState) → AreOut (length opened.old.readers.items) first (T.state tree.old) → AreOut (length opened.new.readers.items) first (T.state tree.new) }
+    ensures paths { length opened.old.paths.items ≡ length opened.old.readers.items → length opened.new.paths.items ≡ length opened.new.readers.items }
+    ensures held { (T.state tree.new).held ≡ (T.state tree.old).held }
+    ensures cause { Counts (T.faults tree.old) (T.faults tree.new) result }
+{
+    let copy = path.copy()?;
+    let reader = tree.open(path)?;
+    match opened.add(copy, reader) {
+        Ok(()) => Ok(()),
+        Err(reader) => {
+            tree.end_read(path, reader);
+            Err(WorldErr::Memory)
+        }
+    }
+}
+
+/// Gives readers back. The tree's count rises exactly where that of one of them is above 0.
+pub(crate) fn give_back<T: Tree>(readers: Vec<(u32, T::Reader)>, paths: Vec<Path>, tree: &mut T)
+    requires paths { length paths.items ≡ length readers.items }
+    ensures out { (first : TreeState) → AreOut (length readers.items) first (T.state tree.old) → Balanced first (T.state tree.new) }
+    ensures held { (T.state tree.new).held ≡ (T.state tree.old).held }
+    ensures later { T.faults tree.old ≤ T.faults tree.new }
+    ensures calm { has_count (each_of T.Reader.faults readers.items) ≡ false → T.faults tree.new ≡ T.faults tree.old }
+    ensures cause { has_count (each_of T.Reader.faults readers.items) ≡ true → Rose (T.faults tree.old) (T.faults tree.new) }
+{
+    let mut readers = readers;
+    let mut paths = paths;
+    while let Some((_number, reader)) = readers.pop() {
+        match paths.pop() {
+            Some(path) => tree.end_read(&path, reader),
+            None => unreachable!(),
+        }
+    }
+    readers.destroy_empty();
+}

@@ -1,0 +1,183 @@
+//! Runs of a utility over what its operands name.
+ghost use Rattle.std.specs.Prelude.{◌≡◌, ◌+◌, ◌<◌, ◌^◌, [], length, true, IfOk, IfSome, OnErr};
+ghost use Rattle.ps_world.specs.Counts.{Counts};
+ghost use Rattle.ps_world.specs.Files.{NoWriterOut};
+ghost use Rattle.ps_world.specs.TreeState.{Balanced};
+ghost use Rattle.ut_args.specs.Built.{is_built_of};
+ghost use Rattle.ut_args.specs.Inputs.{operands_of};
+ghost use Rattle.fl_graph.specs.Paths.{paths_read, paths_written};
+ghost use Rattle.fl_graph.specs.Valid.{Valid};
+ghost use Rattle.fl_classes.specs.Kinds.{are_run};
+ghost use Rattle.fl_commands.specs.Inner.Overs.{Opens, RunsOver, ended_by, ended_of};
+ghost use Rattle.fl_commands.specs.Operands.{AllStand, AreNamed};
+ghost use Rattle.fl_commands.specs.Runs.{RunsCommand, counts_of};
+
+use crate::operands::{Operand, ins_of};
+use crate::readers::{Opened, give_back, open_files};
+use crate::stages::graph_of;
+use fl_core::{Came, Ends, Engine, Over, number_ends, run_own};
+use fl_graph::Graph;
+use fl_segments::First;
+use ps_world::{Gate, Sink, Source, Tree, WorldErr};
+use std::alloc::Global;
+use ut_args::Inv;
+
+/// How a run of a utility came out.
+#[derive(Clone, Copy, Debug, PartialEq, Eq)]
+pub enum Ended {
+    /// It has run to its end, with this exit status.
+    Done(u8),
+    /// Standard input failed.
+    Input,
+    /// The output failed.
+    Output,
+    /// The tree failed.
+    Tree,
+    /// Memory was refused.
+    Memory,
+}
+
+/// How a run of a utility came out, with the input and output that it was handed.
+pub struct Commanded<I, O> {
+    pub ended: Ended,
+    pub input: I,
+    pub out: O,
+}
+
+/// Runs a utility over what its operands name, as a graph on the engine, and writes its output.
+///
+/// `operands` are what the words of its operands name (`look_at`); none of an operand that has no input is read. The stream that `-` names,
+/// and the lack of an operand, begins so; where that is the input, it is read to its end. Done leaves the utility's output behind
+/// what the output has taken, and its words behind those that the engine has noted; after any other answer a front of the output is
+/// written. Each reader that the tree lent has gone back to it. A fault is told only where the count of its object rose.
+///
+/// What some utilities do where an operand has no input, nothing at all, is the caller's: it doesn't run them then.
+pub fn run_command<T: Tree, I: Source + Send, O: Sink + Send, G: Gate, X: Engine>(
+    alloc: Global,
+    inv: &Inv,
+    operands: &[Operand],
+    from: &First,
+    tree: &mut T,
+    input: I,
+    out: O,
+    gate: &G,
+    engine: &mut X,
+) -> Commanded<I, O>
+    requires built { is_built_of inv.now ≡ true }
+    requires named { AreNamed (operands_of inv.now) operands.now }
+    requires few { length operands.now + 1 < 2 ^ 32 }
+    requires stand { IfSome (T.state tree.old).held (λ files. AllStand files operands.now) }
+    requires whole { IfSome (T.state tree.old).held NoWriterOut }
+    ensures { RunsCommand inv.now operands.now from.now (T.state tree.old) (T.state tree.new) (I.left input) (I.left result.input) (O.taken out) (O.taken result.out)
+        (counts_of (I.faults input) (O.faults out) (T.faults tree.old)) (counts_of (I.faults result.input) (O.faults result.out) (T.faults tree.new))
+        (X.used engine.old) (X.used engine.new) result.ended }
+{
+    let Ok(graph) = graph_of(alloc, inv, operands, from) else {
+        return Commanded {
+            ended: Ended::Memory,
+            input,
+            out,
+        };
+    };
+    let opened = match open_operands(alloc, operands, tree) {
+        Ok(opened) => opened,
+        Err(error) => {
+            return Commanded {
+                ended: of_tree(error),
+                input,
+                out,
+            };
+        }
+    };
+    let Opened { readers, paths } = opened;
+    let Over { came, ends } = run_over::<T, I, O, G, X>(
+        alloc, &graph, readers, input, out, gate, engine,
+    );
+    let Ends {
+        readers,
+        writers,
+        input,
+        out,
+    } = ends;
+    writers.destroy_empty();
+    give_back(readers, paths, tree);
+    Commanded {
+        ended: how_ended(came),
+        input,
+        out,
+    }
+}
+
+/// How a run of a utility came out, by how that of its graph did. It has no writers.
+fn how_ended(came: Came) -> Ended
+    ensures { result ≡ ended_by came }
+{
+    match came {
+        Came::Done(status) => Ended::Done(status),
+        Came::Input => Ended::Input,
+        Came::Output => Ended::Output,
+        Came::Reader => Ended::Tree,
+        Came::Writer | Came::Memory => Ended::Memory,
+    }
+}
+
+/// How it came out where a file can't be opened.
+fn of_tree(error: WorldErr) -> Ended
+    ensures { result ≡ ended_of error }
+{
+    match error {
+        WorldErr::Failed => Ended::Tree,
+        WorldErr::Memory => Ended::Memory,
+    }
+}
+
+/// Opens the files that operands name, in their order. An error leaves none out.
+#[tactic(auto, using(crate::proofs::InputLemmas::input_steps))]
+fn open_operands<T: Tree>(
+    alloc: Global,
+    operands: &[Operand],
+    tree: &mut T,
+) -> Result<Opened<T::Reader>, WorldErr>
+    requires stand { IfSome (T.state tree.old).held (λ files. AllStand files operands.now) }
+    requires whole { IfSome (T.state tree.old).held NoWriterOut }
+    ensures opens { IfOk result (λ opened. Opens T.Reader.left T.Reader.faults operands.now (T.state tree.old) (T.state tree.new) opened.readers.items) }
+    ensures paths { IfOk result (λ opened. length opened.paths.items ≡ length opened.readers.items) }
+    ensures back { OnErr result (Balanced (T.state tree.old) (T.state tree.new)) }
+    ensures held { (T.state tree.new).held ≡ (T.state tree.old).held }
+    ensures cause { Counts (T.faults tree.old) (T.faults tree.new) result }
+{
+    let ins = ins_of(alloc, operands)?;
+    open_files(alloc, ins.as_slice(), tree)
+}
+
+/// Runs a graph that writes no file over these readers, the input and the output.
+fn run_over<T: Tree, I: Source + Send, O: Sink + Send, G: Gate, X: Engine>(
+    alloc: Global,
+    graph: &Graph,
+    readers: Vec<(u32, T::Reader)>,
+    input: I,
+    out: O,
+    gate: &G,
+    engine: &mut X,
+) -> Over<T::Reader, T::Writer, I, O>
+    requires valid { Valid graph.now.nodes graph.now.status }
+    requires kinds { are_run graph.now.nodes ≡ true }
+    requires reads { length readers.items ≡ length (paths_read graph.now.nodes) }
+    requires writes { paths_written graph.now.nodes ≡ [] }
+    ensures { RunsOver T.Reader.left I.left T.Writer.taken O.taken T.Reader.faults T.Writer.faults I.faults O.faults graph.now readers.items input out (X.used engine.old) (X.used engine.new) result.came result.ends }
+{
+    let mut ends = Ends {
+        readers,
+        writers: Vec::new(alloc),
+        input,
+        out,
+    };
+    match number_ends(graph, &mut ends) {
+        Ok(true) => run_own(alloc, engine, graph, ends, gate),
+        Ok(false) => unreachable!(),
+        Err(_refused) => Over {
+            came: Came::Memory,
+            ends,
+        },
+    }
+}

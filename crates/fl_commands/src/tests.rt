@@ -1,0 +1,174 @@
+//! Commands over a tree in memory: what each writes, the status that it leaves, what it leaves of the input, and what is noted of it.
+//!
+//! What is written and the status are those of GNU coreutils and grep under `LC_ALL=C`.
+use crate::look_at;
+use crate::runs::{Commanded, Ended, run_command};
+use fl_core::InTurn;
+use fl_segments::First;
+use ps_fakes::{MemSink, MemSource, MemTree, OpenGate};
+use ps_lines::{Memory, Text};
+use ps_world::{Source, WorldErr};
+use std::alloc::{AllocError, Global};
+use std::process::Abort;
+use std::sync::Wait;
+use std::test::Fail;
+use std::thread::Threads;
+use ut_args::{Inv, is_built, read_inv};
+use ut_options::Texts;
+
+/// What came of a command.
+#[derive(Drop)]
+struct Ran {
+    ended: Ended,
+    output: Vec<u8>,
+    /// The bytes of the input that it has left.
+    left: Vec<u8>,
+    /// The words that the engine has noted, each behind a bar.
+    noted: Vec<u8>,
+}
+
+/// The invocation of words, each behind a bar, if it is one.
+fn invocation(alloc: Global, text: &str) -> Result<Option<Inv>, Memory> {
+    let mut words = Vec::new(alloc);
+    for word in text.as_bytes().split(|byte| *byte == b'|').skip(1) {
+        words.push(Vec::from_slice(alloc, word)?)?;
+    }
+    if words.is_empty() {
+        return Ok(None);
+    }
+    Ok(read_inv(alloc, words.as_slice()).ok())
+}
+
+/// The words that an engine has noted, each behind a bar.
+fn noted_words(alloc: Global, used: &[Texts]) -> Result<Vec<u8>, AllocError> {
+    let mut noted = Vec::new(alloc);
+    for words in used {
+        for word in words.as_slice() {
+            noted.push(b'|')?;
+            noted.extend_from_slice(word.as_slice())?;
+        }
+    }
+    Ok(noted)
+}
+
+/// The bytes that are left of a short input.
+fn left_of(alloc: Global, input: &mut MemSource) -> Result<Vec<u8>, WorldErr> {
+    let mut buffer = [0; 16];
+    let count = input.read(&mut buffer)?;
+    Ok(Vec::from_slice(alloc, &buffer[..count])?)
+}
+
+/// Runs an invocation over an input of two lines, in a tree where `f` and `g` are files, `d` a directory, and `no` missing.
+fn run<H: Threads + Wait + Sync>(
+    _rt: &H,
+    alloc: Global,
+    inv: &Inv,
+    from: &First,
+) -> Result<Option<Ran>, WorldErr> {
+    let Some(mut tree) = MemTree::of_table(
+        alloc,
+        b"/w",
+        &[
+            (b"/w/f", Some(b"a\nb\n")),
+            (b"/w/g", Some(b"b\nc")),
+            (b"/w/d", None),
+        ],
+        Vec::new(alloc),
+    )?
+    else {
+        return Ok(None);
+    };
+    let operands = look_at(alloc, inv.operands(), &mut tree)?;
+    if operands.len() > 8 || !is_built(inv) {
+        return Ok(None);
+    }
+    let input = Vec::from_slice(alloc, b"in\nb\n")?;
+    let mut engine = InTurn::<H>::new(alloc);
+    let Commanded {
+        ended,
+        mut input,
+        out,
+    } = run_command(
+        alloc,
+        inv,
+        operands.as_slice(),
+        from,
+        &mut tree,
+        MemSource::new(input, Vec::new(alloc)),
+        MemSink::new(alloc, Vec::new(alloc)),
+        &OpenGate,
+        &mut engine,
+    );
+    Ok(Some(Ran {
+        ended,
+        output: Vec::from_slice(alloc, out.taken())?,
+        left: left_of(alloc, &mut input)?,
+        noted: noted_words(alloc, engine.used())?,
+    }))
+}
+
+/// Whether a command came to its end so.
+fn is_as(ran: &Ran, output: &str, status: u8, left: &str, noted: &str) -> bool {
+    ran.ended == Ended::Done(status)
+        && ran.output.as_slice() == output.as_bytes()
+        && ran.left.as_slice() == left.as_bytes()
+        && ran.noted.as_slice() == noted.as_bytes()
+}
+
+/// A command over the input writes this, leaves this status and this of the input, and these words are noted of it.
+fn expect(
+    rt: &(impl Abort + Threads + Wait + Sync),
+    alloc: Global,
+    words: &str,
+    output: &str,
+    status: u8,
+    left: &str,
+    noted: &str,
+) -> Result<(), Fail> {
+    let inv = invocation(alloc, words)?.expect(rt, words);
+    let ran = run(rt, alloc, &inv, &First::Input)?.expect(rt, words);
+    let is_right = is_as(&ran, output, status, left, noted);
+    assert!(rt;
+        is_right,
+        "{words}: {:?}, wrote {:?}, left {:?}, noted {:?}",
+        ran.ended, ran.output, ran.left, ran.noted
+    );
+    Ok(())
+}
+
+/// The words of a command, each behind a bar, what it writes, the status that it leaves, what it leaves of the input, and the words
+/// that are noted of it.
+static COMMANDS: [(&str, &str, u8, &str, &str); 12] = [
+    ("|cat|f|-|g", "a\nb\nin\nb\nb\nc", 0, "", ""),
+    ("|cat|f|no|g", "a\nb\nb\nc", 1, "in\nb\n", ""),
+    ("|cat|-|f|-", "in\nb\na\nb\n", 0, "", ""),
+    ("|cat", "in\nb\n", 0, "", ""),
+    ("|cat|d|/dev/null", "", 1, "in\nb\n", ""),
+    ("|cut|-c|1|f|no|-", "a\nb\ni\nb\n", 1, "", "|cut|-c|1|f||-"),
+    ("|sort|f|g", "a\nb\nb\nc\n", 0, "in\nb\n", "|sort|f|g"),
+    ("|grep|-F|b|f", "b\n", 0, "in\nb\n", "|grep|-F|b|f"),
+    ("|grep|-F|x|f", "", 1, "in\nb\n", "|grep|-F|x|f"),
+    ("|grep|-F|b|no", "", 2, "in\nb\n", ""),
+    ("|tail|-n|+2|f", "b\n", 0, "in\nb\n", "|tail|-n|+2|f"),
+    ("|wc|-l", "2\n", 0, "", "|wc|-l"),
+];
+
+#[test]
+fn commands_run_over_what_their_operands_name(rt: HostRuntime) -> Result<(), Fail> {
+    for &(words, output, status, left, noted) in COMMANDS.iter() {
+        expect(&rt, rt.alloc(), words, output, status, left, noted)?;
+    }
+    Ok(())
+}
+
+#[test]
+fn a_text_is_read_in_place_of_the_input(rt: HostRuntime) -> Result<(), Fail> {
+    let alloc = rt.alloc();
+    let inv = invocation(alloc, "|cat|f|-")?.expect(&rt, "an invocation");
+    let from = First::Text(Text::copy_of(alloc, b"t\n")?);
+    let ran = run(&rt, alloc, &inv, &from)?.expect(&rt, "a run");
+    assert_eq!(rt; ran.ended, Ended::Done(0));
+    assert_eq!(rt; ran.output.as_slice(), b"a\nb\nt\n".as_slice());
+    assert_eq!(rt; ran.left.as_slice(), b"in\nb\n".as_slice());
+    Ok(())
+}

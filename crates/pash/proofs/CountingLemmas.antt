@@ -21,7 +21,7 @@ use Rattle.fl_graph.specs.declared.graphs.Cell.{Cell}
 use Rattle.fl_graph.specs.declared.graphs.Graph.{Graph}
 use Rattle.fl_graph.specs.declared.kinds.NodeKind.{NodeKind}
 use Rattle.fl_classes.specs.Flow.{flow, is_source, only}
-use Rattle.fl_core.specs.Kinds.{is_sink}
+use Rattle.fl_classes.specs.Kinds.{is_sink}
 use Rattle.fl_core.specs.Plans.{AreTold}
 use Rattle.pash.specs.CatForm.{is_plain_byte, is_plain_word}
 use Rattle.pash.specs.FirstGraph.{is_pattern, source_texts, cat_text}

@@ -13,7 +13,7 @@ use Rattle.fl_graph.specs.declared.kinds.NodeKind.{NodeKind}
 use Rattle.fl_graph.specs.declared.kinds.NodeKind.TheVariants as kind
 use Rattle.fl_graph.specs.declared.kinds.To.TheVariants as to
 use Rattle.fl_classes.specs.Flow.{Placed, placed, placed_from, is_source, only, flow, Write, ToOutput, writes_of, writes, to_output, Outcome, outcome}
-use Rattle.fl_core.specs.Kinds.{is_sink}
+use Rattle.fl_classes.specs.Kinds.{is_sink}
 use Rattle.fl_core.specs.Plans.{AreTold}
 use Rattle.fl_core.proofs.LawLemmas.{writes_of_the_flow}
 use Rattle.pash.specs.declared.first_graph.TheConstants.{CAT, WC}

@@ -19,7 +19,7 @@ use Rattle.fl_graph.specs.declared.kinds.NodeKind.{NodeKind}
 use Rattle.fl_graph.specs.declared.kinds.NodeKind.TheVariants as kind
 use Rattle.fl_graph.specs.declared.kinds.To.TheVariants as to
 use Rattle.fl_classes.specs.Flow.{outcome, writes, ToOutput}
-use Rattle.fl_core.specs.Kinds.{are_run}
+use Rattle.fl_classes.specs.Kinds.{are_run}
 use Rattle.pash.specs.Pipeline.{pipeline_output}
 use Rattle.pash.specs.FirstGraph.{is_pattern, source_kind, source_texts, cat_text, node, side_by_side, joining, whole_cells, first_cells, grep_words, wc_words, is_whole, is_map, is_aggregate, is_split, runs_its_stage, IsFirstSpread, is_inner, HasFirstEnds}
 use Rattle.pash.proofs.InvocationLemmas.{grep_read, wc_read, grep_inv, wc_inv, grep-is, wc-is, grep-built}

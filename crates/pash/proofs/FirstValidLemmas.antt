@@ -26,7 +26,7 @@ use Rattle.fl_graph.specs.declared.graphs.StatusRule.TheVariants as status
 use Rattle.fl_graph.proofs.ListLemmas.{count-append}
 use Rattle.fl_graph.proofs.NetLemmas.{run-append}
 use Rattle.fl_graph.proofs.EdgeLemmas.{leads_on-each}
-use Rattle.fl_core.specs.Kinds.{is_run, are_run}
+use Rattle.fl_classes.specs.Kinds.{is_run, are_run}
 use Rattle.pash.specs.FirstGraph.{is_pattern, source_kind, node, side_by_side, joining, whole_cells}
 use Rattle.pash.proofs.InvocationLemmas.{grep_args, grep_inv, wc_inv, grep-built}
 use Rattle.pash.proofs.FirstNetLemmas.{range-once, range-agree, IsNumbered, numbered-append, numbered-gives, numbered-order, takes-side, gives-side, side-numbered, side-values}

@@ -7,7 +7,7 @@ use Rattle.ps_world.specs.declared.Place.TheVariants as place
 use Rattle.fl_graph.specs.Valid.{Valid}
 use Rattle.fl_graph.specs.declared.graphs.Graph.{Graph}
 use Rattle.fl_classes.specs.Flow.{outcome}
-use Rattle.fl_core.specs.Kinds.{are_run}
+use Rattle.fl_classes.specs.Kinds.{are_run}
 use Rattle.pash.specs.FirstGraph.{HasFirstEnds, source_texts, cat_text}
 use Rattle.pash.specs.Pipeline.{pipeline_output}
 

@@ -7,7 +7,7 @@ ghost use Rattle.ps_world.specs.Places.{is_null_path};
 ghost use Rattle.ut_args.specs.Invocations.{words_of};
 ghost use Rattle.fl_graph.specs.Valid.{Valid};
 ghost use Rattle.fl_classes.specs.Flow.{outcome};
-ghost use Rattle.fl_core.specs.Kinds.{are_run};
+ghost use Rattle.fl_classes.specs.Kinds.{are_run};
 ghost use Rattle.pash.specs.Pipeline.{pipeline_output};
 ghost use Rattle.pash.specs.FirstGraph.{grep_words, wc_words, is_pattern, AreInvocation, source_kind, node, side_by_side, joining, whole_cells, spread_cells, first_cells, IsFirstSpread, HasFirstEnds, source_texts, cat_text};
 

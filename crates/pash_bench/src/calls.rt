@@ -34,6 +34,10 @@ pub enum Call {
     Grep,
     /// The stream of `wc -l`, over the pieces of a file.
     Wc,
+    /// The stream of an invocation of `tr`, `cut`, `head` or `tail` with one input, over the pieces of a file.
+    Stream,
+    /// The stream of `sort` with options, over the pieces of a file.
+    Sort,
 }
 
 impl Call {
@@ -54,6 +58,8 @@ impl Call {
             "parse" => Some(Call::Parse),
             "grep" => Some(Call::Grep),
             "wc" => Some(Call::Wc),
+            "stream" => Some(Call::Stream),
+            "sort" => Some(Call::Sort),
             _ => None,
         }
     }

@@ -1,6 +1,6 @@
 //! Times one call of a crate on one file: `pash_bench CALL FILE`, where CALL is `next_line`, `lines`, `read_all`, `lex`, `parse`,
 //! `arith`, `matches`, `expand`, `expand_many`, `cut_prefix`, `cut_suffix` or `wc`, or `pash_bench has FILE OPTIONS EXPRESSION`, or
-//! `pash_bench grep FILE WORD`.
+//! `pash_bench grep FILE WORD`, `pash_bench stream FILE UTILITY WORD..` or `pash_bench sort FILE OPTION..`.
 //!
 //! What the call finds, a count or a value, goes to the output, and the time of the call alone, in nanoseconds, to the error
 //! output: what a call takes is ready before the clock starts, and what it gives is dropped after the clock stopped.
@@ -10,6 +10,7 @@
 mod calls;
 mod clock;
 mod scripts;
+mod sorting;
 mod streams;
 mod words;
 
@@ -54,6 +55,20 @@ fn main(rt: HostRuntime) -> io::Result<()> {
             streams::time_grep(&rt, fs::open(&rt, path)?, word.as_str())?
         }
         Call::Wc => streams::time_wc(&rt, fs::open(&rt, path)?)?,
+        Call::Stream => {
+            let mut texts = Vec::new(rt.alloc());
+            for word in words {
+                texts.push(Vec::from_slice(rt.alloc(), word.as_bytes())?)?;
+            }
+            streams::time_utility(&rt, fs::open(&rt, path)?, texts.as_slice())?
+        }
+        Call::Sort => {
+            let mut options = Vec::new(rt.alloc());
+            for word in words {
+                options.push(word)?;
+            }
+            sorting::time_sort(&rt, fs::open(&rt, path)?, options.as_slice())?
+        }
         Call::ReadAll => clock::time_read_all(&rt, fs::open(&rt, path)?)?,
     };
     eprintln!(rt; "{}", timed.nanoseconds)?;

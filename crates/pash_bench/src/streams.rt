@@ -10,9 +10,11 @@ use std::io::{ErrorKind, Read};
 use std::rt::Clock;
 use std::time::Instant;
 use ut_args::{ArgFault, Inv, is_built, read_inv};
+use ut_bytes::Tr;
 use ut_grep::Grep;
 use ut_groups::Wc;
 use ut_regex::{Matcher, Regex, compile, read_bre, read_ere};
+use ut_slices::{Cut, Head, Tail};
 use ut_streams::{LineStream, Lines, Stream};
 
 /// The bytes that are read at a time.
@@ -123,6 +125,51 @@ pub fn time_wc<R: Read + Drop>(
     };
     match Wc::new(rt.alloc(), &inv) {
         Ok(mut wc) => time_stream(rt, &mut reader, &mut wc),
+        Err(Memory) => Err(io::Error::from(ErrorKind::OutOfMemory)),
+    }
+}
+
+/// The stream of the invocation of these words, which finds bytes of output.
+pub fn time_utility<R: Read + Drop>(
+    rt: &(impl AllocGlobal + Clock),
+    mut reader: R,
+    words: &[Vec<u8>],
+) -> io::Result<Timed> {
+    if words.is_empty() {
+        return Err(io::Error::from(ErrorKind::InvalidInput));
+    }
+    match read_inv(rt.alloc(), words) {
+        Ok(inv) => time_inv(rt, &mut reader, &inv),
+        Err(ArgFault::Memory) => Err(io::Error::from(ErrorKind::OutOfMemory)),
+        Err(_) => Err(io::Error::from(ErrorKind::InvalidInput)),
+    }
+}
+
+/// The stream of an invocation of a utility that has one here.
+fn time_inv<R: Read>(
+    rt: &(impl AllocGlobal + Clock),
+    reader: &mut R,
+    inv: &Inv,
+) -> io::Result<Timed> {
+    match inv {
+        Inv::Tr(inv) => time_made(rt, reader, Tr::new(rt.alloc(), inv)),
+        Inv::Cut(inv) => time_made(rt, reader, Cut::new(rt.alloc(), inv)),
+        Inv::Head(inv) => time_stream(rt, reader, &mut Head::of(inv.args.count)),
+        Inv::Tail(inv) => time_made(rt, reader, Tail::new(rt.alloc(), inv)),
+        _ => Err(io::Error::from(ErrorKind::InvalidInput)),
+    }
+}
+
+/// A stream, if memory was there to make it.
+fn time_made<R: Read, S: Stream>(
+    rt: &(impl AllocGlobal + Clock),
+    reader: &mut R,
+    made: Result<S, Memory>,
+) -> io::Result<Timed>
+    requires { IfOk made (λ stream. S.spent stream ≡ false) }
+{
+    match made {
+        Ok(mut stream) => time_stream(rt, reader, &mut stream),
         Err(Memory) => Err(io::Error::from(ErrorKind::OutOfMemory)),
     }
 }

@@ -31,7 +31,7 @@ use Rattle.sh_eval.specs.Asking.{Asked, no_name, unknown, unlisted, unusable, ut
 use Rattle.sh_eval.specs.Builtins.{out_of, leaves_loops, sets, shifts, misused, answers, tests, echoes, reads, set_all, line_in, behind_line}
 use Rattle.sh_eval.specs.Lines.{bad_usage}
 use Rattle.sh_eval.specs.Redirections.{named_by}
-use Rattle.sh_eval.specs.Contract.{Seen, Faults, Point, point_of, seen_of, faults_of, HasCause, IsGone, Meaning, Evaluates}
+use Rattle.sh_eval.specs.Contract.{Seen, Faults, Point, point_of, seen_of, drawn_of, faults_of, HasCause, IsGone, Meaning, Evaluates}
 use Rattle.sh_eval.specs.Ending.{InShell, how_behind, status_behind}
 use Rattle.sh_eval.proofs.Growing.{grows-self, grows-write, grows-leaving, adds-misused}
 use Rattle.sh_eval.proofs.WritingLemmas.{meant}
@@ -185,13 +185,13 @@ tree-wanted means shell session tree tree' seen input of_output of_errors of_tre
     (record { input = omega arith; output = omega arith; errors = omega arith; tree = later }) tt (subst (λ (it : TreeState). Balanced tree it) (sym same) (balanced-none tree))
 
 -- READ
-pub read-stopped : (names : List (List ℕ)) (shell shell' : Shell) (session session' : Session) (tree : TreeState) (left left' taken errors : Option (List ℕ)) (input input' of_output of_errors of_tree : ℕ) (came : How)
+pub read-stopped : (names : List (List ℕ)) (shell shell' : Shell) (session session' : Session) (tree : TreeState) (left left' taken errors : Option (List ℕ)) (used : Option (List (List (List ℕ)))) (input input' of_output of_errors of_tree : ℕ) (came : How)
     → (IsGone came → ⊥) → session.turns ≤ session'.turns → input ≤ input' → HasCause came (faults_of input of_output of_errors of_tree) (faults_of input' of_output of_errors of_tree)
-    → Evaluates (λ expansions. reads names) (point_of shell session tree (seen_of left taken errors) (faults_of input of_output of_errors of_tree)) came
-    (point_of shell' session' tree (seen_of left' taken errors) (faults_of input' of_output of_errors of_tree))
-read-stopped names shell shell' session session' tree left left' taken errors input input' of_output of_errors of_tree came off turns later cause =
-    blamed (λ expansions. reads names) (point_of shell session tree (seen_of left taken errors) (faults_of input of_output of_errors of_tree))
-    (point_of shell' session' tree (seen_of left' taken errors) (faults_of input' of_output of_errors of_tree)) came (λ expansions. adds-read names) off refl refl turns
+    → Evaluates (λ expansions. reads names) (point_of shell session tree (seen_of (drawn_of left used) taken errors) (faults_of input of_output of_errors of_tree)) came
+    (point_of shell' session' tree (seen_of (drawn_of left' used) taken errors) (faults_of input' of_output of_errors of_tree))
+read-stopped names shell shell' session session' tree left left' taken errors used input input' of_output of_errors of_tree came off turns later cause =
+    blamed (λ expansions. reads names) (point_of shell session tree (seen_of (drawn_of left used) taken errors) (faults_of input of_output of_errors of_tree))
+    (point_of shell' session' tree (seen_of (drawn_of left' used) taken errors) (faults_of input' of_output of_errors of_tree)) came (λ expansions. adds-read names) off refl refl turns
     (record { input = later; output = omega arith; errors = omega arith; tree = omega arith }) cause (balanced-none tree)
 
 -- BEHIND WHAT WAS WRITTEN

@@ -1,5 +1,5 @@
 -- What is evaluated of simple and compound commands comes of what is evaluated of the parts of them.
-use Rattle.std.proofs.Common.{◌≡◌, ◌⊎◌, inl, inr, ◌<◌, ◌≤◌, ◌+◌, ◌-◌, ◌==◌, not, if◌then◌else◌, ℕ, List, [], ◌∷◌, Bool, true, false, Option, Some, None, length, get_or, drop, map, refl, sym, ap, ◌∙◌, subst, add-one, arith}
+use Rattle.std.proofs.Common.{◌≡◌, ◌⊎◌, inl, inr, ◌<◌, ◌≤◌, ◌+◌, ◌-◌, if◌then◌else◌, ℕ, List, [], ◌∷◌, true, false, Option, Some, None, length, get_or, drop, map, refl, sym, ap, ◌∙◌, subst, add-one}
 use Rattle.std.specs.FinMap as finite
 use Rattle.std.proofs.Math.Seq.{drop-cons}
 use Rattle.std.proofs.Math.ListN.{drop_of_length-le}
@@ -9,7 +9,7 @@ use Rattle.std.specs.declared.alloc.Global.{Global}
 use Rattle.std.specs.declared.vec.Vec.{Vec}
 use Rattle.ps_lines.specs.declared.text.Text.{Text}
 use Rattle.ps_world.specs.TreeState.{TreeState}
-use Rattle.sh_tree.specs.Trees.{ListTree, CommandTree, simple, group, subshell, if_branches, while_loop, until_loop, for_loop, BranchTrees, SubTrees, no_in, in_words, words, WordsTree, sub, branch}
+use Rattle.sh_tree.specs.Trees.{CommandTree, simple, group, subshell, if_branches, while_loop, until_loop, for_loop, BranchTrees, SubTrees, no_in, in_words, words, WordsTree, sub, branch}
 use Rattle.sh_tree.specs.Views.{items_tree, word_tree, redir_tree, list_tree, command_tree, simple_tree, tail_tree, words_tree, branches_tree, subs_tree, else_of, in_of}
 use Rattle.sh_tree.specs.declared.commands.List as declared_list
 use Rattle.sh_tree.specs.declared.commands.AndOr.{AndOr}
@@ -21,7 +21,7 @@ use Rattle.sh_tree.specs.declared.commands.Simple.{Simple}
 use Rattle.sh_tree.specs.declared.commands.Tail.{Tail}
 use Rattle.sh_tree.specs.declared.commands.Words.{Words}
 use Rattle.sh_tree.specs.declared.words.Word.{Word}
-use Rattle.sh_tree.proofs.TreeLemmas.{list_tree-is, simple_tree-is, tail_tree-is, command_tree-simple, command_tree-group, command_tree-subshell, command_tree-if, command_tree-while, command_tree-until, command_tree-for, words_tree-is}
+use Rattle.sh_tree.proofs.TreeLemmas.{list_tree-is, simple_tree-is, tail_tree-is, command_tree-group, command_tree-subshell, command_tree-if, command_tree-while, command_tree-until, command_tree-for, words_tree-is}
 use Rattle.sh_expand.specs.Outcomes.{Expansions}
 use Rattle.sh_eval.specs.declared.flows.Flow.TheVariants as flow
 use Rattle.sh_eval.specs.declared.outcomes.How.{How}
@@ -30,16 +30,16 @@ use Rattle.sh_eval.specs.declared.session.Session.{Session}
 use Rattle.sh_eval.specs.declared.shell.Shell.{Shell}
 use Rattle.sh_eval.specs.Expanding.{with_fields}
 use Rattle.sh_eval.specs.Shells.{with_env, with_status}
-use Rattle.sh_eval.specs.States.{State, Ends, Means, ends, on, after, leaves, in_shell}
+use Rattle.sh_eval.specs.States.{State, Ends, Means, on, after, in_shell}
 use Rattle.sh_eval.specs.Commands.{all_turns, entered, in_loop, most_turns, turn, succeeded, failed, none_substituted, noted, set_to, substitution, some_command, for_fields}
-use Rattle.sh_eval.specs.Contract.{Seen, Faults, Point, point_of, Base, Has, HasEnd, IsBehind, Comes, goes_on, Meaning, Evaluates}
-use Rattle.sh_eval.specs.Growth.{Grows, Adds}
+use Rattle.sh_eval.specs.Contract.{Seen, Faults, Point, point_of, Base, IsBehind, Comes, goes_on, Meaning, Evaluates}
+use Rattle.sh_eval.specs.Growth.{Adds}
 use Rattle.sh_eval.specs.Inner.Bodies.{assign_tree, body_means, for_body, name_of, round_means, rounds_mean, subs_begun, turn_means}
-use Rattle.sh_eval.specs.Meaning.{has_item, list_means, branches_mean, command_means, else_means, simple_means, subs_mean, tail_means, held_in}
+use Rattle.sh_eval.specs.Meaning.{has_item, list_means, branches_mean, command_means, else_means, simple_means, subs_mean, held_in}
 use Rattle.sh_eval.specs.Simple.{runs_simple}
 use Rattle.sh_eval.specs.Table.{pages}
 use Rattle.sh_eval.proofs.Growing.{grows-self, adds-choice, adds-noted, adds-rounds, adds-turn, adds-turns, adds-subshell, adds-while_holds, adds-for_fields, adds-held_in, adds-runs_simple, adds-with_fields, list-adds, subs-adds, branches-adds, else-adds, in-adds, simple-adds}
-use Rattle.sh_eval.proofs.Steps.{changed, changed-before, failed-early, no-fewer, followed, stopped, nothing, behind-told}
+use Rattle.sh_eval.proofs.Steps.{changed, changed-before, followed, stopped, nothing, behind-told}
 use Rattle.sh_eval.proofs.ListSteps.{meant}
 
 -- MEMORY that is wanted behind what was evaluated
@@ -267,31 +267,16 @@ compound-stopped it behind has old new came is first =
     (λ expansions. held_in expansions pages (map redir_tree (out-Tail behind).redirs.items) (body_means expansions pages (command_tree it))) old new came is
     (λ expansions. adds-held_in expansions pages (map redir_tree (out-Tail behind).redirs.items) (body_means expansions pages (command_tree it)) (body-adds expansions (command_tree it))) first)
 
--- one without redirections is what is in it
-pub compound-bare : (it : Command) (behind : Tail) → HasTail it behind → (old mid new : Point) (came then_how : How) → goes_on came ≡ true → (out-Tail behind).redirs.items ≡ []
+-- behind its substitutions it is what is in it, in its redirections
+pub compound-opened : (it : Command) (behind : Tail) (redirs : List Redir) → HasTail it behind → redirs ≡ (out-Tail behind).redirs.items → (old mid new : Point) (came then_how : How) → goes_on came ≡ true
     → Evaluates (λ expansions. subs_begun expansions pages (subs_tree (out-Tail behind).subs.items)) old came mid
-    → Evaluates (λ expansions. body_means expansions pages (command_tree it)) mid then_how new
+    → Evaluates (λ expansions. held_in expansions pages (map redir_tree redirs) (body_means expansions pages (command_tree it))) mid then_how new
     → Evaluates (λ expansions. command_means expansions pages (command_tree it)) old then_how new
-compound-bare it behind has old mid new came then_how is none first body =
+compound-opened it behind redirs has same old mid new came then_how is first body =
     meant (behind_tail it behind) (λ expansions. command_means expansions pages (command_tree it)) old new then_how (λ expansions state same. compound-is it behind has expansions state)
-    (subst (λ (redirs : List Redir). Evaluates (λ expansions state. after (subs_begun expansions pages (subs_tree (out-Tail behind).subs.items) state)
-    (held_in expansions pages (map redir_tree redirs) (body_means expansions pages (command_tree it)))) old then_how new) (sym none)
-    (followed (λ expansions. subs_begun expansions pages (subs_tree (out-Tail behind).subs.items)) (λ expansions. held_in expansions pages [] (body_means expansions pages (command_tree it))) old mid new came then_how is first
-    (meant (λ expansions. body_means expansions pages (command_tree it)) (λ expansions. held_in expansions pages [] (body_means expansions pages (command_tree it))) mid new then_how
-    (λ expansions state same. refl) body)))
-
--- memory is wanted behind its substitutions
-pub compound-wanted : (it : Command) (behind : Tail) → HasTail it behind → (old : Point) (shell shell' : Shell) (session : Session) (tree : TreeState) (seen : Seen) (faults : Faults) (came : How) → goes_on came ≡ true
-    → Evaluates (λ expansions. subs_begun expansions pages (subs_tree (out-Tail behind).subs.items)) old came (point_of shell session tree seen faults)
-    → Evaluates (λ expansions. command_means expansions pages (command_tree it)) old how.Memory (point_of shell' session tree seen faults)
-compound-wanted it behind has old shell shell' session tree seen faults came is first =
-    meant (behind_tail it behind) (λ expansions. command_means expansions pages (command_tree it)) old (point_of shell' session tree seen faults) how.Memory (λ expansions state same. compound-is it behind has expansions state)
     (followed (λ expansions. subs_begun expansions pages (subs_tree (out-Tail behind).subs.items))
-    (λ expansions. held_in expansions pages (map redir_tree (out-Tail behind).redirs.items) (body_means expansions pages (command_tree it)))
-    old (point_of shell session tree seen faults) (point_of shell' session tree seen faults) came how.Memory is first
-    (failed-early (λ expansions. held_in expansions pages (map redir_tree (out-Tail behind).redirs.items) (body_means expansions pages (command_tree it)))
-    (λ expansions. adds-held_in expansions pages (map redir_tree (out-Tail behind).redirs.items) (body_means expansions pages (command_tree it)) (body-adds expansions (command_tree it)))
-    shell shell' session tree seen faults faults how.Memory (λ gone. gone) (no-fewer faults) tt))
+    (λ expansions. held_in expansions pages (map redir_tree (out-Tail behind).redirs.items) (body_means expansions pages (command_tree it))) old mid new came then_how is first
+    (subst (λ (it' : List Redir). Evaluates (λ expansions. held_in expansions pages (map redir_tree it') (body_means expansions pages (command_tree it))) mid then_how new) same body))
 
 -- LOOPS, by the trees that they are
 pub while-body : (it : Command) (condition body : declared_list.List) (behind : Tail) (old new : Point) (came : How) → it ≡ command.While condition body behind

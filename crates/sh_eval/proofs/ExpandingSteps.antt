@@ -1,17 +1,18 @@
 -- What is evaluated of a command comes of what is evaluated behind its words.
-use Rattle.std.proofs.Common.{◌≡◌, ◌⊎◌, inl, inr, ◌<◌, ◌≤◌, ◌+◌, ◌∷◌, ◌++◌, [], ℕ, List, Option, Some, None, Result, Ok, Err, length, get_or, drop, map, refl, sym, ap, ◌∙◌, subst, add-one, arith}
+use Rattle.std.proofs.Common.{◌≡◌, ◌⊎◌, inl, inr, ◌<◌, ◌≤◌, ◌+◌, ◌∷◌, ◌++◌, [], ℕ, List, Some, None, Result, Ok, Err, length, get_or, drop, map, refl, sym, ap, ◌∙◌, subst, add-one, append_assoc, append-nil, arith}
 use Rattle.std.specs.FinMap as finite
 use Rattle.std.proofs.lemmas.List.{map-append}
 use Rattle.std.proofs.Math.Seq.{drop-cons}
 use Rattle.std.proofs.Math.ListN.{drop_of_length-le}
+use Rattle.std.proofs.Math.Path.{fun_ext}
 use Rattle.ps_lines.specs.declared.text.Text.{Text}
 use Rattle.ps_world.specs.Counts.{Rose}
 use Rattle.ps_world.specs.Files.{Files}
-use Rattle.ps_world.specs.TreeState.{TreeState, Balanced}
-use Rattle.ps_world.proofs.TreeStateLemmas.{balanced-none}
+use Rattle.ps_world.specs.TreeState.{TreeState}
 use Rattle.sh_arith.specs.Variables.{Variables}
-use Rattle.sh_tree.specs.Trees.{WordTree}
-use Rattle.sh_tree.specs.Views.{word_tree}
+use Rattle.sh_tree.specs.Trees.{WordTree, RedirTree}
+use Rattle.sh_tree.specs.Views.{redir_tree, word_tree}
+use Rattle.sh_tree.specs.declared.commands.Redir.{Redir}
 use Rattle.sh_tree.specs.declared.words.Word.{Word}
 use Rattle.sh_expand.specs.declared.faults.ExpandFault.{ExpandFault}
 use Rattle.sh_expand.specs.declared.faults.ExpandFault.TheVariants as fault
@@ -25,16 +26,17 @@ use Rattle.sh_eval.specs.declared.shell.Shell.{Shell}
 use Rattle.sh_eval.specs.Shells.{with_env}
 use Rattle.sh_eval.specs.Ending.{how_behind, status_behind}
 use Rattle.sh_eval.specs.States.{State, Ends, Means, on, tells}
-use Rattle.sh_eval.specs.Contract.{Seen, Faults, Point, faults_of, point_of, Base, Has, Comes, IsBehind, NoFewer, HasCause, IsGone, Keeps, Meaning, Evaluates, PassesOn, StopsAt}
+use Rattle.sh_eval.specs.Contract.{Seen, Faults, Point, faults_of, point_of, Base, Has, Comes, HasCause, IsGone, Meaning, Evaluates, PassesOn, StopsAt}
 use Rattle.sh_eval.specs.Commands.{set_to}
 use Rattle.sh_eval.specs.Inner.Bodies.{assign_tree}
 use Rattle.sh_eval.specs.Inner.Faults.{EndsSo, Undone}
 use Rattle.sh_eval.specs.Simple.{put_back, restored}
-use Rattle.sh_eval.specs.Expanding.{assigning, ends_told, given_by, with_variables, stops_at, goes_on_with, with_fields, with_text}
+use Rattle.sh_eval.specs.Expanding.{assigning, ends_told, given_by, with_variables, stops_at, goes_on_with, with_fields, with_targets, with_text}
+use Rattle.sh_eval.specs.Targets.{Target}
 use Rattle.sh_eval.specs.Growth.{Adds}
 use Rattle.sh_eval.proofs.EndingLemmas.{ended}
-use Rattle.sh_eval.proofs.Growing.{adds-assigning, adds-with_fields}
-use Rattle.sh_eval.proofs.Steps.{changed-before, failed-early}
+use Rattle.sh_eval.proofs.Growing.{adds-assigning, adds-with_fields, adds-with_targets}
+use Rattle.sh_eval.proofs.Steps.{changed-before, failed-early, meant-at, no-fewer}
 
 -- the meaning of a part whose variables are these then
 answers-has : (base : Base) (shell : Shell) (session : Session) (tree : TreeState) (seen : Seen) (faults : Faults) (state : State) (after : Variables) → Has base (point_of shell session tree seen faults) state
@@ -185,13 +187,87 @@ module _ (words : List WordTree) (shell shell' : Shell) (session : Session) (tre
       undone-so (λ expansions. with_fields expansions words (next expansions)) (λ expansions. adds-with_fields expansions words (next expansions) (adds expansions))
       shell shell' session tree tree' seen input output errors before now came how.Memory new (λ gone. gone) tree_is later tt found
 
--- ASSIGNMENTS
-assign-step : (assigns : List (Text × Word)) (place : ℕ) (one : Text × Word) → one ≡ get_or assigns place one → place < length assigns
-    → map assign_tree (drop place assigns) ≡ assign_tree one ∷ map assign_tree (drop (place + 1) assigns)
-assign-step assigns place one here below =
-    let cut : drop place assigns ≡ get_or assigns place one ∷ drop (place + 1) assigns = rw add-one (drop-cons assigns place one below) in
-    ap (map assign_tree) cut ∙ ap (λ (it : Text × Word). assign_tree it ∷ map assign_tree (drop (place + 1) assigns)) (sym here)
+-- a list from a place on, by its trees
+trees-step : {Item Tree : Type 0} (tree : Item → Tree) (items : List Item) (place : ℕ) (one : Item) → one ≡ get_or items place one → place < length items
+    → map tree (drop place items) ≡ tree one ∷ map tree (drop (place + 1) items)
+trees-step tree items place one here below =
+    let cut : drop place items ≡ get_or items place one ∷ drop (place + 1) items = rw add-one (drop-cons items place one below) in
+    ap (map tree) cut ∙ ap (λ (it : _). tree it ∷ map tree (drop (place + 1) items)) (sym here)
 
+-- REDIRECTIONS. What goes on with the targets of those from a place on, behind these
+abbrev pub with_more : List Redir → ℕ → List Target → (Expansions → List Target → Means) → Meaning
+with_more redirs place targets next = λ expansions. with_targets expansions (map redir_tree (drop place redirs)) (λ more. next expansions (targets ++ more))
+
+target-more : (targets : List Target) (one : Target) (next : List Target → Means) → ◌≡◌ {A = List Target → Means} (λ more. next ((targets ++ one ∷ []) ++ more)) (λ more. next (targets ++ one ∷ more))
+target-more targets one next = fun_ext (λ more. ap next (append_assoc targets (one ∷ []) more))
+
+module _ (redirs : List Redir) (place : ℕ) (one : Redir) (here : one ≡ get_or redirs place one) (below : place < length redirs) (targets : List Target)
+    (shell shell' : Shell) (session : Session) (tree : TreeState) (seen : Seen) (faults : Faults) (others : shell' ≡ with_env shell'.variables shell) where
+  abbrev pub target_of : List ℕ → Target
+  target_of text = record { number = one.number; how = one.how; text = text }
+
+  abbrev behind_target : (Expansions → List Target → Means) → Expansions → List ℕ → Means
+  behind_target next expansions text = with_targets expansions (map redir_tree (drop (place + 1) redirs)) (λ more. next expansions (targets ++ target_of text ∷ more))
+
+  pub targets-stop : (why : ExpandFault) → text_told (word_tree one.word) shell shell' session tree seen faults others (Err why) → (came : How) (new : Point)
+      → Evaluates (λ expansions. stops_at why) (point_of shell' session tree seen faults) came new → (next : Expansions → List Target → Means) → ((expansions : Expansions) (targets : List Target) → Adds (next expansions targets))
+      → Evaluates (with_more redirs place targets next) (point_of shell session tree seen faults) came new
+  targets-stop why told came new found next adds =
+      subst (λ (it : List RedirTree). Evaluates (λ expansions. with_targets expansions it (λ more. next expansions (targets ++ more))) (point_of shell session tree seen faults) came new) (sym (trees-step redir_tree redirs place one here below))
+      (text-stops (word_tree one.word) shell shell' session tree seen faults others why told came new found (behind_target next)
+      (λ expansions text. adds-with_targets expansions (map redir_tree (drop (place + 1) redirs)) (λ more. next expansions (targets ++ target_of text ∷ more)) (λ more. adds expansions (targets ++ target_of text ∷ more))))
+
+  pub targets-pass : (text made : List ℕ) (targets' : List Target) → text_told (word_tree one.word) shell shell' session tree seen faults others (Ok text) → made ≡ text → targets' ≡ targets ++ target_of made ∷ []
+      → (came : How) (new : Point) (next : Expansions → List Target → Means) → Evaluates (with_more redirs (place + 1) targets' next) (point_of shell' session tree seen faults) came new
+      → Evaluates (with_more redirs place targets next) (point_of shell session tree seen faults) came new
+  targets-pass text made targets' told same is came new next rest =
+      let rest' : Evaluates (λ expansions. behind_target next expansions text) (point_of shell' session tree seen faults) came new =
+      meant-at (λ expansions. behind_target next expansions text) (with_more redirs (place + 1) targets' next) (point_of shell' session tree seen faults) new came
+      (λ expansions base state has.
+      sym (ap (λ (it : List Target). with_targets expansions (map redir_tree (drop (place + 1) redirs)) (λ more. next expansions (it ++ more)) state) (is ∙ ap (λ (it : List ℕ). targets ++ target_of it ∷ []) same)
+      ∙ ap (λ (it : List Target → Means). with_targets expansions (map redir_tree (drop (place + 1) redirs)) it state) (target-more targets (target_of text) (next expansions)))) rest in
+      subst (λ (it : List RedirTree). Evaluates (λ expansions. with_targets expansions it (λ more. next expansions (targets ++ more))) (point_of shell session tree seen faults) came new) (sym (trees-step redir_tree redirs place one here below))
+      (text-passes (word_tree one.word) shell shell' session tree seen faults others text told (behind_target next) came new rest')
+
+-- a redirection's word has a fault
+pub targets-end : (redirs : List Redir) (place : ℕ) (one : Redir) → one ≡ get_or redirs place one → place < length redirs → (targets : List Target)
+    → (shell shell' : Shell) (session : Session) (tree : TreeState) (seen : Seen) (input output errors of_tree : ℕ) (others : shell' ≡ with_env shell'.variables shell) (why : ExpandFault) → IsOfWords why
+    → ((expansions : Expansions) → AreExpansions expansions → IsOutside why ⊎ (told_of (expansions.text (given_by shell) shell.variables (word_tree one.word)) ≡ (Err why, shell'.variables)))
+    → (came : How) (new : Point) → EndsSo why (point_of shell' session tree seen (faults_of input output errors of_tree)) came new
+    → (next : Expansions → List Target → Means) → ((expansions : Expansions) (targets : List Target) → Adds (next expansions targets))
+    → Evaluates (with_more redirs place targets next) (point_of shell session tree seen (faults_of input output errors of_tree)) came new
+targets-end redirs place one here below targets shell shell' session tree seen input output errors of_tree others (fault.Unset name text) of_words tells came new found next adds =
+    targets-stop redirs place one here below targets shell shell' session tree seen (faults_of input output errors of_tree) others (fault.Unset name text) (λ expansions are. meant-so (fault.Unset name text) tt (tells expansions are)) came new found next adds
+targets-end redirs place one here below targets shell shell' session tree seen input output errors of_tree others (fault.Arith why) of_words tells came new found next adds =
+    targets-stop redirs place one here below targets shell shell' session tree seen (faults_of input output errors of_tree) others (fault.Arith why) (λ expansions are. meant-so (fault.Arith why) tt (tells expansions are)) came new found next adds
+targets-end redirs place one here below targets shell shell' session tree seen input output errors of_tree others fault.ArgsTooMany of_words tells came new found next adds = absurd of_words
+targets-end redirs place one here below targets shell shell' session tree seen input output errors of_tree others fault.Failed of_words tells came new found next adds = absurd of_words
+targets-end redirs place one here below targets shell shell' session tree seen input output errors of_tree others fault.Memory of_words tells came new found next adds =
+    undone-so (with_more redirs place targets next) (λ expansions. adds-with_targets expansions (map redir_tree (drop place redirs)) (λ more. next expansions (targets ++ more)) (λ more. adds expansions (targets ++ more)))
+    shell shell' session tree tree seen input output errors of_tree of_tree came how.Memory new (λ gone. gone) refl (omega arith) tt found
+
+-- memory is wanted for them
+pub targets-wanted : (redirs : List Redir) (place : ℕ) (targets : List Target) (shell shell' : Shell) (session : Session) (tree : TreeState) (seen : Seen) (faults : Faults)
+    (next : Expansions → List Target → Means) → ((expansions : Expansions) (targets : List Target) → Adds (next expansions targets))
+    → Evaluates (with_more redirs place targets next) (point_of shell session tree seen faults) how.Memory (point_of shell' session tree seen faults)
+targets-wanted redirs place targets shell shell' session tree seen faults next adds =
+    failed-early (with_more redirs place targets next) (λ expansions. adds-with_targets expansions (map redir_tree (drop place redirs)) (λ more. next expansions (targets ++ more)) (λ more. adds expansions (targets ++ more)))
+    shell shell' session tree seen faults faults how.Memory (λ gone. gone) (no-fewer faults) tt
+
+-- all of them
+pub targets-done : (redirs : List Redir) (place : ℕ) (targets : List Target) → length redirs ≤ place → (next : Expansions → List Target → Means) (at new : Point) (came : How)
+    → Evaluates (λ expansions. next expansions targets) at came new → Evaluates (with_more redirs place targets next) at came new
+targets-done redirs place targets over next at new came one =
+    subst (λ (it : List Redir). Evaluates (λ expansions. with_targets expansions (map redir_tree it) (λ more. next expansions (targets ++ more))) at came new) (sym (drop_of_length-le redirs over))
+    (subst (λ (it : List Target). Evaluates (λ expansions. next expansions it) at came new) (sym (append-nil targets)) one)
+
+-- none yet
+pub targets-begun : (redirs : List Redir) (targets : List Target) → targets ≡ [] → (next : Expansions → List Target → Means) (at new : Point) (came : How)
+    → Evaluates (with_more redirs 0 targets next) at came new → Evaluates (λ expansions. with_targets expansions (map redir_tree redirs) (next expansions)) at came new
+targets-begun redirs targets none next at new came one =
+    subst (λ (it : List Target). Evaluates (with_more redirs 0 it next) at came new) none one
+
+-- ASSIGNMENTS
 module _ (assigns : List (Text × Word)) (place : ℕ) (one : Text × Word) (here : one ≡ get_or assigns place one) (below : place < length assigns)
     (shell : Shell) (session : Session) (tree : TreeState) (seen : Seen) (faults : Faults) where
   abbrev behind_text : (Expansions → Means) → Expansions → List ℕ → Means
@@ -201,7 +277,7 @@ module _ (assigns : List (Text × Word)) (place : ℕ) (one : Text × Word) (her
       → Evaluates (λ expansions. stops_at why) (point_of shell' session tree seen faults) came new → (next : Expansions → Means) → ((expansions : Expansions) → Adds (next expansions))
       → Evaluates (λ expansions. assigning expansions (map assign_tree (drop place assigns)) (next expansions)) (point_of shell session tree seen faults) came new
   assigns-stop shell' others why told came new found next adds =
-      rw (assign-step assigns place one here below)
+      rw (trees-step assign_tree assigns place one here below)
       (text-stops (word_tree one.1) shell shell' session tree seen faults others why told came new found (behind_text next)
       (λ expansions text state. adds-assigning expansions (map assign_tree (drop (place + 1) assigns)) (next expansions) (adds expansions) (set_to one.0 text state)))
 
@@ -210,7 +286,7 @@ module _ (assigns : List (Text × Word)) (place : ℕ) (one : Text × Word) (her
       → Evaluates (λ expansions. assigning expansions (map assign_tree (drop (place + 1) assigns)) (next expansions)) (point_of shell'' session tree seen faults) came new
       → Evaluates (λ expansions. assigning expansions (map assign_tree (drop place assigns)) (next expansions)) (point_of shell session tree seen faults) came new
   assigns-pass shell' shell'' others text told set came new next rest =
-      rw (assign-step assigns place one here below)
+      rw (trees-step assign_tree assigns place one here below)
       (text-passes (word_tree one.1) shell shell' session tree seen faults others text told (behind_text next) came new
       (changed-before (λ expansions. assigning expansions (map assign_tree (drop (place + 1) assigns)) (next expansions)) (λ shell. with_env (finite.insert shell.variables one.0 text) shell) shell' shell'' session tree seen faults came new set rest))
 

@@ -1,5 +1,5 @@
 -- Every command adds to what is there.
-use Rattle.std.proofs.Common.{◌≡◌, ℕ, zero, suc, ◌≤◌, ◌+◌, ◌-◌, nat_le, nat_lt, not, ◌&&◌, length, drop, if◌then◌else◌, List, [], ◌∷◌, ◌++◌, Bool, true, false, Option, Some, None, Result, Ok, Err, refl, sym, subst, arith}
+use Rattle.std.proofs.Common.{◌≡◌, ℕ, zero, suc, ◌≤◌, ◌+◌, ◌-◌, nat_le, nat_lt, not, ◌&&◌, ◌||◌, length, drop, if◌then◌else◌, List, [], ◌∷◌, ◌++◌, Bool, true, false, Option, Some, None, Result, Ok, Err, refl, sym, subst, arith}
 use Rattle.ps_lines.proofs.TextsLemmas.{begins-self, begins-append, begins-trans}
 use Rattle.sh_eval.specs.declared.flows.Flow.{Flow}
 use Rattle.sh_eval.specs.declared.flows.Flow.TheVariants as flow
@@ -32,7 +32,7 @@ use Rattle.sh_eval.specs.Expanding.{ends_told, stops_at, goes_on_with, with_vari
 use Rattle.sh_eval.specs.Expanding.{with_text as with_text_of}
 use Rattle.sh_eval.specs.Targets.{Target}
 use Rattle.sh_eval.specs.Redirections.{Use, named_by, unless_busy, where_free, first_busy, Redirected, led, stopped, reading_at, writing_at, redirected, leads_to, goes_on_in, redirecting, in_redirections, uses_of, holding}
-use Rattle.sh_eval.specs.Utilities.{Called, appends, deals, is_silent, needs_all, Made, make_file, make_files, write_files, Pages, Patterns, read, wrong, refers_back, Given, given_to, inputs_in, complaints_in, has_none, reads_standard, texts_joined, writes_out, does_nothing, runs_utility, uses_by_operands}
+use Rattle.sh_eval.specs.Utilities.{Called, appends, deals, needs_all, Made, make_file, make_files, write_files, noted_run, is_cat, has_input, words_without, Pages, Patterns, read, wrong, refers_back, given_to, inputs_in, complaints_in, has_none, reads_standard, status_of, taken_in, takes_inputs, tells_some, lines_told, made_by, texts_joined, writes_out, does_nothing, runs_utility, uses_by_operands}
 use Rattle.sh_eval.specs.Builtins.{misused, answers, sets, shifts, set_all, line_in, behind_line, reads}
 use Rattle.sh_eval.specs.Asking.{Asked, no_name, unknown, unlisted, unusable, utility, builtin, at_fault, does, asked_as, asked_by}
 use Rattle.sh_eval.specs.Simple.{assigned_for, done, where_few, by_patterns, checked, runs_simple, most_operands}
@@ -268,7 +268,7 @@ adds-unless_busy : (busy : Option (List ℕ)) (next : Means) → Adds next → A
 adds-unless_busy None next adds state = adds state
 adds-unless_busy (Some text) next adds state = grows-self state
 
-adds-where_free : (uses : State → List Use) (next : Means) → Adds next → Adds (λ state. where_free (uses state) next state)
+pub adds-where_free : (uses : State → List Use) (next : Means) → Adds next → Adds (λ state. where_free (uses state) next state)
 adds-where_free uses next adds state = adds-unless_busy (first_busy state.session.streams.held (uses state)) next adds state
 
 abbrev GrowsTo : State → Redirected → Type 0
@@ -353,40 +353,52 @@ grows-puts start bytes state grows = grows-trans start state (puts bytes state) 
 grows-tells : (start : State) (line : List ℕ) (state : State) → Grows start state → Grows start (tells line state)
 grows-tells start line state grows = grows-trans start state (tells line state) grows (grows-write state.session.streams.errors_to line state)
 
+grows-tells_some : (start : State) (lines : List ℕ) (state : State) → Grows start state → Grows start (tells_some lines state)
+grows-tells_some start [] state grows = grows
+grows-tells_some start (byte ∷ bytes) state grows = grows-tells start (byte ∷ bytes) state grows
+
 grows-files : (start : State) (paths : List Components) (text : List ℕ) (state : State) → Grows start state → Grows start (write_files paths text state)
 grows-files start paths text state grows = grows-trans start state (write_files paths text state) grows (grows-write_files paths text state)
 
+grows-noted : (start : State) (is : Bool) (ran : List (List ℕ)) (state : State) → Grows start state → Grows start (in_world (noted_run is ran) state)
+grows-noted start false ran state grows = grows
+grows-noted start true ran state grows = record { output = grows.output; errors = grows.errors; turns = grows.turns }
+
 module _ (pages : Pages) where
-  adds-writes_out : (name : List ℕ) (called : Called) (given : List Given) (made : Made) (state : State) → IsOf state made → Grows state (writes_out pages name called given made state).state
-  adds-writes_out name called given made state is =
-      let inputs = inputs_in given in
+  adds-takes_inputs : (name : List ℕ) (called : Called) (made : Made) → Adds (takes_inputs pages name called made)
+  adds-takes_inputs name called made state =
+      let operands = operands_by called.command in
+      let inputs = inputs_in (given_to state (deals called.command) name operands) in
+      let taken = taken_in (reads_standard operands) state in
+      let taken_grows = grows-if state (reads_standard operands) (reads_to [] state) state (grows-reads_to state [] state (grows-self state)) (grows-self state) in
+      let noted = in_world (noted_run (not (is_cat called.command) && has_input inputs) (words_without (has_none state) called)) taken in
+      let noted_grows = grows-noted state (not (is_cat called.command) && has_input inputs) (words_without (has_none state) called) taken taken_grows in
+      let left = leaves (status_of called.command (not made.is_whole || list_any (has_none state) operands) (pages.selects called.command inputs)) noted in
+      grows-files state made.paths (texts_joined pages inputs) (puts (pages.output called.command inputs) left)
+      (grows-puts state (pages.output called.command inputs) left (record { output = noted_grows.output; errors = noted_grows.errors; turns = noted_grows.turns }))
+
+  adds-writes_out : (name : List ℕ) (called : Called) (made : Made) (state : State) → IsOf state made → Grows state (writes_out pages name called made state).state
+  adds-writes_out name called made state is =
+      let given = given_to state (deals called.command) name (operands_by called.command) in
       let first : State = in_world (λ world. made.world) state in
-      let lines = if is_silent called.command then made.complaints else flat_map (λ line. line) (complaints_in given) ++ made.complaints in
-      let told = tells lines first in
-      let told_grows = grows-tells state lines first (grows-made state made is) in
-      let taken_grows = grows-if state (reads_standard (operands_by called.command)) (reads_to [] told) told (grows-reads_to state [] told told_grows) told_grows in
-      grows-files state made.paths (texts_joined pages inputs) (puts (pages.output called.command inputs) (if reads_standard (operands_by called.command) then reads_to [] told else told))
-      (grows-puts state (pages.output called.command inputs) (if reads_standard (operands_by called.command) then reads_to [] told else told) taken_grows)
+      let lines = made.complaints ++ lines_told called.command given in
+      grows-trans state (tells_some lines first) (takes_inputs pages name called made (tells_some lines first)).state
+      (grows-tells_some state lines first (grows-made state made is)) (adds-takes_inputs name called made (tells_some lines first))
 
-  adds-does_nothing : (name : List ℕ) (called : Called) (given : List Given) → Adds (does_nothing pages name called given)
-  adds-does_nothing name called given state = grows-write state.session.streams.errors_to (flat_map (λ line. line) (complaints_in given)) state
+  adds-does_nothing : (name : List ℕ) (called : Called) → Adds (does_nothing pages name called)
+  adds-does_nothing name called state =
+      grows-write state.session.streams.errors_to (flat_map (λ line. line) (complaints_in (given_to state (deals called.command) name (operands_by called.command)))) state
 
-  adds-runs_utility : (name : List ℕ) (called : Called) → Adds (runs_utility pages name called)
+  pub adds-runs_utility : (name : List ℕ) (called : Called) → Adds (runs_utility pages name called)
   adds-runs_utility name called state = by_need (needs_all called.command && list_any (has_none state) (operands_by called.command))
     where
-      given : List Given
-      given = given_to state (deals called.command) name (operands_by called.command)
-
       begun : Made
       begun = record { world = state.world; paths = []; complaints = []; is_whole = true }
 
-      made : Made
-      made = make_files state (not (appends called.command)) name (files_by called.command) begun
-
-      by_need : (needs : Bool) → Grows state (if needs then does_nothing pages name called given state else writes_out pages name called given made state).state
-      by_need true = adds-does_nothing name called given state
+      by_need : (needs : Bool) → Grows state (if needs then does_nothing pages name called state else writes_out pages name called (made_by pages name called state) state).state
+      by_need true = adds-does_nothing name called state
       by_need false =
-          adds-writes_out name called given made state
+          adds-writes_out name called (made_by pages name called state) state
           (is_of-make_files state (not (appends called.command)) name (files_by called.command) state begun (refl, refl))
 
 -- BUILT-INS

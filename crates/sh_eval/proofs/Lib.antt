@@ -15,3 +15,4 @@ pub mod RedirectionLoops
 pub mod SkippingLemmas
 pub mod SimpleSteps
 pub mod ScriptSteps
+pub mod OpeningLemmas

@@ -1,38 +1,34 @@
 -- What is evaluated of lists, pipelines and subshells comes of what is evaluated of the commands in them.
-use Rattle.std.proofs.Common.{◌≡◌, ◌<◌, ◌≤◌, ◌+◌, ℕ, List, [], ◌∷◌, true, false, length, get_or, drop, map, zero, suc, ◌==◌, length-drop, refl, sym, ap, ◌∙◌, subst, add-one, arith}
+use Rattle.std.proofs.Common.{◌≡◌, ◌<◌, ◌≤◌, ◌+◌, ℕ, List, [], ◌∷◌, true, false, length, get_or, drop, zero, suc, ◌==◌, length-drop, refl, sym, ap, ◌∙◌, subst, add-one, arith}
 use Rattle.std.proofs.Math.Seq.{drop-cons}
 use Rattle.std.proofs.Math.ListN.{drop_of_length-le}
 use Rattle.ps_world.specs.TreeState.{TreeState}
 use Rattle.sh_tree.specs.Trees.{item, joined}
-use Rattle.sh_tree.specs.Views.{list_tree, and_or_tree, pipeline_tree, items_tree, joined_tree, stages_tree, command_tree}
+use Rattle.sh_tree.specs.Views.{and_or_tree, pipeline_tree, items_tree, joined_tree, stages_tree, command_tree}
 use Rattle.sh_tree.specs.declared.commands.AndOr.{AndOr}
 use Rattle.sh_tree.specs.declared.commands.Pipeline.{Pipeline}
 use Rattle.sh_tree.specs.declared.commands.Join.{Join}
-use Rattle.sh_tree.specs.declared.commands.Command.TheViews.{out-AndOr, out-Tail}
-use Rattle.sh_tree.proofs.TreeLemmas.{and_or_tree-is, pipeline_tree-is, tail_tree-is, command_tree-subshell, command_tree-group}
-use Rattle.sh_tree.specs.Trees.{tail}
-use Rattle.sh_tree.specs.Trees.{no_sub as no_sub_tree}
-use Rattle.sh_tree.specs.Views.{redir_tree, tail_tree, subs_tree}
-use Rattle.sh_tree.specs.declared.commands.List as declared_list
-use Rattle.sh_tree.specs.declared.commands.Tail.{Tail}
-use Rattle.sh_tree.specs.declared.commands.Command.TheVariants as command
+use Rattle.sh_tree.specs.declared.commands.Command.TheViews.{out-AndOr}
+use Rattle.sh_tree.proofs.TreeLemmas.{and_or_tree-is, pipeline_tree-is}
 use Rattle.sh_expand.specs.Outcomes.{Expansions}
 use Rattle.sh_eval.specs.declared.flows.Flow.{Flow}
 use Rattle.sh_eval.specs.declared.flows.Flow.TheVariants as flow
 use Rattle.sh_eval.specs.declared.outcomes.How.{How}
 use Rattle.sh_eval.specs.declared.outcomes.How.TheVariants as how
 use Rattle.sh_eval.specs.declared.session.Session.{Session}
+use Rattle.sh_eval.specs.declared.streams.From.{From}
+use Rattle.sh_eval.specs.declared.streams.To.{To}
 use Rattle.sh_eval.specs.declared.shell.Shell.{Shell}
 use Rattle.sh_eval.specs.Shells.{inside, with_status}
-use Rattle.sh_eval.specs.States.{State, Ends, Means, ends, on, after, followed_by, in_shell}
+use Rattle.sh_eval.specs.States.{State, Ends, Means, ends, on, after, followed_by, innermost, reading, unpiped}
 use Rattle.sh_eval.specs.declared.outcomes.Position.{Position}
-use Rattle.sh_eval.specs.Commands.{apart, settled, negated, negated_status, joined_by, goes_on_behind, first_stage, last_stage, staged, position_at, none_substituted, subshell}
+use Rattle.sh_eval.specs.Commands.{apart, handed_on, settled, negated, negated_status, joined_by, goes_on_behind, first_stage, last_stage, staged, position_at}
 use Rattle.sh_eval.specs.Growth.{Adds}
 use Rattle.sh_eval.specs.Contract.{Seen, Faults, Point, point_of, Base, Has, Comes, HasCause, IsGone, Keeps, goes_on, settled_how, Meaning, Evaluates}
-use Rattle.sh_eval.specs.Meaning.{list_means, and_or_means, joined_means, pipeline_means, stages_means, later_stages_mean, command_means, tail_means}
+use Rattle.sh_eval.specs.Meaning.{list_means, and_or_means, joined_means, pipeline_means, stages_means, later_stages_mean, command_means}
 use Rattle.sh_eval.specs.Table.{pages}
 use Rattle.sh_eval.proofs.Growing.{list-adds, joined-adds, stages-adds, later-adds, adds-negated}
-use Rattle.sh_eval.proofs.Steps.{followed, stopped, nothing, wanted, no-fewer, held-none}
+use Rattle.sh_eval.proofs.Steps.{followed, stopped, nothing, wanted, no-fewer, held-none, meant-at}
 use Rattle.ps_world.proofs.TreeStateLemmas.{balanced-none}
 use Rattle.std.proofs.lemmas.Bool.{cond-true, cond-false, eq-eqb}
 use Rattle.std.proofs.lemmas.Bool.{ne_eqb}
@@ -95,15 +91,7 @@ pipeline-stopped it stages old new came same is found =
 -- the meaning hangs on the shell alone
 pub meant : (first second : Meaning) (old new : Point) (came : How) → ((expansions : Expansions) (state : State) → old.shell ≡ state.shell → first expansions state ≡ second expansions state)
     → Evaluates first old came new → Evaluates second old came new
-meant first second old new came same one =
-    record {
-      comes = λ expansions are base state has. subst (λ (left : Ends). Comes base came new left) (same expansions state has.shell) (one.comes expansions are base state has);
-      keeps = one.keeps;
-      turns = one.turns;
-      later = one.later;
-      cause = one.cause;
-      lent = one.lent;
-    }
+meant first second old new came same one = meant-at second first old new came (λ expansions base state has. sym (same expansions state has.shell)) one
 
 -- JOINED PIPELINES
 pub next-runs : (how : Join) (next : Pipeline) (old new : Point) (came : How) → goes_on_behind how old.shell.status ≡ true
@@ -350,3 +338,11 @@ pub wanted-at : (means : Meaning) (shell : Shell) (session session' : Session) (
 wanted-at means shell session session' tree seen faults turns adds =
     let one = wanted means (point_of shell session tree seen faults) adds in
     record { comes = λ expansions are base state has. one.comes expansions are base state has; keeps = λ gone. absurd gone; turns = turns; later = no-fewer faults; cause = tt; lent = balanced-none tree }
+
+-- the pipe of a stage is closed, and what it has taken in is kept for the next
+pub handed-back : (old new session : Session) (place : To) → place ≡ old.streams.to → session ≡ unpiped place (record new { piped = innermost new }) → session ≡ handed_on old new
+handed-back old new session place same is = is ∙ ap (λ (it : To). unpiped it (record new { piped = innermost new })) same
+
+-- and the shell reads what it read
+pub read-back : (old new session : Session) (source : From) → source ≡ old.streams.from → session ≡ handed_on old new → reading source session ≡ reading old.streams.from (handed_on old new)
+read-back old new session source same is = ap (λ (it : From). reading it session) same ∙ ap (reading old.streams.from) is

@@ -1,5 +1,5 @@
 -- What is evaluated of loops comes of what is evaluated of their turns and rounds.
-use Rattle.std.proofs.Common.{◌≡◌, ◌<◌, ◌≤◌, ◌+◌, ◌-◌, ◌==◌, nat_le, not, if◌then◌else◌, ℕ, zero, suc, List, [], ◌∷◌, length, get_or, drop, add-one, Bool, true, false, refl, sym, ap, ◌∙◌, subst, arith}
+use Rattle.std.proofs.Common.{◌≡◌, ◌<◌, ◌≤◌, ◌+◌, ◌-◌, nat_le, if◌then◌else◌, ℕ, zero, suc, List, [], ◌∷◌, length, get_or, drop, add-one, Bool, true, false, refl, sym, ap, ◌∙◌, subst, arith}
 use Rattle.std.proofs.lemmas.Bool.{cond-true, cond-false, true≢false, le-leb, leb-false, lt-leb}
 use Rattle.std.proofs.Math.Seq.{drop-cons}
 use Rattle.std.proofs.Math.ListN.{drop_of_length-le}
@@ -19,13 +19,13 @@ use Rattle.sh_eval.specs.declared.shell.Shell.{Shell}
 use Rattle.sh_eval.specs.Shells.{with_status}
 use Rattle.sh_eval.specs.States.{State, Ends, Means, ends, refused, in_shell, in_session}
 use Rattle.sh_eval.specs.Commands.{most_turns, turns, all_turns, rounds, turn_used, is_over, goes_round, left_by, entered, restored, in_loop, noted, set_to, kept_by, of_body, turn, tested_by}
-use Rattle.sh_eval.specs.Contract.{Seen, Faults, Point, point_of, Base, Has, Comes, gone_by, goes_on, goes_on_by, going, changed_by, Keeps, Meaning, Evaluates}
-use Rattle.sh_eval.specs.Growth.{Grows, Adds}
+use Rattle.sh_eval.specs.Contract.{Seen, Faults, Point, point_of, Base, Has, Comes, gone_by, goes_on, goes_on_by, going, changed_by, Meaning, Evaluates}
+use Rattle.sh_eval.specs.Growth.{Adds}
 use Rattle.sh_eval.specs.Inner.Bodies.{for_body, name_of, round_means, rounds_mean}
 use Rattle.sh_eval.specs.Inner.Loops.{condition_left}
 use Rattle.sh_eval.specs.Table.{pages}
 use Rattle.sh_eval.proofs.CommandSteps.{rounds-add}
-use Rattle.sh_eval.proofs.Growing.{grows-self, grows-trans, grows-turn_used, adds-choice, adds-turns, adds-tested}
+use Rattle.sh_eval.proofs.Growing.{grows-self, adds-choice, adds-turns, adds-tested}
 use Rattle.sh_eval.proofs.Steps.{changed, follow, remade, then_by, same-how, same-shell}
 use Rattle.sh_eval.proofs.ListSteps.{meant}
 

@@ -21,7 +21,7 @@ use Rattle.sh_eval.specs.Shells.{with_status}
 use Rattle.sh_eval.specs.States.{State, in_shell, leaves, left_in, to_read, reading, leaving, reads_to}
 use Rattle.sh_eval.specs.Builtins.{line_in, behind_line, set_all, reads}
 use Rattle.sh_eval.specs.Reading.{left_of, from_behind, told_behind, TakesLine, fields_of, all_set}
-use Rattle.sh_eval.specs.Contract.{Seen, Faults, point_of, seen_of, faults_of, Base, Has, Evaluates}
+use Rattle.sh_eval.specs.Contract.{Seen, Faults, point_of, seen_of, drawn_of, then_ran, faults_of, Base, Has, Evaluates}
 use Rattle.sh_eval.proofs.Steps.{no-fewer, held-none}
 
 -- LINES. A text of a line, a newline and a rest
@@ -131,30 +131,30 @@ set_all-is (name ∷ names) [] state = refl
 set_all-is (name ∷ names) (text ∷ texts) state = set_all-is names texts (in_shell (λ shell. record shell { variables = map.insert shell.variables name text }) state)
 
 -- READ
-left-so : (base : Base) (state : State) (change : Shell → Shell) (session : Session) (tree : TreeState) (left taken errors : Option (List ℕ)) (faults : Faults) (place : From) → state.session.streams.from ≡ place
-    → session ≡ reading (from_behind place) state.session → left ≡ told_behind place (Some state.world.input) → tree.home ≡ state.world.home → tree.held ≡ Some state.world.files
+left-so : (base : Base) (state : State) (change : Shell → Shell) (session : Session) (tree : TreeState) (left taken errors : Option (List ℕ)) (used : Option (List (List (List ℕ)))) (faults : Faults) (place : From) → state.session.streams.from ≡ place
+    → session ≡ reading (from_behind place) state.session → left ≡ told_behind place (Some state.world.input) → used ≡ then_ran base.used state.world.ran → tree.home ≡ state.world.home → tree.held ≡ Some state.world.files
     → taken ≡ then_bytes base.taken state.world.output → errors ≡ then_bytes base.errors state.world.errors
-    → Has base (point_of (change state.shell) session tree (seen_of left taken errors) faults) (in_shell change (leaving place (behind_line (left_in place state.world)) state))
-left-so base state change session tree left taken errors faults from.Standard is reads_on leaves_so home held writes tells =
+    → Has base (point_of (change state.shell) session tree (seen_of (drawn_of left used) taken errors) faults) (in_shell change (leaving place (behind_line (left_in place state.world)) state))
+left-so base state change session tree left taken errors used faults from.Standard is reads_on leaves_so uses home held writes tells =
     record {
       shell = refl;
       session = reads_on ∙ ap (λ (it : From). reading it state.session) (sym is);
       home = home;
       held = held;
-      seen = λ i. seen_of (leaves_so i) (writes i) (tells i);
+      seen = λ i. seen_of (drawn_of (leaves_so i) (uses i)) (writes i) (tells i);
     }
-left-so base state change session tree left taken errors faults (from.Kept text) is reads_on leaves_so home held writes tells =
-    record { shell = refl; session = reads_on; home = home; held = held; seen = λ i. seen_of (leaves_so i) (writes i) (tells i) }
+left-so base state change session tree left taken errors used faults (from.Kept text) is reads_on leaves_so uses home held writes tells =
+    record { shell = refl; session = reads_on; home = home; held = held; seen = λ i. seen_of (drawn_of (leaves_so i) (uses i)) (writes i) (tells i) }
 
 to-read : (place : From) (left : Option (List ℕ)) (state : State) → left ≡ Some state.world.input → left_of place left ≡ Some (left_in place state.world)
 to-read from.Standard left state is = is
 to-read (from.Kept text) left state is = refl
 
-pub read-so : (names : List (List ℕ)) (shell shell' : Shell) (session session' : Session) (tree : TreeState) (left left' taken errors : Option (List ℕ)) (faults : Faults) (line : List ℕ) (closed : Bool)
+pub read-so : (names : List (List ℕ)) (shell shell' : Shell) (session session' : Session) (tree : TreeState) (left left' taken errors : Option (List ℕ)) (used : Option (List (List (List ℕ)))) (faults : Faults) (line : List ℕ) (closed : Bool)
     → TakesLine session.streams.from session'.streams.from left left' line closed → session' ≡ reading session'.streams.from session
     → shell' ≡ with_status (if closed then 0 else 1) (record shell { variables = all_set names (fields_of shell.variables line names) shell.variables })
-    → Evaluates (λ expansions. reads names) (point_of shell session tree (seen_of left taken errors) faults) (how.Gone flow.On) (point_of shell' session' tree (seen_of left' taken errors) faults)
-read-so names shell shell' session session' tree left left' taken errors faults line closed takes reads_on is =
+    → Evaluates (λ expansions. reads names) (point_of shell session tree (seen_of (drawn_of left used) taken errors) faults) (how.Gone flow.On) (point_of shell' session' tree (seen_of (drawn_of left' used) taken errors) faults)
+read-so names shell shell' session session' tree left left' taken errors used faults line closed takes reads_on is =
     record {
       comes = λ expansions are base state has. record { flow = refl; has = lands base state has };
       keeps = λ gone.
@@ -170,10 +170,10 @@ read-so names shell shell' session session' tree left left' taken errors faults 
       lent = balanced-none tree;
     }
   where
-    lands : (base : Base) (state : State) → Has base (point_of shell session tree (seen_of left taken errors) faults) state → Has base (point_of shell' session' tree (seen_of left' taken errors) faults) (reads names state).state
+    lands : (base : Base) (state : State) → Has base (point_of shell session tree (seen_of (drawn_of left used) taken errors) faults) state → Has base (point_of shell' session' tree (seen_of (drawn_of left' used) taken errors) faults) (reads names state).state
     lands base state has =
         let from_is : session.streams.from ≡ state.session.streams.from = ap (λ (it : Session). it.streams.from) has.session in
-        let left_is : left ≡ Some state.world.input = ap (λ (it : Seen). it.left) has.seen in
+        let left_is : left ≡ Some state.world.input = ap (λ (it : Seen). it.drawn.left) has.seen in
         let text : List ℕ = to_read state in
         let gives : left_of session.streams.from left ≡ Some text = to-read session.streams.from left state left_is ∙ ap (λ (it : From). Some (left_in it state.world)) from_is in
         let line_is : line ≡ line_in text = subst (λ (it : Option (List ℕ)). IfSome it (λ text. line ≡ line_in text)) gives takes.text in
@@ -188,19 +188,19 @@ read-so names shell shell' session session' tree left left' taken errors faults 
         reads_on ∙ ap (λ (it : From). reading it session) (takes.kept ∙ ap from_behind from_is) ∙ ap (reading (from_behind state.session.streams.from)) has.session in
         let told_is : left' ≡ told_behind state.session.streams.from (Some state.world.input) =
         takes.left ∙ ap (λ (it : From). told_behind it left) from_is ∙ ap (told_behind state.session.streams.from) left_is in
-        let there : Has base (point_of (change state.shell) session' tree (seen_of left' taken errors) faults) (in_shell change (reads_to (behind_line text) state)) =
-        left-so base state change session' tree left' taken errors faults state.session.streams.from refl session_is told_is has.home has.held
+        let there : Has base (point_of (change state.shell) session' tree (seen_of (drawn_of left' used) taken errors) faults) (in_shell change (reads_to (behind_line text) state)) =
+        left-so base state change session' tree left' taken errors used faults state.session.streams.from refl session_is told_is (ap (λ (it : Seen). it.drawn.used) has.seen) has.home has.held
         (ap (λ (it : Seen). it.taken) has.seen) (ap (λ (it : Seen). it.errors) has.seen) in
-        subst (λ (it : State). Has base (point_of shell' session' tree (seen_of left' taken errors) faults) (leaves (if has_newline text then 0 else 1) it)) (sym (set_all-is names fields (reads_to (behind_line text) state)))
-        (subst (λ (it : Shell). Has base (point_of it session' tree (seen_of left' taken errors) faults) (in_shell change (reads_to (behind_line text) state))) (sym shell_is) there)
+        subst (λ (it : State). Has base (point_of shell' session' tree (seen_of (drawn_of left' used) taken errors) faults) (leaves (if has_newline text then 0 else 1) it)) (sym (set_all-is names fields (reads_to (behind_line text) state)))
+        (subst (λ (it : Shell). Has base (point_of it session' tree (seen_of (drawn_of left' used) taken errors) faults) (in_shell change (reads_to (behind_line text) state))) (sym shell_is) there)
 
 -- and no fault was counted
-pub read-done : (names : List (List ℕ)) (shell shell' : Shell) (session session' : Session) (tree : TreeState) (left left' taken errors : Option (List ℕ)) (input input' of_output of_errors of_tree : ℕ) (line : List ℕ) (closed : Bool)
+pub read-done : (names : List (List ℕ)) (shell shell' : Shell) (session session' : Session) (tree : TreeState) (left left' taken errors : Option (List ℕ)) (used : Option (List (List (List ℕ)))) (input input' of_output of_errors of_tree : ℕ) (line : List ℕ) (closed : Bool)
     → TakesLine session.streams.from session'.streams.from left left' line closed → session' ≡ reading session'.streams.from session
     → shell' ≡ with_status (if closed then 0 else 1) (record shell { variables = all_set names (fields_of shell.variables line names) shell.variables }) → input' ≡ input
-    → Evaluates (λ expansions. reads names) (point_of shell session tree (seen_of left taken errors) (faults_of input of_output of_errors of_tree)) (how.Gone flow.On)
-    (point_of shell' session' tree (seen_of left' taken errors) (faults_of input' of_output of_errors of_tree))
-read-done names shell shell' session session' tree left left' taken errors input input' of_output of_errors of_tree line closed takes reads_on is same =
-    subst (λ (it : ℕ). Evaluates (λ expansions. reads names) (point_of shell session tree (seen_of left taken errors) (faults_of input of_output of_errors of_tree)) (how.Gone flow.On)
-    (point_of shell' session' tree (seen_of left' taken errors) (faults_of it of_output of_errors of_tree))) (sym same)
-    (read-so names shell shell' session session' tree left left' taken errors (faults_of input of_output of_errors of_tree) line closed takes reads_on is)
+    → Evaluates (λ expansions. reads names) (point_of shell session tree (seen_of (drawn_of left used) taken errors) (faults_of input of_output of_errors of_tree)) (how.Gone flow.On)
+    (point_of shell' session' tree (seen_of (drawn_of left' used) taken errors) (faults_of input' of_output of_errors of_tree))
+read-done names shell shell' session session' tree left left' taken errors used input input' of_output of_errors of_tree line closed takes reads_on is same =
+    subst (λ (it : ℕ). Evaluates (λ expansions. reads names) (point_of shell session tree (seen_of (drawn_of left used) taken errors) (faults_of input of_output of_errors of_tree)) (how.Gone flow.On)
+    (point_of shell' session' tree (seen_of (drawn_of left' used) taken errors) (faults_of it of_output of_errors of_tree))) (sym same)
+    (read-so names shell shell' session session' tree left left' taken errors used (faults_of input of_output of_errors of_tree) line closed takes reads_on is)

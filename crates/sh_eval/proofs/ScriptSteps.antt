@@ -1,8 +1,7 @@
 -- What the evaluation of a list says of a whole script.
 use Rattle.std.specs.Option.{option_map}
-use Rattle.std.proofs.Common.{◌≡◌, ℕ, List, [], Option, Some, None, IfSome, refl, sym, ap, ◌∙◌, subst}
+use Rattle.std.proofs.Common.{◌≡◌, ℕ, List, [], Option, Some, None, IfSome, refl, sym, ap, ◌∙◌, subst, append-nil}
 use Rattle.ps_world.specs.Files.{Files, NoWriterOut}
-use Rattle.ps_world.specs.Paths.{Components}
 use Rattle.ps_world.specs.TreeState.{TreeState}
 use Rattle.ps_world.specs.Told.{then_bytes}
 use Rattle.ps_world.proofs.ToldLemmas.{then_bytes-nil}
@@ -15,33 +14,39 @@ use Rattle.sh_eval.specs.declared.outcomes.How.{How}
 use Rattle.sh_eval.specs.declared.outcomes.How.TheVariants as how
 use Rattle.sh_eval.specs.declared.session.Session.{Session}
 use Rattle.sh_eval.specs.declared.shell.Shell.{Shell}
-use Rattle.sh_eval.specs.States.{State, Ends}
-use Rattle.sh_eval.specs.Contract.{Seen, Faults, Point, point_of, seen_of, Base, Has, Comes, Stands, IsSound, Meaning, Evaluates, told}
+use Rattle.sh_eval.specs.States.{Ends}
+use Rattle.sh_eval.specs.Contract.{Seen, drawn_of, then_ran, Faults, Point, point_of, seen_of, Has, Comes, Stands, IsSound, Meaning, Evaluates}
 use Rattle.sh_eval.specs.Meaning.{begun, begun_session, list_means, script_means}
 use Rattle.sh_eval.specs.Scripts.{Leaves}
 use Rattle.sh_eval.specs.Table.{pages}
 use Rattle.sh_eval.proofs.Steps.{nothing}
 
-begun-has : (shell : Shell) (tree : TreeState) (seen : Seen) (faults : Faults) (files : Files) (text : List ℕ) → tree.held ≡ Some files → seen.left ≡ Some text
-    → Has (record { taken = seen.taken; errors = seen.errors }) (point_of shell begun_session tree seen faults) (begun shell tree.home files text)
+ran-none : (used : Option (List (List (List ℕ)))) → used ≡ then_ran used []
+ran-none None = refl
+ran-none (Some used) = ap Some (sym (append-nil used))
+
+begun-has : (shell : Shell) (tree : TreeState) (seen : Seen) (faults : Faults) (files : Files) (text : List ℕ) → tree.held ≡ Some files → seen.drawn.left ≡ Some text
+    → Has (record { used = seen.drawn.used; taken = seen.taken; errors = seen.errors }) (point_of shell begun_session tree seen faults) (begun shell tree.home files text)
 begun-has shell tree seen faults files text held left =
     record {
       shell = refl;
       session = refl;
       home = refl;
       held = held;
-      seen = ap (λ (it : Option (List ℕ)). seen_of it seen.taken seen.errors) left
-          ∙ ap (λ (it : Option (List ℕ)). seen_of (Some text) it seen.errors) (sym (then_bytes-nil seen.taken))
-          ∙ ap (seen_of (Some text) (then_bytes seen.taken [])) (sym (then_bytes-nil seen.errors));
+      seen = ap (λ (it : Option (List ℕ)). seen_of (drawn_of it seen.drawn.used) seen.taken seen.errors) left
+          ∙ ap (λ (it : Option (List (List (List ℕ)))). seen_of (drawn_of (Some text) it) seen.taken seen.errors) (ran-none seen.drawn.used)
+          ∙ ap (λ (it : Option (List ℕ)). seen_of (drawn_of (Some text) (then_ran seen.drawn.used [])) it seen.errors) (sym (then_bytes-nil seen.taken))
+          ∙ ap (seen_of (drawn_of (Some text) (then_ran seen.drawn.used [])) (then_bytes seen.taken [])) (sym (then_bytes-nil seen.errors));
     }
 
-leaves-so : (old : Seen) (came : How) (at : Point) (meant : Ends) → Comes (record { taken = old.taken; errors = old.errors }) came at meant → Leaves old came at.shell at.tree at.seen meant
+leaves-so : (old : Seen) (came : How) (at : Point) (meant : Ends) → Comes (record { used = old.drawn.used; taken = old.taken; errors = old.errors }) came at meant → Leaves old came at.shell at.tree at.seen meant
 leaves-so old (how.Gone it) at meant ended =
     record {
       flow = ended.flow;
       shell = ended.has.shell;
       files = ended.has.held;
-      input = ap (λ (it : Seen). it.left) ended.has.seen;
+      input = ap (λ (it : Seen). it.drawn.left) ended.has.seen;
+      used = ap (λ (it : Seen). it.drawn.used) ended.has.seen;
       output = ap (λ (it : Seen). it.taken) ended.has.seen;
       errors = ap (λ (it : Seen). it.errors) ended.has.seen;
     }
@@ -53,18 +58,18 @@ leaves-so old how.Memory at meant behind = record { output = behind.output; erro
 -- a script that was evaluated leaves what it means
 pub script-leaves : (means : Meaning) (shell : Shell) (session : Session) (tree : TreeState) (seen : Seen) (faults : Faults) (came : How) (new : Point) → session ≡ begun_session
     → Evaluates means (point_of shell session tree seen faults) came new
-    → (expansions : Expansions) → AreExpansions expansions → IfSome tree.held (λ files. IfSome seen.left (λ text.
+    → (expansions : Expansions) → AreExpansions expansions → IfSome tree.held (λ files. IfSome seen.drawn.left (λ text.
     Leaves seen came new.shell new.tree new.seen (means expansions (begun shell tree.home files text))))
-script-leaves means shell session tree seen faults came new is found expansions are = by_told tree.held seen.left refl refl
+script-leaves means shell session tree seen faults came new is found expansions are = by_told tree.held seen.drawn.left refl refl
   where
-    by_told : (held : Option Files) (left : Option (List ℕ)) → tree.held ≡ held → seen.left ≡ left
+    by_told : (held : Option Files) (left : Option (List ℕ)) → tree.held ≡ held → seen.drawn.left ≡ left
         → IfSome held (λ files. IfSome left (λ text. Leaves seen came new.shell new.tree new.seen (means expansions (begun shell tree.home files text))))
     by_told None left held_is left_is = tt
     by_told (Some files) None held_is left_is = tt
     by_told (Some files) (Some text) held_is left_is =
         let one = subst (λ (it : Session). Evaluates means (point_of shell it tree seen faults) came new) is found in
         leaves-so seen came new (means expansions (begun shell tree.home files text))
-        (one.comes expansions are (record { taken = seen.taken; errors = seen.errors }) (begun shell tree.home files text) (begun-has shell tree seen faults files text held_is left_is))
+        (one.comes expansions are (record { used = seen.drawn.used; taken = seen.taken; errors = seen.errors }) (begun shell tree.home files text) (begun-has shell tree seen faults files text held_is left_is))
 
 -- a script begins where nothing is written to a file
 pub begun-sound : (session : Session) (tree : TreeState) → session ≡ begun_session → IfSome tree.held NoWriterOut → IsSound session tree

@@ -1,15 +1,16 @@
 -- What is evaluated of a simple command comes of what is evaluated behind its words and assignments.
-use Rattle.std.proofs.Common.{◌≡◌, ℕ, List, [], ◌∷◌, Bool, true, false, Option, Result, Ok, Err, refl, sym, ap, ◌∙◌, subst}
+use Rattle.std.proofs.Common.{◌≡◌, ℕ, List, [], ◌∷◌, ◌<◌, length, map, get_or, arith, Bool, true, false, Result, Ok, Err, refl, sym, ap, ◌∙◌, subst}
 use Rattle.std.proofs.lemmas.Bool.{true≢false}
 use Rattle.ps_world.specs.TreeState.{TreeState}
 use Rattle.sh_arith.specs.Variables.{Variables}
 use Rattle.sh_tree.specs.Trees.{WordTree, RedirTree}
 use Rattle.ut_args.specs.Invocations.{command_of}
+use Rattle.ut_args.specs.Reading.{invocation}
 use Rattle.ut_args.specs.declared.commands.Command.{Command}
 use Rattle.ut_args.specs.declared.commands.Command.TheVariants as command
 use Rattle.ut_args.specs.declared.faults.ArgFault.{ArgFault}
 use Rattle.ut_args.specs.declared.faults.ArgFault.TheVariants as fault
-use Rattle.sh_expand.specs.Outcomes.{Expansions, AreExpansions}
+use Rattle.sh_expand.specs.Outcomes.{Expansions}
 use Rattle.sh_eval.specs.declared.flows.Flow.{Flow}
 use Rattle.sh_eval.specs.declared.flows.Flow.TheVariants as flow
 use Rattle.sh_eval.specs.declared.outcomes.How.{How}
@@ -21,18 +22,19 @@ use Rattle.sh_eval.specs.declared.shell.Shell.{Shell}
 use Rattle.sh_eval.specs.declared.simple.Doing.{Doing}
 use Rattle.sh_eval.specs.declared.simple.Doing.TheVariants as doing
 use Rattle.sh_eval.specs.Shells.{with_env}
-use Rattle.sh_eval.specs.States.{State, Ends, Means, refused}
+use Rattle.sh_eval.specs.States.{State, Means, refused}
 use Rattle.sh_eval.specs.Asking.{Asked, no_name, unknown, unlisted, unusable, utility, builtin, asked_as, asked_by, at_fault, does, is_special}
 use Rattle.sh_eval.specs.Builtins.{misused}
-use Rattle.sh_eval.specs.Contract.{Seen, Faults, Point, point_of, Base, Has, Comes, Keeps, Meaning, Evaluates}
+use Rattle.sh_eval.specs.Contract.{Seen, Faults, Point, point_of, Base, Has, Comes, Meaning, Evaluates, PassesOn}
 use Rattle.sh_eval.specs.Expanding.{assigning, with_targets}
-use Rattle.sh_eval.specs.Growth.{Grows, Adds}
-use Rattle.sh_eval.specs.Inner.Doing.{can_be_done, is_own, is_special_of, own_means, asked_of}
+use Rattle.sh_eval.specs.Growth.{Adds}
+use Rattle.sh_eval.specs.Inner.Doing.{can_be_done, is_own, stays_of, way_of, own_means, asked_of}
+use Rattle.sh_eval.specs.Inner.Opening.{opened}
+use Rattle.sh_eval.specs.Targets.{Target}
 use Rattle.sh_eval.specs.Simple.{assigned_for, checked, restored, undone}
 use Rattle.sh_eval.specs.Table.{pages}
-use Rattle.sh_eval.specs.Utilities.{Pages}
-use Rattle.sh_eval.proofs.Growing.{grows-self, AddsAsked, does-adds, asked-adds, asked_as-adds, adds-misused, adds-assigning, adds-assigned_for, adds-checked, adds-with_targets}
-use Rattle.sh_eval.proofs.Steps.{changed}
+use Rattle.sh_eval.proofs.Growing.{grows-self, AddsAsked, does-adds, asked-adds, adds-misused, adds-assigned_for, adds-checked, adds-with_targets}
+use Rattle.sh_eval.proofs.Steps.{changed, meant-at}
 
 -- what goes on with fields
 abbrev pub behind_fields : List (List ℕ × WordTree) → List RedirTree → Expansions → List (List ℕ) → Means
@@ -41,14 +43,6 @@ behind_fields assigns redirs expansions fields = with_targets expansions redirs 
 pub fields-add : (assigns : List (List ℕ × WordTree)) (redirs : List RedirTree) (expansions : Expansions) (fields : List (List ℕ)) → Adds (behind_fields assigns redirs expansions fields)
 fields-add assigns redirs expansions fields =
     adds-with_targets expansions redirs (λ targets. checked expansions pages assigns targets (asked_by fields)) (λ targets. adds-checked expansions pages assigns targets (asked_by fields) (asked-adds fields))
-
--- without redirections
-pub unredirected : (assigns : List (List ℕ × WordTree)) (redirs : List RedirTree) (fields given : List (List ℕ)) (old new : Point) (came : How) → redirs ≡ [] → fields ≡ given
-    → Evaluates (λ expansions. checked expansions pages assigns [] (asked_by fields)) old came new
-    → Evaluates (λ expansions. behind_fields assigns redirs expansions given) old came new
-unredirected assigns redirs fields given old new came none same one =
-    subst (λ (it : List RedirTree). Evaluates (λ expansions. behind_fields assigns it expansions given) old came new) (sym none)
-    (subst (λ (it : List (List ℕ)). Evaluates (λ expansions. behind_fields assigns [] expansions it) old came new) same one)
 
 -- WHAT IS ASKED. A fault of the words is told or refused
 abbrev pub is-told : ArgFault → Type 0
@@ -60,24 +54,23 @@ is-told fault.Memory = ⊥
 told-so : (why : ArgFault) → is-told why → (asked : Result Command ArgFault) → ((why ≡ fault.Memory → ⊥) → asked ≡ Err why) → asked ≡ Err why
 told-so why told asked is = is (λ memory. subst is-told memory told)
 
+pub refused-at : (why : Refusal) (means : Meaning) (shell : Shell) (session : Session) (tree : TreeState) (seen : Seen) (faults : Faults)
+    → ((expansions : Expansions) (base : Base) (state : State) → Has base (point_of shell session tree seen faults) state → refused why state ≡ means expansions state)
+    → Evaluates means (point_of shell session tree seen faults) (how.Gone (flow.Refused why)) (point_of shell session tree seen faults)
+refused-at why means shell session tree seen faults same =
+    meant-at means (λ expansions. refused why) (point_of shell session tree seen faults) (point_of shell session tree seen faults) (how.Gone (flow.Refused why))
+    (λ expansions base state has. sym (same expansions base state has)) (changed (flow.Refused why) (λ shell. shell) shell shell session tree seen faults refl)
+
 pub refused-so : (why : Refusal) (means : Meaning) (shell : Shell) (session : Session) (tree : TreeState) (seen : Seen) (faults : Faults) → ((expansions : Expansions) (state : State) → refused why state ≡ means expansions state)
     → Evaluates means (point_of shell session tree seen faults) (how.Gone (flow.Refused why)) (point_of shell session tree seen faults)
-refused-so why means shell session tree seen faults same =
-    let one = changed (flow.Refused why) (λ shell. shell) shell shell session tree seen faults refl in
-    record {
-      comes = λ expansions are base state has. subst (λ (left : Ends). Comes base (how.Gone (flow.Refused why)) (point_of shell session tree seen faults) left) (same expansions state) (one.comes expansions are base state has);
-      keeps = one.keeps;
-      turns = one.turns;
-      later = one.later;
-      cause = one.cause;
-      lent = one.lent;
-    }
+refused-so why means shell session tree seen faults same = refused-at why means shell session tree seen faults (λ expansions base state has. same expansions state)
 
-pub asked-so : (name : List ℕ) (words : List (List ℕ)) (assigns : List (List ℕ × WordTree)) (why : ArgFault) (asked : Result Command ArgFault) → is-told why → ((why ≡ fault.Memory → ⊥) → asked ≡ Err why) → (old new : Point) (came : How)
-    → Evaluates (λ expansions. checked expansions pages assigns [] (asked_as name words (Err why))) old came new
-    → Evaluates (λ expansions. checked expansions pages assigns [] (asked_as name words asked)) old came new
-asked-so name words assigns why asked told is old new came one =
-    subst (λ (it : Result Command ArgFault). Evaluates (λ expansions. checked expansions pages assigns [] (asked_as name words it)) old came new) (sym (told-so why told asked is)) one
+module _ (assigns : List (List ℕ × WordTree)) (targets : List Target) where
+  pub asked-so : (name : List ℕ) (words : List (List ℕ)) (why : ArgFault) (asked : Result Command ArgFault) → is-told why → ((why ≡ fault.Memory → ⊥) → asked ≡ Err why) → (old new : Point) (came : How)
+      → Evaluates (λ expansions. checked expansions pages assigns targets (asked_as name words (Err why))) old came new
+      → Evaluates (λ expansions. checked expansions pages assigns targets (asked_as name words asked)) old came new
+  asked-so name words why asked told is old new came one =
+      subst (λ (it : Result Command ArgFault). Evaluates (λ expansions. checked expansions pages assigns targets (asked_as name words it)) old came new) (sym (told-so why told asked is)) one
 
 -- one of the shell's own commands
 pub own-so : (asked : Asked) → is_own asked ≡ true → (is_special : Bool) × (means : Means) × (asked ≡ builtin is_special means)
@@ -96,14 +89,18 @@ own-adds (unusable is_special name) adds state = adds-misused (at_fault is_speci
 own-adds (utility name called) adds state = grows-self state
 own-adds (builtin is_special means) adds state = adds state
 
-pub own-checked : (asked : Asked) (assigns : List (List ℕ × WordTree)) (old new : Point) (came : How) → is_own asked ≡ true
-    → Evaluates (λ expansions. assigned_for expansions (is_special_of asked) assigns (own_means asked)) old came new → Evaluates (λ expansions. checked expansions pages assigns [] asked) old came new
-own-checked no_name assigns old new came is one = absurd (true≢false (sym is))
-own-checked (unknown name) assigns old new came is one = absurd (true≢false (sym is))
-own-checked (unlisted name letter) assigns old new came is one = absurd (true≢false (sym is))
-own-checked (unusable is_special name) assigns old new came is one = absurd (true≢false (sym is))
-own-checked (utility name called) assigns old new came is one = absurd (true≢false (sym is))
-own-checked (builtin is_special means) assigns old new came is one = one
+-- what is done in its redirections and behind its assignments
+abbrev pub done_so : List (List ℕ × WordTree) → List Target → Asked → Meaning
+done_so assigns targets asked = λ expansions. opened (way_of asked) (λ state. []) targets (assigned_for expansions (stays_of asked) assigns (own_means asked))
+
+pub own-checked : (asked : Asked) (assigns : List (List ℕ × WordTree)) (targets : List Target) (old new : Point) (came : How) → is_own asked ≡ true
+    → Evaluates (done_so assigns targets asked) old came new → Evaluates (λ expansions. checked expansions pages assigns targets asked) old came new
+own-checked no_name assigns targets old new came is one = absurd (true≢false (sym is))
+own-checked (unknown name) assigns targets old new came is one = absurd (true≢false (sym is))
+own-checked (unlisted name letter) assigns targets old new came is one = absurd (true≢false (sym is))
+own-checked (unusable is_special name) assigns targets old new came is one = absurd (true≢false (sym is))
+own-checked (utility name called) assigns targets old new came is one = absurd (true≢false (sym is))
+own-checked (builtin is_special means) assigns targets old new came is one = one
 
 -- a command of the table is one of the shell's own, or a utility
 abbrev pub IsDone : Asked → Type 0
@@ -115,14 +112,14 @@ IsDone (utility name called) = Unit {0}
 IsDone (builtin is_special means) = Unit {0}
 
 -- another command isn't built
-pub not-own : (asked : Asked) (assigns : List (List ℕ × WordTree)) (shell : Shell) (session : Session) (tree : TreeState) (seen : Seen) (faults : Faults) → is_own asked ≡ false → IsDone asked
-    → Evaluates (λ expansions. checked expansions pages assigns [] asked) (point_of shell session tree seen faults) (how.Gone (flow.Refused refusal.NotBuilt)) (point_of shell session tree seen faults)
-not-own no_name assigns shell session tree seen faults is done = absurd done
-not-own (unknown name) assigns shell session tree seen faults is done = absurd done
-not-own (unlisted name letter) assigns shell session tree seen faults is done = absurd done
-not-own (unusable is_special name) assigns shell session tree seen faults is done = absurd done
-not-own (utility name called) assigns shell session tree seen faults is done = refused-so refusal.NotBuilt (λ expansions. checked expansions pages assigns [] (utility name called)) shell session tree seen faults (λ expansions state. refl)
-not-own (builtin is_special means) assigns shell session tree seen faults is done = absurd (true≢false is)
+pub not-own : (asked : Asked) (assigns : List (List ℕ × WordTree)) (targets : List Target) (shell : Shell) (session : Session) (tree : TreeState) (seen : Seen) (faults : Faults) → is_own asked ≡ false → IsDone asked
+    → Evaluates (λ expansions. checked expansions pages assigns targets asked) (point_of shell session tree seen faults) (how.Gone (flow.Refused refusal.NotBuilt)) (point_of shell session tree seen faults)
+not-own no_name assigns targets shell session tree seen faults is done = absurd done
+not-own (unknown name) assigns targets shell session tree seen faults is done = absurd done
+not-own (unlisted name letter) assigns targets shell session tree seen faults is done = absurd done
+not-own (unusable is_special name) assigns targets shell session tree seen faults is done = absurd done
+not-own (utility name called) assigns targets shell session tree seen faults is done = refused-so refusal.NotBuilt (λ expansions. checked expansions pages assigns targets (utility name called)) shell session tree seen faults (λ expansions state. refl)
+not-own (builtin is_special means) assigns targets shell session tree seen faults is done = absurd (true≢false is)
 
 does-done : (name : List ℕ) (words : List (List ℕ)) (asked : Command) → IsDone (does name words asked)
 does-done name words command.True = tt
@@ -150,12 +147,11 @@ does-done name words (command.Sort args) = tt
 does-done name words (command.Paste args) = tt
 does-done name words (command.Tee args) = tt
 
-pub unbuilt : (name : List ℕ) (words : List (List ℕ)) (asked : Command) (found : Result Command ArgFault) (assigns : List (List ℕ × WordTree)) (shell : Shell) (session : Session) (tree : TreeState) (seen : Seen) (faults : Faults)
-    → found ≡ Ok asked → is_own (does name words asked) ≡ false
-    → Evaluates (λ expansions. checked expansions pages assigns [] (asked_as name words found)) (point_of shell session tree seen faults) (how.Gone (flow.Refused refusal.NotBuilt)) (point_of shell session tree seen faults)
-unbuilt name words asked found assigns shell session tree seen faults is other =
-    subst (λ (it : Result Command ArgFault). Evaluates (λ expansions. checked expansions pages assigns [] (asked_as name words it)) (point_of shell session tree seen faults) (how.Gone (flow.Refused refusal.NotBuilt)) (point_of shell session tree seen faults)) (sym is)
-    (not-own (does name words asked) assigns shell session tree seen faults other (does-done name words asked))
+pub unbuilt : (name : List ℕ) (words : List (List ℕ)) (asked : Command) (assigns : List (List ℕ × WordTree)) (targets : List Target) (shell : Shell) (session : Session) (tree : TreeState) (seen : Seen) (faults : Faults)
+    → is_own (does name words asked) ≡ false
+    → Evaluates (λ expansions. checked expansions pages assigns targets (does name words asked)) (point_of shell session tree seen faults) (how.Gone (flow.Refused refusal.NotBuilt)) (point_of shell session tree seen faults)
+unbuilt name words asked assigns targets shell session tree seen faults other =
+    not-own (does name words asked) assigns targets shell session tree seen faults other (does-done name words asked)
 
 -- the words of one of the shell's own commands don't count beside its options and operands
 same-own : (name : List ℕ) (words others : List (List ℕ)) (asked : Command) → is_own (does name words asked) ≡ true → does name words asked ≡ does name others asked
@@ -184,13 +180,19 @@ same-own name words others (command.Sort args) is = absurd (true≢false (sym is
 same-own name words others (command.Paste args) is = absurd (true≢false (sym is))
 same-own name words others (command.Tee args) is = absurd (true≢false (sym is))
 
-pub own-named : (name : List ℕ) (words others : List (List ℕ)) (asked : Command) (found : Result Command ArgFault) (assigns : List (List ℕ × WordTree)) (old new : Point) (came : How) → found ≡ Ok asked → is_own (does name words asked) ≡ true
-    → Evaluates (λ expansions. assigned_for expansions (is_special_of (does name others asked)) assigns (own_means (does name others asked))) old came new
-    → Evaluates (λ expansions. checked expansions pages assigns [] (asked_as name words found)) old came new
-own-named name words others asked found assigns old new came is own one =
-    subst (λ (it : Result Command ArgFault). Evaluates (λ expansions. checked expansions pages assigns [] (asked_as name words it)) old came new) (sym is)
-    (own-checked (does name words asked) assigns old new came own
-    (subst (λ (it : Asked). Evaluates (λ expansions. assigned_for expansions (is_special_of it) assigns (own_means it)) old came new) (sym (same-own name words others asked own)) one))
+pub own-named : (name : List ℕ) (words others : List (List ℕ)) (asked : Command) (assigns : List (List ℕ × WordTree)) (targets : List Target) (old new : Point) (came : How) → is_own (does name words asked) ≡ true
+    → Evaluates (done_so assigns targets (does name others asked)) old came new
+    → Evaluates (λ expansions. checked expansions pages assigns targets (does name words asked)) old came new
+own-named name words others asked assigns targets old new came own one =
+    own-checked (does name words asked) assigns targets old new came own
+    (subst (λ (it : Asked). Evaluates (done_so assigns targets it) old came new) (sym (same-own name words others asked own)) one)
+
+-- an invocation that was read
+pub invoked : (name : List ℕ) (words : List (List ℕ)) (asked : Command) (found : Result Command ArgFault) (assigns : List (List ℕ × WordTree)) (targets : List Target) (old new : Point) (came : How) → found ≡ Ok asked
+    → Evaluates (λ expansions. checked expansions pages assigns targets (does name words asked)) old came new
+    → Evaluates (λ expansions. checked expansions pages assigns targets (asked_as name words found)) old came new
+invoked name words asked found assigns targets old new came is one =
+    subst (λ (it : Result Command ArgFault). Evaluates (λ expansions. checked expansions pages assigns targets (asked_as name words it)) old came new) (sym is) one
 
 -- ASSIGNMENTS that stay, and those that are undone
 pub stays : (is_special : Bool) (assigns : List (List ℕ × WordTree)) (means : Means) (old new : Point) (came : How) → is_special ≡ true
@@ -243,16 +245,22 @@ undone-behind is_special assigns means saved shell mid shell' session session' t
 
 -- what is done adds to what is there
 pub doing-adds : (it : Doing) → Adds (own_means (asked_of it))
+doing-adds doing.Nothing = own-adds no_name tt
 doing-adds (doing.Builtin name inv) = own-adds (asked_of (doing.Builtin name inv)) (does-adds name.now [] (command_of inv.now))
 doing-adds (doing.Misuse name) = own-adds (asked_of (doing.Misuse name)) tt
 
+pub done-adds : (assigns : List (List ℕ × WordTree)) (it : Doing) (expansions : Expansions) → Adds (assigned_for expansions (stays_of (asked_of it)) assigns (own_means (asked_of it)))
+done-adds assigns it expansions = adds-assigned_for expansions (stays_of (asked_of it)) assigns (own_means (asked_of it)) (doing-adds it)
+
 -- what its functions evaluate
 abbrev pub Runs : Doing → Point → How → Point → Type 0
+Runs doing.Nothing old came new = Evaluates (λ expansions. own_means no_name) old came new
 Runs (doing.Builtin name inv) old came new =
     (words : List (List ℕ)) (is_special : Bool) (means : Means) → does name.now words (command_of inv.now) ≡ builtin is_special means → Evaluates (λ expansions. means) old came new
 Runs (doing.Misuse name) old came new = Evaluates (λ expansions. misused (at_fault (is_special name.now)) name.now) old came new
 
 pub runs-own : (it : Doing) (old new : Point) (came : How) → can_be_done it ≡ true → Runs it old came new → Evaluates (λ expansions. own_means (asked_of it)) old came new
+runs-own doing.Nothing old new came own run = run
 runs-own (doing.Builtin name inv) old new came own run = by_own (own-so (does name.now [] (command_of inv.now)) own)
   where
     by_own : (is_special : Bool) × (means : Means) × (does name.now [] (command_of inv.now) ≡ builtin is_special means) → Evaluates (λ expansions. own_means (does name.now [] (command_of inv.now))) old came new
@@ -263,8 +271,38 @@ pub misuse-runs : (way : Flow) (name : List ℕ) (old new : Point) (came : How) 
     → Evaluates (λ expansions. misused (at_fault (is_special name)) name) old came new
 misuse-runs way name old new came is one = subst (λ (it : Flow). Evaluates (λ expansions. misused it name) old came new) is one
 
-pub misuse-checked : (assigns : List (List ℕ × WordTree)) (name given : List ℕ) (old new : Point) (came : How) → given ≡ name
-    → Evaluates (λ expansions. assigned_for expansions (is_special given) assigns (misused (at_fault (is_special given)) given)) old came new
-    → Evaluates (λ expansions. checked expansions pages assigns [] (unusable (is_special name) name)) old came new
-misuse-checked assigns name given old new came is one =
-    subst (λ (it : List ℕ). Evaluates (λ expansions. checked expansions pages assigns [] (unusable (is_special it) it)) old came new) is one
+pub misuse-checked : (assigns : List (List ℕ × WordTree)) (targets : List Target) (name given : List ℕ) (old new : Point) (came : How) → given ≡ name
+    → Evaluates (done_so assigns targets (unusable (is_special given) given)) old came new
+    → Evaluates (λ expansions. checked expansions pages assigns targets (unusable (is_special name) name)) old came new
+misuse-checked assigns targets name given old new came is one =
+    subst (λ (it : List ℕ). Evaluates (λ expansions. checked expansions pages assigns targets (unusable (is_special it) it)) old came new) is one
+
+-- the way on where a redirection stops
+pub by-way : (assigns : List (List ℕ × WordTree)) (targets : List Target) (asked : Asked) (way : Flow) (old new : Point) (came : How) → way ≡ way_of asked
+    → Evaluates (λ expansions. opened way (λ state. []) targets (assigned_for expansions (stays_of asked) assigns (own_means asked))) old came new → Evaluates (done_so assigns targets asked) old came new
+by-way assigns targets asked way old new came is one =
+    subst (λ (it : Flow). Evaluates (λ expansions. opened it (λ state. []) targets (assigned_for expansions (stays_of asked) assigns (own_means asked))) old came new) is one
+
+-- words without a name
+pub unnamed : (assigns : List (List ℕ × WordTree)) (targets : List Target) (fields : List (List ℕ)) (old new : Point) (came : How) → fields ≡ []
+    → Evaluates (done_so assigns targets no_name) old came new → Evaluates (λ expansions. checked expansions pages assigns targets (asked_by fields)) old came new
+unnamed assigns targets fields old new came none one =
+    subst (λ (it : List (List ℕ)). Evaluates (λ expansions. checked expansions pages assigns targets (asked_by it)) old came new) (sym none) one
+
+-- words with a name, which is the first
+pub named : {Field : Type 0} (text : Field → List ℕ) (assigns : List (List ℕ × WordTree)) (targets : List Target) (name : List ℕ) (fields : List Field) (one : Field) (old new : Point) (came : How)
+    → one ≡ get_or fields 0 one → 0 < length fields → name ≡ text one
+    → Evaluates (λ expansions. checked expansions pages assigns targets (asked_as name (map text fields) (invocation (map text fields)))) old came new
+    → Evaluates (λ expansions. checked expansions pages assigns targets (asked_by (map text fields))) old came new
+named text assigns targets name [] one old new came is below so ran = absurd (let none = below in omega (arith, none))
+named text assigns targets name (first ∷ rest) one old new came is below so ran =
+    subst (λ (it : List ℕ). Evaluates (λ expansions. checked expansions pages assigns targets (asked_as it (text first ∷ map text rest) (invocation (text first ∷ map text rest)))) old came new) (so ∙ ap text is) ran
+
+-- behind fields and targets
+pub behind-targets : (assigns : List (List ℕ × WordTree)) (redirs : List RedirTree) (fields given : List (List ℕ)) (targets chosen : List Target) (old mid new : Point) (came : How) → fields ≡ given → chosen ≡ targets
+    → PassesOn (λ expansions. with_targets expansions redirs) old targets mid → Evaluates (λ expansions. checked expansions pages assigns chosen (asked_by fields)) mid came new
+    → Evaluates (λ expansions. behind_fields assigns redirs expansions given) old came new
+behind-targets assigns redirs fields given targets chosen old mid new came same is passes one =
+    passes (λ expansions targets. checked expansions pages assigns targets (asked_by given)) came new
+    (subst (λ (it : List (List ℕ)). Evaluates (λ expansions. checked expansions pages assigns targets (asked_by it)) mid came new) same
+    (subst (λ (it : List Target). Evaluates (λ expansions. checked expansions pages assigns it (asked_by fields)) mid came new) is one))

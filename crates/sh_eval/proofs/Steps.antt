@@ -229,6 +229,19 @@ stopped first next old new came off adds one =
     (λ expansions it state. adds-followed (next expansions) (adds expansions) it state)
     old came came new.shell new.shell new.session new.tree new.seen new.faults off (same-how came) (same-shell came new.shell) one
 
+-- what is meant is the same where it begins
+pub meant-at : (first second : Meaning) (old new : Point) (came : How) → ((expansions : Expansions) (base : Base) (state : State) → Has base old state → first expansions state ≡ second expansions state)
+    → Evaluates second old came new → Evaluates first old came new
+meant-at first second old new came same one =
+    record {
+      comes = λ expansions are base state has. subst (λ (left : Ends). Comes base came new left) (sym (same expansions base state has)) (one.comes expansions are base state has);
+      keeps = one.keeps;
+      turns = one.turns;
+      later = one.later;
+      cause = one.cause;
+      lent = one.lent;
+    }
+
 -- the shell alone is changed
 pub changed : (it : Flow) (change : Shell → Shell) (shell shell' : Shell) (session : Session) (tree : TreeState) (seen : Seen) (faults : Faults) → shell' ≡ change shell
     → Evaluates (λ expansions state. ends it (in_shell change state)) (point_of shell session tree seen faults) (how.Gone it) (point_of shell' session tree seen faults)

@@ -24,7 +24,7 @@ use Rattle.sh_eval.specs.declared.shell.Shell.{Shell}
 use Rattle.sh_eval.specs.declared.streams.To.{To}
 use Rattle.sh_eval.specs.declared.streams.To.TheVariants as to
 use Rattle.sh_eval.specs.States.{State, Ends, on, write, puts, tells, grown_at}
-use Rattle.sh_eval.specs.Contract.{Seen, Faults, Point, point_of, seen_of, faults_of, Base, Has, IsBehind, Comes, HasCause, IsGone, Stay, HeldStays, NoFewer, Meaning, Evaluates}
+use Rattle.sh_eval.specs.Contract.{Drawn, Seen, Faults, Point, point_of, seen_of, faults_of, Base, Has, IsBehind, Comes, HasCause, IsGone, Stay, HeldStays, NoFewer, Meaning, Evaluates}
 use Rattle.sh_eval.specs.Writing.{written, kept, added_to}
 use Rattle.sh_eval.proofs.Growing.{grows-write}
 use Rattle.sh_eval.proofs.Steps.{nothing, wanted, no-fewer, held-none}
@@ -76,7 +76,7 @@ grown_at-past (text ∷ texts) zero bytes past = absurd (omega (arith, past))
 grown_at-past (text ∷ texts) (suc place) bytes past = ap (λ (rest : List (List ℕ)). text.items ∷ rest) (grown_at-past texts place bytes (omega (arith, past)))
 
 -- THE STANDARD OUTPUT AND ERROR
-module _ (shell : Shell) (session : Session) (tree : TreeState) (left : Option (List ℕ)) (input of_tree : ℕ) (bytes : List ℕ) where
+module _ (shell : Shell) (session : Session) (tree : TreeState) (drawn : Drawn) (input of_tree : ℕ) (bytes : List ℕ) where
   grew : (base before now : Option (List ℕ)) (text : List ℕ) → before ≡ then_bytes base text → now ≡ then_bytes before bytes → now ≡ then_bytes base (text ++ bytes)
   grew base before now text was is = is ∙ ap (λ (it : Option (List ℕ)). then_bytes it bytes) was ∙ then_bytes-append base text bytes
 
@@ -85,10 +85,10 @@ module _ (shell : Shell) (session : Session) (tree : TreeState) (left : Option (
 
   module _ (taken taken' errors : Option (List ℕ)) (of_output of_output' of_errors : ℕ) where
     abbrev pub output-old : Point
-    output-old = point_of shell session tree (seen_of left taken errors) (faults_of input of_output of_errors of_tree)
+    output-old = point_of shell session tree (seen_of drawn taken errors) (faults_of input of_output of_errors of_tree)
 
     abbrev pub output-new : Point
-    output-new = point_of shell session tree (seen_of left taken' errors) (faults_of input of_output' of_errors of_tree)
+    output-new = point_of shell session tree (seen_of drawn taken' errors) (faults_of input of_output' of_errors of_tree)
 
     output-behind : GrewByPrefix taken taken' bytes → (base : Base) (state : State) → Has base output-old state → IsBehind base output-new.seen (write to.Output bytes state).world
     output-behind front base state has =
@@ -110,7 +110,7 @@ module _ (shell : Shell) (session : Session) (tree : TreeState) (left : Option (
                       session = has.session;
                       home = has.home;
                       held = has.held;
-                      seen = λ i. seen_of ((ap (λ (seen : Seen). seen.left) has.seen) i) ((grew base.taken taken taken' state.world.output (ap (λ (seen : Seen). seen.taken) has.seen) whole) i) ((ap (λ (seen : Seen). seen.errors) has.seen) i);
+                      seen = λ i. seen_of ((ap (λ (seen : Seen). seen.drawn) has.seen) i) ((grew base.taken taken taken' state.world.output (ap (λ (seen : Seen). seen.taken) has.seen) whole) i) ((ap (λ (seen : Seen). seen.errors) has.seen) i);
                     };
               };
           keeps = λ gone. record { whole = λ whole. whole; files = held-none tree.held; output = refl; errors = refl };
@@ -143,10 +143,10 @@ module _ (shell : Shell) (session : Session) (tree : TreeState) (left : Option (
 
   module _ (taken errors errors' : Option (List ℕ)) (of_output of_errors of_errors' : ℕ) where
     abbrev pub errors-old : Point
-    errors-old = point_of shell session tree (seen_of left taken errors) (faults_of input of_output of_errors of_tree)
+    errors-old = point_of shell session tree (seen_of drawn taken errors) (faults_of input of_output of_errors of_tree)
 
     abbrev pub errors-new : Point
-    errors-new = point_of shell session tree (seen_of left taken errors') (faults_of input of_output of_errors' of_tree)
+    errors-new = point_of shell session tree (seen_of drawn taken errors') (faults_of input of_output of_errors' of_tree)
 
     errors-behind : GrewByPrefix errors errors' bytes → (base : Base) (state : State) → Has base errors-old state → IsBehind base errors-new.seen (write to.Errors bytes state).world
     errors-behind front base state has =
@@ -168,7 +168,7 @@ module _ (shell : Shell) (session : Session) (tree : TreeState) (left : Option (
                       session = has.session;
                       home = has.home;
                       held = has.held;
-                      seen = λ i. seen_of ((ap (λ (seen : Seen). seen.left) has.seen) i) ((ap (λ (seen : Seen). seen.taken) has.seen) i) ((grew base.errors errors errors' state.world.errors (ap (λ (seen : Seen). seen.errors) has.seen) whole) i);
+                      seen = λ i. seen_of ((ap (λ (seen : Seen). seen.drawn) has.seen) i) ((ap (λ (seen : Seen). seen.taken) has.seen) i) ((grew base.errors errors errors' state.world.errors (ap (λ (seen : Seen). seen.errors) has.seen) whole) i);
                     };
               };
           keeps = λ gone. record { whole = λ whole. whole; files = held-none tree.held; output = refl; errors = refl };

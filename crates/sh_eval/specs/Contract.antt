@@ -1,6 +1,7 @@
 -- What the evaluation of a command says of the state before it and of that behind it: the state that it means, or where it stopped, that
 -- output and errors have grown by what is meant up to there.
-use Rattle.std.specs.Prelude.{◌≡◌, ◌⊎◌, ℕ, ◌≤◌, List, Bool, true, false, Option, Some, None, IfSome}
+use Rattle.std.specs.Prelude.{◌≡◌, ◌⊎◌, ℕ, ◌≤◌, List, ◌++◌, Bool, true, false, Option, Some, None, IfSome}
+use Rattle.std.specs.Option.{option_map}
 use Rattle.ps_world.specs.Paths.{Components}
 use Rattle.ps_world.specs.Counts.{Rose}
 use Rattle.ps_world.specs.Told.{then_bytes, GrewByPrefix}
@@ -20,9 +21,17 @@ use Rattle.sh_eval.specs.States.{World, State, Ends, Means}
 use Rattle.sh_eval.specs.Commands.{settled}
 use Rattle.sh_eval.specs.Growth.{Adds}
 
--- what the objects of the outside tell: what is left of the input, and what output and errors have taken
-pub record Seen : Type 0 where
+-- what a command draws on, where it is told: what is left of the input, and the words of the utilities that the engine has run
+pub record Drawn : Type 0 where
   pub left : Option (List ℕ)
+  pub used : Option (List (List (List ℕ)))
+
+abbrev pub drawn_of : Option (List ℕ) → Option (List (List (List ℕ))) → Drawn
+drawn_of left used = record { left = left; used = used }
+
+-- what the objects of the outside tell: what is drawn on, and what output and errors have taken
+pub record Seen : Type 0 where
+  pub drawn : Drawn
   pub taken : Option (List ℕ)
   pub errors : Option (List ℕ)
 
@@ -33,8 +42,8 @@ pub record Faults : Type 0 where
   pub errors : ℕ
   pub tree : ℕ
 
-abbrev pub seen_of : Option (List ℕ) → Option (List ℕ) → Option (List ℕ) → Seen
-seen_of left taken errors = record { left = left; taken = taken; errors = errors }
+abbrev pub seen_of : Drawn → Option (List ℕ) → Option (List ℕ) → Seen
+seen_of drawn taken errors = record { drawn = drawn; taken = taken; errors = errors }
 
 abbrev pub faults_of : ℕ → ℕ → ℕ → ℕ → Faults
 faults_of input output errors tree = record { input = input; output = output; errors = errors; tree = tree }
@@ -50,14 +59,24 @@ pub record Point : Type 0 where
 abbrev pub point_of : Shell → Session → TreeState → Seen → Faults → Point
 point_of shell session tree seen faults = record { shell = shell; session = session; tree = tree; seen = seen; faults = faults }
 
--- what output and errors told as the run began
+-- what the engine, output and errors told as the run began
 pub record Base : Type 0 where
+  pub used : Option (List (List (List ℕ)))
   pub taken : Option (List ℕ)
   pub errors : Option (List ℕ)
 
+-- what the engine tells once these have run
+abbrev pub then_ran : Option (List (List (List ℕ))) → List (List (List ℕ)) → Option (List (List (List ℕ)))
+then_ran used ran = option_map (λ used. used ++ ran) used
+
 -- what the objects tell in a state
 abbrev pub told : Base → World → Seen
-told base world = record { left = Some world.input; taken = then_bytes base.taken world.output; errors = then_bytes base.errors world.errors }
+told base world =
+    record {
+      drawn = record { left = Some world.input; used = then_ran base.used world.ran };
+      taken = then_bytes base.taken world.output;
+      errors = then_bytes base.errors world.errors;
+    }
 
 -- the point is that of a state
 pub record Has (base : Base) (at : Point) (state : State) : Type 0 where

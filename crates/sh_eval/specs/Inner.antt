@@ -3,3 +3,4 @@ pub mod Bodies
 pub mod Loops
 pub mod Doing
 pub mod Faults
+pub mod Opening

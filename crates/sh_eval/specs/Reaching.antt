@@ -4,6 +4,7 @@ use Rattle.std.specs.List.{list_any}
 use Rattle.sh_eval.specs.declared.leading.Before.{Before}
 use Rattle.sh_eval.specs.declared.streams.From.{From}
 use Rattle.ps_world.specs.Counts.{Rose}
+use Rattle.ps_world.specs.TreeState.{TreeState}
 use Rattle.sh_eval.specs.declared.flows.Flow.{Flow}
 use Rattle.sh_eval.specs.declared.outcomes.How.{How}
 use Rattle.sh_eval.specs.declared.outcomes.How.TheVariants as how
@@ -12,7 +13,8 @@ use Rattle.sh_eval.specs.declared.stops.Stop.TheVariants as stop
 use Rattle.sh_eval.specs.Targets.{Target}
 use Rattle.sh_eval.specs.States.{State, Means}
 use Rattle.sh_eval.specs.Redirections.{redirecting, skipped, is_read}
-use Rattle.sh_eval.specs.Contract.{Point, Base, Has, Evaluates}
+use Rattle.sh_eval.specs.declared.session.Session.{Session}
+use Rattle.sh_eval.specs.Contract.{Point, Base, Has, Evaluates, IsSound}
 use Rattle.sh_eval.specs.Redirecting.{LeavesOn, Breaks}
 
 -- what is meant at a state is what another command means at the state behind
@@ -47,6 +49,12 @@ pub record RemembersSome (targets : List Target) (from now : From) (first before
   pub reads_other : Bool
   pub of_them : reads_other ≡ true → has_read targets ≡ true
   pub remembers : Remembers reads_other from now first before
+
+-- a line can be told here, if there is one
+abbrev pub CanSkip : Stop → Session → TreeState → Type 0
+CanSkip (stop.Line line) session tree = IsSound session tree
+CanSkip stop.Tree session tree = Unit {0}
+CanSkip stop.Memory session tree = Unit {0}
 
 -- a command is skipped where one of its redirections stopped
 abbrev pub Skips : Stop → Flow → Point → How → Point → Type 0

@@ -7,14 +7,15 @@ use Rattle.sh_eval.specs.declared.outcomes.How.{How}
 use Rattle.sh_eval.specs.declared.outcomes.How.TheVariants as how
 use Rattle.sh_eval.specs.declared.shell.Shell.{Shell}
 use Rattle.sh_eval.specs.States.{World, Ends}
-use Rattle.sh_eval.specs.Contract.{Seen}
+use Rattle.sh_eval.specs.Contract.{Seen, then_ran}
 
 -- all is as it is meant
 pub record Left (old : Seen) (came : Flow) (own : Shell) (tree : TreeState) (new : Seen) (meant : Ends) : Type 0 where
   pub flow : came ≡ meant.flow
   pub shell : own ≡ meant.state.shell
   pub files : tree.held ≡ Some meant.state.world.files
-  pub input : new.left ≡ Some meant.state.world.input
+  pub input : new.drawn.left ≡ Some meant.state.world.input
+  pub used : new.drawn.used ≡ then_ran old.drawn.used meant.state.world.ran
   pub output : new.taken ≡ then_bytes old.taken meant.state.world.output
   pub errors : new.errors ≡ then_bytes old.errors meant.state.world.errors
 

@@ -12,15 +12,11 @@ use Rattle.ut_args.specs.declared.commands.Command.{Command}
 use Rattle.ut_args.specs.declared.commands.Command.TheVariants as command
 use Rattle.ut_args.specs.declared.commands.Report.{Report}
 use Rattle.ut_args.specs.declared.commands.Report.TheVariants as report
+use Rattle.ut_streams.specs.Utilities.{Input}
 use Rattle.sh_eval.specs.declared.streams.To.TheVariants as to
 use Rattle.sh_eval.specs.States.{World, State, Means, on, in_world, leaves, puts, tells, to_read, reads_to, write}
 use Rattle.sh_eval.specs.Lines.{diagnostic, no_such_file, is_a_directory}
 use Rattle.sh_eval.specs.Redirections.{Use, named_by, file_begun}
-
--- an input: what a utility calls it, and its text
-pub record Input : Type 0 where
-  pub label : List ℕ
-  pub text : List ℕ
 
 -- what an operand gives: an input, nothing, or a line of why there is none
 pub data Given : Type 0 where
@@ -101,21 +97,21 @@ file_input state name operand (place.File path) = input (record { label = operan
 file_input state name operand place.Null = input (record { label = operand; text = [] })
 
 -- the standard input, which the first `-` takes to its end: the next ones are empty, or none at all where its lines are dealt to all
-abbrev pub standard_input : State → Given
-standard_input state = input (record { label = codes "-"; text = to_read state })
+abbrev pub standard_input : State → List ℕ → Given
+standard_input state operand = input (record { label = operand; text = to_read state })
 
-abbrev pub standard_again : Bool → Given
-standard_again deals = if deals then nothing else input (record { label = codes "-"; text = [] })
+abbrev pub standard_again : Bool → List ℕ → Given
+standard_again deals operand = if deals then nothing else input (record { label = operand; text = [] })
 
 -- what the operands give, from the left
 abbrev pub given_from : State → Bool → List ℕ → Bool → List (List ℕ) → List Given
 given_from state deals name is_taken [] = []
 given_from state deals name is_taken (operand ∷ operands) =
-    if is_dash operand then (if is_taken then standard_again deals else standard_input state) ∷ given_from state deals name true operands
+    if is_dash operand then (if is_taken then standard_again deals operand else standard_input state operand) ∷ given_from state deals name true operands
     else file_input state name operand (named_by state operand) ∷ given_from state deals name is_taken operands
 
 abbrev pub given_to : State → Bool → List ℕ → List (List ℕ) → List Given
-given_to state deals name [] = standard_input state ∷ []
+given_to state deals name [] = input (record { label = []; text = to_read state }) ∷ []
 given_to state deals name (operand ∷ operands) = given_from state deals name false (operand ∷ operands)
 
 abbrev pub inputs_in : List Given → List Input
@@ -181,9 +177,31 @@ abbrev pub write_files : List Components → List ℕ → State → State
 write_files [] text state = state
 write_files (path ∷ paths) text state = write_files paths text (write (to.File path) text state)
 
--- the utility ran, by these words
-abbrev pub noted_run : List (List ℕ) → World → World
-noted_run words world = record world { ran = world.ran ++ words ∷ [] }
+-- a utility that ran is told by its words, but cat, and but one without an input (own)
+abbrev pub is_cat : Command → Bool
+is_cat (command.Cat args) = true
+is_cat other = false
+
+abbrev pub has_input : List Input → Bool
+has_input [] = false
+has_input (first ∷ rest) = true
+
+abbrev pub noted_run : Bool → List (List ℕ) → World → World
+noted_run false words world = world
+noted_run true words world = record world { ran = world.ran ++ words ∷ [] }
+
+-- the standard input is taken to its end, where it is read
+abbrev pub taken_in : Bool → State → State
+taken_in reads state = if reads then reads_to [] state else state
+
+-- lines are told, if there is one
+abbrev pub tells_some : List ℕ → State → State
+tells_some [] state = state
+tells_some (byte ∷ bytes) state = tells (byte ∷ bytes) state
+
+-- those that tell of operands without an input
+abbrev pub lines_told : Command → List Given → List ℕ
+lines_told called given = if is_silent called then [] else flat_map (λ line. line) (complaints_in given)
 
 module _ (pages : Pages) where
   abbrev pub uses_by_operands : Called → State → List Use
@@ -192,23 +210,33 @@ module _ (pages : Pages) where
   abbrev pub texts_joined : List Input → List ℕ
   texts_joined inputs = flat_map (λ it. it.text) inputs
 
-  -- the complaints are told, the inputs taken, and the output written
-  abbrev pub writes_out : List ℕ → Called → List Given → Made → Means
-  writes_out name called given made state =
-      let inputs = inputs_in given in
-      let told = tells (if is_silent called.command then made.complaints else flat_map (λ line. line) (complaints_in given) ++ made.complaints) (in_world (λ world. made.world) state) in
-      let taken = if reads_standard (operands_by called.command) then reads_to [] told else told in
-      let written = write_files made.paths (texts_joined inputs) (puts (pages.output called.command inputs) taken) in
-      on (leaves (status_of called.command (not made.is_whole || list_any (has_none state) (operands_by called.command)) (pages.selects called.command inputs)) (in_world (noted_run (words_without (has_none state) called)) written))
+  -- the inputs are taken, a status is left, and the output is written
+  abbrev pub takes_inputs : List ℕ → Called → Made → Means
+  takes_inputs name called made state =
+      let operands = operands_by called.command in
+      let inputs = inputs_in (given_to state (deals called.command) name operands) in
+      let noted = noted_run (not (is_cat called.command) && has_input inputs) (words_without (has_none state) called) in
+      let status = status_of called.command (not made.is_whole || list_any (has_none state) operands) (pages.selects called.command inputs) in
+      on (write_files made.paths (texts_joined inputs) (puts (pages.output called.command inputs) (leaves status (in_world noted (taken_in (reads_standard operands) state)))))
+
+  -- what can't be read, or made, is told before
+  abbrev pub writes_out : List ℕ → Called → Made → Means
+  writes_out name called made state =
+      let given = given_to state (deals called.command) name (operands_by called.command) in
+      takes_inputs name called made (tells_some (made.complaints ++ lines_told called.command given) (in_world (λ world. made.world) state))
 
   -- some do nothing at all where an operand has no input, but to tell of it (own)
-  abbrev pub does_nothing : List ℕ → Called → List Given → Means
-  does_nothing name called given state =
+  abbrev pub does_nothing : List ℕ → Called → Means
+  does_nothing name called state =
+      let given = given_to state (deals called.command) name (operands_by called.command) in
       on (leaves (status_of called.command true false) (tells (flat_map (λ line. line) (complaints_in given)) state))
+
+  -- the files that it writes are begun before all else
+  abbrev pub made_by : List ℕ → Called → State → Made
+  made_by name called state =
+      make_files state (not (appends called.command)) name (files_by called.command) (record { world = state.world; paths = []; complaints = []; is_whole = true })
 
   abbrev pub runs_utility : List ℕ → Called → Means
   runs_utility name called state =
-      if needs_all called.command && list_any (has_none state) (operands_by called.command)
-      then does_nothing name called (given_to state (deals called.command) name (operands_by called.command)) state
-      else writes_out name called (given_to state (deals called.command) name (operands_by called.command))
-      (make_files state (not (appends called.command)) name (files_by called.command) (record { world = state.world; paths = []; complaints = []; is_whole = true })) state
+      if needs_all called.command && list_any (has_none state) (operands_by called.command) then does_nothing name called state
+      else writes_out name called (made_by name called state) state

@@ -4,7 +4,7 @@ ghost use Rattle.ps_lines.specs.Texts.{texts_of};
 ghost use Rattle.ut_args.specs.Invocations.{command_of};
 ghost use Rattle.sh_eval.specs.Asking.{builtin, does};
 ghost use Rattle.sh_eval.specs.Builtins.{answers, echoes, exits, fails, leaves_loops, misused, reads, sets, shifts, succeeds, tests, unset_all as unset_all_lem, unsets};
-ghost use Rattle.sh_eval.specs.Contract.{Evaluates, IsSound, faults_of, point_of, seen_of};
+ghost use Rattle.sh_eval.specs.Contract.{Drawn, Evaluates, IsSound, drawn_of, faults_of, point_of, seen_of};
 ghost use Rattle.sh_eval.specs.States.{Means};
 ghost use Rattle.sh_eval.specs.Ending.{InShell, how_behind, status_behind};
 
@@ -37,12 +37,12 @@ pub(crate) fn run_builtin<T: Tree, I: Source, O: Sink, E: Sink>(
     err: &mut E,
 ) -> Played<I, O>
     requires sound { IsSound session.old (T.state tree.old) }
-    ensures { (words : List (List ℕ)) (is_special : Bool) (means : Means) → does name.now words (command_of inv.now) ≡ builtin is_special means
+    ensures { (used : Option (List (List (List ℕ)))) (words : List (List ℕ)) (is_special : Bool) (means : Means) → does name.now words (command_of inv.now) ≡ builtin is_special means
         → Evaluates (λ expansions. means)
-        (point_of shell.old session.old (T.state tree.old) (seen_of (I.left input) (O.taken out) (E.taken err.old))
+        (point_of shell.old session.old (T.state tree.old) (seen_of (drawn_of (I.left input) used) (O.taken out) (E.taken err.old))
         (faults_of (I.faults input) (O.faults out) (E.faults err.old) (T.faults tree.old)))
         result.how
-        (point_of shell.new session.new (T.state tree.new) (seen_of (I.left result.input) (O.taken result.out) (E.taken err.new))
+        (point_of shell.new session.new (T.state tree.new) (seen_of (drawn_of (I.left result.input) used) (O.taken result.out) (E.taken err.new))
         (faults_of (I.faults result.input) (O.faults result.out) (E.faults err.new) (T.faults tree.new))) }
 {
     let mut input = input;
@@ -66,12 +66,12 @@ fn run<T: Tree, I: Source, O: Sink, E: Sink>(
     err: &mut E,
 ) -> How
     requires sound { IsSound session.old (T.state tree.old) }
-    ensures { (words : List (List ℕ)) (is_special : Bool) (means : Means) → does name.now words (command_of inv.now) ≡ builtin is_special means
+    ensures { (used : Option (List (List (List ℕ)))) (words : List (List ℕ)) (is_special : Bool) (means : Means) → does name.now words (command_of inv.now) ≡ builtin is_special means
         → Evaluates (λ expansions. means)
-        (point_of shell.old session.old (T.state tree.old) (seen_of (I.left input.old) (O.taken out.old) (E.taken err.old))
+        (point_of shell.old session.old (T.state tree.old) (seen_of (drawn_of (I.left input.old) used) (O.taken out.old) (E.taken err.old))
         (faults_of (I.faults input.old) (O.faults out.old) (E.faults err.old) (T.faults tree.old)))
         result
-        (point_of shell.new session.new (T.state tree.new) (seen_of (I.left input.new) (O.taken out.new) (E.taken err.new))
+        (point_of shell.new session.new (T.state tree.new) (seen_of (drawn_of (I.left input.new) used) (O.taken out.new) (E.taken err.new))
         (faults_of (I.faults input.new) (O.faults out.new) (E.faults err.new) (T.faults tree.new))) }
 {
     match inv {
@@ -189,11 +189,11 @@ fn shift<T: Tree, O: Sink, E: Sink>(
     err: &mut E,
 ) -> How
     requires sound { IsSound session.old (T.state tree.old) }
-    ensures { (left : Option (List ℕ)) (input : ℕ) → Evaluates (λ expansions. shifts name.now count)
-        (point_of shell.old session.old (T.state tree.old) (seen_of left (O.taken out.old) (E.taken err.old))
+    ensures { (drawn : Drawn) (input : ℕ) → Evaluates (λ expansions. shifts name.now count)
+        (point_of shell.old session.old (T.state tree.old) (seen_of drawn (O.taken out.old) (E.taken err.old))
         (faults_of input (O.faults out.old) (E.faults err.old) (T.faults tree.old)))
         result
-        (point_of shell.new session.new (T.state tree.new) (seen_of left (O.taken out.new) (E.taken err.new))
+        (point_of shell.new session.new (T.state tree.new) (seen_of drawn (O.taken out.new) (E.taken err.new))
         (faults_of input (O.faults out.new) (E.faults err.new) (T.faults tree.new))) }
 {
     if !has_arguments(count, shell) {
@@ -252,11 +252,11 @@ fn run_test<T: Tree, O: Sink, E: Sink>(
     err: &mut E,
 ) -> How
     requires sound { IsSound session.old (T.state tree.old) }
-    ensures { (left : Option (List ℕ)) (input : ℕ) → Evaluates (λ expansions. tests name.now arguments.now)
-        (point_of shell.old session.old (T.state tree.old) (seen_of left (O.taken out.old) (E.taken err.old))
+    ensures { (drawn : Drawn) (input : ℕ) → Evaluates (λ expansions. tests name.now arguments.now)
+        (point_of shell.old session.old (T.state tree.old) (seen_of drawn (O.taken out.old) (E.taken err.old))
         (faults_of input (O.faults out.old) (E.faults err.old) (T.faults tree.old)))
         result
-        (point_of shell.new session.new (T.state tree.new) (seen_of left (O.taken out.new) (E.taken err.new))
+        (point_of shell.new session.new (T.state tree.new) (seen_of drawn (O.taken out.new) (E.taken err.new))
         (faults_of input (O.faults out.new) (E.faults err.new) (T.faults tree.new))) }
 {
     match test(alloc, arguments.as_slice(), tree) {
@@ -278,11 +278,11 @@ fn answer<T: Tree, O: Sink, E: Sink>(
     err: &mut E,
 ) -> How
     requires sound { IsSound session.old (T.state tree.old) }
-    ensures { (left : Option (List ℕ)) (input : ℕ) → Evaluates (λ expansions. answers name.now tested)
-        (point_of shell.old session.old (T.state tree.old) (seen_of left (O.taken out.old) (E.taken err.old))
+    ensures { (drawn : Drawn) (input : ℕ) → Evaluates (λ expansions. answers name.now tested)
+        (point_of shell.old session.old (T.state tree.old) (seen_of drawn (O.taken out.old) (E.taken err.old))
         (faults_of input (O.faults out.old) (E.faults err.old) (T.faults tree.old)))
         result
-        (point_of shell.new session.new (T.state tree.new) (seen_of left (O.taken out.new) (E.taken err.new))
+        (point_of shell.new session.new (T.state tree.new) (seen_of drawn (O.taken out.new) (E.taken err.new))
         (faults_of input (O.faults out.new) (E.faults err.new) (T.faults tree.new))) }
 {
     match tested {
@@ -303,11 +303,11 @@ fn run_echo<T: Tree, O: Sink, E: Sink>(
     err: &mut E,
 ) -> How
     requires sound { IsSound session.old (T.state tree.old) }
-    ensures { (left : Option (List ℕ)) (input : ℕ) → Evaluates (λ expansions. echoes operands.now)
-        (point_of shell.old session.old (T.state tree.old) (seen_of left (O.taken out.old) (E.taken err.old))
+    ensures { (drawn : Drawn) (input : ℕ) → Evaluates (λ expansions. echoes operands.now)
+        (point_of shell.old session.old (T.state tree.old) (seen_of drawn (O.taken out.old) (E.taken err.old))
         (faults_of input (O.faults out.old) (E.faults err.old) (T.faults tree.old)))
         result
-        (point_of shell.new session.new (T.state tree.new) (seen_of left (O.taken out.new) (E.taken err.new))
+        (point_of shell.new session.new (T.state tree.new) (seen_of drawn (O.taken out.new) (E.taken err.new))
         (faults_of input (O.faults out.new) (E.faults err.new) (T.faults tree.new))) }
 {
     let Ok(text) = echo(alloc, operands.as_slice()) else {
@@ -329,11 +329,11 @@ pub(crate) fn misuse<T: Tree, O: Sink, E: Sink>(
     err: &mut E,
 ) -> How
     requires sound { IsSound session.old (T.state tree.old) }
-    ensures { (left : Option (List ℕ)) (input : ℕ) → Evaluates (λ expansions. misused flow name.now)
-        (point_of shell.old session.old (T.state tree.old) (seen_of left (O.taken out.old) (E.taken err.old))
+    ensures { (drawn : Drawn) (input : ℕ) → Evaluates (λ expansions. misused flow name.now)
+        (point_of shell.old session.old (T.state tree.old) (seen_of drawn (O.taken out.old) (E.taken err.old))
         (faults_of input (O.faults out.old) (E.faults err.old) (T.faults tree.old)))
         result
-        (point_of shell.new session.new (T.state tree.new) (seen_of left (O.taken out.new) (E.taken err.new))
+        (point_of shell.new session.new (T.state tree.new) (seen_of drawn (O.taken out.new) (E.taken err.new))
         (faults_of input (O.faults out.new) (E.faults err.new) (T.faults tree.new))) }
 {
     let Ok(line) = bad_usage(alloc, name) else {

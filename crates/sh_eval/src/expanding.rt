@@ -2,11 +2,11 @@
 ghost use Rattle.std.specs.Prelude.{◌≡◌, ℕ, List, map, Option, Some, IfErr, IfOk, OnOk};
 ghost use Rattle.ps_lines.specs.Texts.{texts_of};
 ghost use Rattle.ps_world.specs.Files.{Files};
-ghost use Rattle.sh_tree.specs.Views.{word_tree};
+ghost use Rattle.sh_tree.specs.Views.{redir_tree, word_tree};
 ghost use Rattle.sh_expand.specs.Fields.{Asks, IsOfWords};
 ghost use Rattle.sh_expand.specs.Outcomes.{AreExpansions, Expansions, Tells, told_fields, told_of};
-ghost use Rattle.sh_eval.specs.Contract.{Evaluates, IsSound, PassesOn, StopsAt, faults_of, point_of, seen_of};
-ghost use Rattle.sh_eval.specs.Expanding.{assigning, ends_told, given_by, with_fields};
+ghost use Rattle.sh_eval.specs.Contract.{Drawn, Evaluates, IsSound, PassesOn, StopsAt, faults_of, point_of, seen_of};
+ghost use Rattle.sh_eval.specs.Expanding.{assigning, ends_told, given_by, with_fields, with_targets};
 ghost use Rattle.sh_eval.specs.Inner.Bodies.{assign_tree};
 ghost use Rattle.sh_eval.specs.Inner.Faults.{EndsSo};
 ghost use Rattle.sh_eval.specs.Shells.{with_env};
@@ -19,12 +19,13 @@ use crate::outcomes::How;
 use crate::refusals::Refusal;
 use crate::session::Session;
 use crate::shell::Shell;
+use crate::targets::Target;
 use crate::writing::tell;
 use ps_lines::{Memory, Text};
 use ps_world::{Sink, Tree};
 use sh_arith::Env;
 use sh_expand::{ExpandFault, Frame, expand, expand_one};
-use sh_tree::Word;
+use sh_tree::{Redir, Word};
 use std::alloc::Global;
 
 /// The fields of words, by a shell's variables.
@@ -79,16 +80,16 @@ pub(crate) fn expand_words<T: Tree, O: Sink, E: Sink>(
     err: &mut E,
 ) -> Result<Vec<Vec<u8>>, How>
     requires sound { IsSound session.old (T.state tree.old) }
-    ensures ok { IfOk result (λ fields. (left : Option (List ℕ)) (input : ℕ) →
+    ensures ok { IfOk result (λ fields. (drawn : Drawn) (input : ℕ) →
         PassesOn (λ expansions. with_fields expansions (map word_tree words.now))
-        (point_of shell.old session.old (T.state tree.old) (seen_of left (O.taken out.old) (E.taken err.old)) (faults_of input (O.faults out.old) (E.faults err.old) (T.faults tree.old)))
+        (point_of shell.old session.old (T.state tree.old) (seen_of drawn (O.taken out.old) (E.taken err.old)) (faults_of input (O.faults out.old) (E.faults err.old) (T.faults tree.old)))
         (texts_of fields.items)
-        (point_of shell.new session.new (T.state tree.new) (seen_of left (O.taken out.new) (E.taken err.new)) (faults_of input (O.faults out.new) (E.faults err.new) (T.faults tree.new)))) }
-    ensures err { IfErr result (λ how. (left : Option (List ℕ)) (input : ℕ) →
+        (point_of shell.new session.new (T.state tree.new) (seen_of drawn (O.taken out.new) (E.taken err.new)) (faults_of input (O.faults out.new) (E.faults err.new) (T.faults tree.new)))) }
+    ensures err { IfErr result (λ how. (drawn : Drawn) (input : ℕ) →
         StopsAt (λ expansions. with_fields expansions (map word_tree words.now))
-        (point_of shell.old session.old (T.state tree.old) (seen_of left (O.taken out.old) (E.taken err.old)) (faults_of input (O.faults out.old) (E.faults err.old) (T.faults tree.old)))
+        (point_of shell.old session.old (T.state tree.old) (seen_of drawn (O.taken out.old) (E.taken err.old)) (faults_of input (O.faults out.old) (E.faults err.old) (T.faults tree.old)))
         how
-        (point_of shell.new session.new (T.state tree.new) (seen_of left (O.taken out.new) (E.taken err.new)) (faults_of input (O.faults out.new) (E.faults err.new) (T.faults tree.new)))) }
+        (point_of shell.new session.new (T.state tree.new) (seen_of drawn (O.taken out.new) (E.taken err.new)) (faults_of input (O.faults out.new) (E.faults err.new) (T.faults tree.new)))) }
     ensures session { IfOk result (λ _. session.new ≡ session.old) }
     ensures state { IfOk result (λ _. T.state tree.new ≡ T.state tree.old) }
 {
@@ -109,10 +110,10 @@ fn stop_at<T: Tree, O: Sink, E: Sink>(
     err: &mut E,
 ) -> How
     requires sound { IsSound session.old (T.state tree.old) }
-    ensures { (left : Option (List ℕ)) (input : ℕ) → EndsSo fault
-        (point_of shell.old session.old (T.state tree.old) (seen_of left (O.taken out.old) (E.taken err.old)) (faults_of input (O.faults out.old) (E.faults err.old) (T.faults tree.old)))
+    ensures { (drawn : Drawn) (input : ℕ) → EndsSo fault
+        (point_of shell.old session.old (T.state tree.old) (seen_of drawn (O.taken out.old) (E.taken err.old)) (faults_of input (O.faults out.old) (E.faults err.old) (T.faults tree.old)))
         result
-        (point_of shell.new session.new (T.state tree.new) (seen_of left (O.taken out.new) (E.taken err.new)) (faults_of input (O.faults out.new) (E.faults err.new) (T.faults tree.new))) }
+        (point_of shell.new session.new (T.state tree.new) (seen_of drawn (O.taken out.new) (E.taken err.new)) (faults_of input (O.faults out.new) (E.faults err.new) (T.faults tree.new))) }
 {
     match fault {
         ExpandFault::Unset(name, text) => {
@@ -139,16 +140,57 @@ fn end_told<T: Tree, O: Sink, E: Sink>(
     err: &mut E,
 ) -> How
     requires sound { IsSound session.old (T.state tree.old) }
-    ensures { (text : List ℕ) → IfOk line (λ line. line.items ≡ text) → (left : Option (List ℕ)) (input : ℕ) → Evaluates (λ expansions. ends_told text)
-        (point_of shell.old session.old (T.state tree.old) (seen_of left (O.taken out.old) (E.taken err.old)) (faults_of input (O.faults out.old) (E.faults err.old) (T.faults tree.old)))
+    ensures { (text : List ℕ) → IfOk line (λ line. line.items ≡ text) → (drawn : Drawn) (input : ℕ) → Evaluates (λ expansions. ends_told text)
+        (point_of shell.old session.old (T.state tree.old) (seen_of drawn (O.taken out.old) (E.taken err.old)) (faults_of input (O.faults out.old) (E.faults err.old) (T.faults tree.old)))
         result
-        (point_of shell.new session.new (T.state tree.new) (seen_of left (O.taken out.new) (E.taken err.new)) (faults_of input (O.faults out.new) (E.faults err.new) (T.faults tree.new))) }
+        (point_of shell.new session.new (T.state tree.new) (seen_of drawn (O.taken out.new) (E.taken err.new)) (faults_of input (O.faults out.new) (E.faults err.new) (T.faults tree.new))) }
 {
     let Ok(line) = line else {
         return How::Memory;
     };
     let how = tell(line.as_slice(), session, tree, out, err);
     leave(how, Flow::Exit, 1, shell)
+}
+
+/// Expands the words of redirections, from the left. Where one has a fault, the shell ends or the run is refused, and the fault is told.
+pub(crate) fn expand_targets<T: Tree, O: Sink, E: Sink>(
+    alloc: Global,
+    redirs: &[Redir],
+    shell: &mut Shell,
+    session: &mut Session,
+    tree: &mut T,
+    out: &mut O,
+    err: &mut E,
+) -> Result<Vec<Target>, How>
+    requires sound { IsSound session.old (T.state tree.old) }
+    ensures ok { IfOk result (λ targets. (drawn : Drawn) (input : ℕ) →
+        PassesOn (λ expansions. with_targets expansions (map redir_tree redirs.now))
+        (point_of shell.old session.old (T.state tree.old) (seen_of drawn (O.taken out.old) (E.taken err.old)) (faults_of input (O.faults out.old) (E.faults err.old) (T.faults tree.old)))
+        targets.items
+        (point_of shell.new session.new (T.state tree.new) (seen_of drawn (O.taken out.new) (E.taken err.new)) (faults_of input (O.faults out.new) (E.faults err.new) (T.faults tree.new)))) }
+    ensures err { IfErr result (λ how. (drawn : Drawn) (input : ℕ) →
+        StopsAt (λ expansions. with_targets expansions (map redir_tree redirs.now))
+        (point_of shell.old session.old (T.state tree.old) (seen_of drawn (O.taken out.old) (E.taken err.old)) (faults_of input (O.faults out.old) (E.faults err.old) (T.faults tree.old)))
+        how
+        (point_of shell.new session.new (T.state tree.new) (seen_of drawn (O.taken out.new) (E.taken err.new)) (faults_of input (O.faults out.new) (E.faults err.new) (T.faults tree.new)))) }
+    ensures session { IfOk result (λ _. session.new ≡ session.old) }
+    ensures state { IfOk result (λ _. T.state tree.new ≡ T.state tree.old) }
+{
+    let mut targets = Vec::new(alloc);
+    for redir in redirs {
+        let text = match text_of(alloc, &redir.word, shell) {
+            Ok(text) => Text::from_vec(text),
+            Err(fault) => return Err(stop_at(alloc, fault, shell, session, tree, out, err)),
+        };
+        let Ok(()) = targets.push(Target {
+            number: redir.number,
+            how: redir.how,
+            text,
+        }) else {
+            return Err(How::Memory);
+        };
+    }
+    Ok(targets)
 }
 
 /// Does assignments, from the left. Where a word has a fault, the shell ends or the run is refused, and the fault is told.
@@ -162,16 +204,16 @@ pub(crate) fn assign_all<T: Tree, O: Sink, E: Sink>(
     err: &mut E,
 ) -> Result<(), How>
     requires sound { IsSound session.old (T.state tree.old) }
-    ensures ok { OnOk result ((left : Option (List ℕ)) (input : ℕ) →
+    ensures ok { OnOk result ((drawn : Drawn) (input : ℕ) →
         PassesOn (λ expansions next. assigning expansions (map assign_tree assigns.now) (next (tt {0})))
-        (point_of shell.old session.old (T.state tree.old) (seen_of left (O.taken out.old) (E.taken err.old)) (faults_of input (O.faults out.old) (E.faults err.old) (T.faults tree.old)))
+        (point_of shell.old session.old (T.state tree.old) (seen_of drawn (O.taken out.old) (E.taken err.old)) (faults_of input (O.faults out.old) (E.faults err.old) (T.faults tree.old)))
         (tt {0})
-        (point_of shell.new session.new (T.state tree.new) (seen_of left (O.taken out.new) (E.taken err.new)) (faults_of input (O.faults out.new) (E.faults err.new) (T.faults tree.new)))) }
-    ensures err { IfErr result (λ how. (left : Option (List ℕ)) (input : ℕ) →
+        (point_of shell.new session.new (T.state tree.new) (seen_of drawn (O.taken out.new) (E.taken err.new)) (faults_of input (O.faults out.new) (E.faults err.new) (T.faults tree.new)))) }
+    ensures err { IfErr result (λ how. (drawn : Drawn) (input : ℕ) →
         StopsAt (λ expansions next. assigning expansions (map assign_tree assigns.now) (next (tt {0})))
-        (point_of shell.old session.old (T.state tree.old) (seen_of left (O.taken out.old) (E.taken err.old)) (faults_of input (O.faults out.old) (E.faults err.old) (T.faults tree.old)))
+        (point_of shell.old session.old (T.state tree.old) (seen_of drawn (O.taken out.old) (E.taken err.old)) (faults_of input (O.faults out.old) (E.faults err.old) (T.faults tree.old)))
         how
-        (point_of shell.new session.new (T.state tree.new) (seen_of left (O.taken out.new) (E.taken err.new)) (faults_of input (O.faults out.new) (E.faults err.new) (T.faults tree.new)))) }
+        (point_of shell.new session.new (T.state tree.new) (seen_of drawn (O.taken out.new) (E.taken err.new)) (faults_of input (O.faults out.new) (E.faults err.new) (T.faults tree.new)))) }
     ensures session { OnOk result (session.new ≡ session.old) }
     ensures state { OnOk result (T.state tree.new ≡ T.state tree.old) }
 {

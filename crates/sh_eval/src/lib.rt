@@ -7,9 +7,8 @@
 //! `specs/Contract.antt` is the one clause of every function that evaluates: the state that is meant, or where it stopped, output and
 //! errors grown by prefixes of what is meant; and why. `run_script` evaluates a whole script; `specs/Scripts.antt` says what it leaves.
 //!
-//! Lists, pipelines, groups, subshells, `if`, loops, command substitutions and simple commands are evaluated. A command with a redirection
-//! wants memory so far (`redirections`, `busy` and `skipping` have what it will call), and a utility is refused as NotBuilt. The program
-//! doesn't call the crate yet.
+//! Lists, pipelines, groups, subshells, `if`, loops, command substitutions, redirections and simple commands are evaluated. A utility is
+//! refused as NotBuilt so far, and the program doesn't call the crate yet.
 #![tactic(auto)]
 
 mod builtins;
@@ -22,6 +21,7 @@ mod leading;
 mod lines;
 mod lists;
 mod newlines;
+mod opening;
 mod outcomes;
 mod reading;
 mod redirections;

@@ -1,20 +1,21 @@
 //! The evaluation of lists, pipelines and compound commands.
-ghost use Rattle.std.specs.Prelude.{◌≡◌, length};
+ghost use Rattle.std.specs.Prelude.{◌≡◌, length, None};
 ghost use Rattle.ps_lines.specs.Texts.{texts_of};
 ghost use Rattle.sh_tree.specs.Views.{list_tree, items_tree, and_or_tree, joined_tree, pipeline_tree, stages_tree, command_tree};
 ghost use Rattle.sh_tree.specs.Views.{simple_tree, subs_tree};
 ghost use Rattle.sh_tree.specs.declared.commands.Command.TheViews.{out-Tail};
 ghost use Rattle.sh_eval.specs.Commands.{all_turns, in_loop, joined_by, noted, subshell, staged, first_stage, middle_stage, last_stage, some_command, substitution};
 ghost use Rattle.sh_eval.specs.Inner.Bodies.{body_means, round_means, rounds_mean, subs_begun, turn_means};
-ghost use Rattle.sh_eval.specs.Contract.{Evaluates, IsSound, point_of, seen_of, faults_of};
+ghost use Rattle.sh_eval.specs.Contract.{Evaluates, IsSound, drawn_of, faults_of, point_of, seen_of};
 ghost use Rattle.sh_eval.specs.Meaning.{has_item, list_means, and_or_means, joined_means, pipeline_means, stages_means, command_means, simple_means, subs_mean};
 ghost use Rattle.sh_eval.specs.Table.{pages};
 
 use crate::expanding::expand_words;
 use crate::flows::Flow;
+use crate::opening::{close, open_tail};
 use crate::outcomes::{
-    How, Played, Position, goes_on, goes_round, has_command, is_bare, joins, leave_condition,
-    left_by, negate, note_body, position_of, settled,
+    How, Played, Position, goes_on, goes_round, has_command, joins, leave_condition, left_by,
+    negate, note_body, position_of, settled,
 };
 use crate::refusals::Refusal;
 use crate::session::Session;
@@ -22,15 +23,13 @@ use crate::shell::Shell;
 use crate::simple::run_simple;
 use ps_world::{Sink, Source, Tree};
 use sh_tree::{AndOr, Command, Join, List, Pipeline, Simple, Tail};
-use std::alloc::Global;
 
 /// The most turns of a run.
 const MAX_TURNS: u64 = 1_000_000;
 
 /// Evaluates a list.
 #[cycle(evaluation)]
-pub(crate) fn eval_list<T: Tree, I: Source, O: Sink, E: Sink>(
-    alloc: Global,
+pub(crate) fn eval_list<T: Tree, I: Source + Send, O: Sink + Send, E: Sink>(
     list: &List,
     shell: &mut Shell,
     session: &mut Session,
@@ -41,28 +40,18 @@ pub(crate) fn eval_list<T: Tree, I: Source, O: Sink, E: Sink>(
 ) -> Played<I, O>
     requires sound { IsSound session.old (T.state tree.old) }
     ensures { Evaluates (λ expansions. list_means expansions pages (list_tree list.now))
-        (point_of shell.old session.old (T.state tree.old) (seen_of (I.left input) (O.taken out) (E.taken err.old))
+        (point_of shell.old session.old (T.state tree.old) (seen_of (drawn_of (I.left input) None) (O.taken out) (E.taken err.old))
         (faults_of (I.faults input) (O.faults out) (E.faults err.old) (T.faults tree.old)))
         result.how
-        (point_of shell.new session.new (T.state tree.new) (seen_of (I.left result.input) (O.taken result.out) (E.taken err.new))
+        (point_of shell.new session.new (T.state tree.new) (seen_of (drawn_of (I.left result.input) None) (O.taken result.out) (E.taken err.new))
         (faults_of (I.faults result.input) (O.faults result.out) (E.faults err.new) (T.faults tree.new))) }
 {
-    eval_items(
-        alloc,
-        list.items.as_slice(),
-        shell,
-        session,
-        tree,
-        input,
-        out,
-        err,
-    )
+    eval_items(list.items.as_slice(), shell, session, tree, input, out, err)
 }
 
 /// Evaluates and-or lists, one behind the other.
 #[cycle(evaluation)]
-fn eval_items<T: Tree, I: Source, O: Sink, E: Sink>(
-    alloc: Global,
+fn eval_items<T: Tree, I: Source + Send, O: Sink + Send, E: Sink>(
     items: &[AndOr],
     shell: &mut Shell,
     session: &mut Session,
@@ -73,10 +62,10 @@ fn eval_items<T: Tree, I: Source, O: Sink, E: Sink>(
 ) -> Played<I, O>
     requires sound { IsSound session.old (T.state tree.old) }
     ensures { Evaluates (λ expansions. list_means expansions pages (items_tree items.now))
-        (point_of shell.old session.old (T.state tree.old) (seen_of (I.left input) (O.taken out) (E.taken err.old))
+        (point_of shell.old session.old (T.state tree.old) (seen_of (drawn_of (I.left input) None) (O.taken out) (E.taken err.old))
         (faults_of (I.faults input) (O.faults out) (E.faults err.old) (T.faults tree.old)))
         result.how
-        (point_of shell.new session.new (T.state tree.new) (seen_of (I.left result.input) (O.taken result.out) (E.taken err.new))
+        (point_of shell.new session.new (T.state tree.new) (seen_of (drawn_of (I.left result.input) None) (O.taken result.out) (E.taken err.new))
         (faults_of (I.faults result.input) (O.faults result.out) (E.faults err.new) (T.faults tree.new))) }
 {
     let mut input = input;
@@ -86,7 +75,7 @@ fn eval_items<T: Tree, I: Source, O: Sink, E: Sink>(
             how,
             input: left,
             out: sent,
-        } = eval_and_or(alloc, item, shell, session, tree, input, out, err);
+        } = eval_and_or(item, shell, session, tree, input, out, err);
         input = left;
         out = sent;
         if !goes_on(&how) {
@@ -102,8 +91,7 @@ fn eval_items<T: Tree, I: Source, O: Sink, E: Sink>(
 
 /// Evaluates an and-or list.
 #[cycle(evaluation)]
-fn eval_and_or<T: Tree, I: Source, O: Sink, E: Sink>(
-    alloc: Global,
+fn eval_and_or<T: Tree, I: Source + Send, O: Sink + Send, E: Sink>(
     item: &AndOr,
     shell: &mut Shell,
     session: &mut Session,
@@ -114,14 +102,13 @@ fn eval_and_or<T: Tree, I: Source, O: Sink, E: Sink>(
 ) -> Played<I, O>
     requires sound { IsSound session.old (T.state tree.old) }
     ensures { Evaluates (λ expansions. and_or_means expansions pages (and_or_tree item.now))
-        (point_of shell.old session.old (T.state tree.old) (seen_of (I.left input) (O.taken out) (E.taken err.old))
+        (point_of shell.old session.old (T.state tree.old) (seen_of (drawn_of (I.left input) None) (O.taken out) (E.taken err.old))
         (faults_of (I.faults input) (O.faults out) (E.faults err.old) (T.faults tree.old)))
         result.how
-        (point_of shell.new session.new (T.state tree.new) (seen_of (I.left result.input) (O.taken result.out) (E.taken err.new))
+        (point_of shell.new session.new (T.state tree.new) (seen_of (drawn_of (I.left result.input) None) (O.taken result.out) (E.taken err.new))
         (faults_of (I.faults result.input) (O.faults result.out) (E.faults err.new) (T.faults tree.new))) }
 {
     let Played { how, input, out } = eval_pipeline(
-        alloc,
         &item.first,
         shell,
         session,
@@ -133,22 +120,12 @@ fn eval_and_or<T: Tree, I: Source, O: Sink, E: Sink>(
     if !goes_on(&how) {
         return Played { how, input, out };
     }
-    eval_joined(
-        alloc,
-        item.rest.as_slice(),
-        shell,
-        session,
-        tree,
-        input,
-        out,
-        err,
-    )
+    eval_joined(item.rest.as_slice(), shell, session, tree, input, out, err)
 }
 
 /// Evaluates the pipelines behind the first of an and-or list.
 #[cycle(evaluation)]
-fn eval_joined<T: Tree, I: Source, O: Sink, E: Sink>(
-    alloc: Global,
+fn eval_joined<T: Tree, I: Source + Send, O: Sink + Send, E: Sink>(
     rest: &[(Join, Pipeline)],
     shell: &mut Shell,
     session: &mut Session,
@@ -159,10 +136,10 @@ fn eval_joined<T: Tree, I: Source, O: Sink, E: Sink>(
 ) -> Played<I, O>
     requires sound { IsSound session.old (T.state tree.old) }
     ensures { Evaluates (λ expansions. joined_means expansions pages (joined_tree rest.now))
-        (point_of shell.old session.old (T.state tree.old) (seen_of (I.left input) (O.taken out) (E.taken err.old))
+        (point_of shell.old session.old (T.state tree.old) (seen_of (drawn_of (I.left input) None) (O.taken out) (E.taken err.old))
         (faults_of (I.faults input) (O.faults out) (E.faults err.old) (T.faults tree.old)))
         result.how
-        (point_of shell.new session.new (T.state tree.new) (seen_of (I.left result.input) (O.taken result.out) (E.taken err.new))
+        (point_of shell.new session.new (T.state tree.new) (seen_of (drawn_of (I.left result.input) None) (O.taken result.out) (E.taken err.new))
         (faults_of (I.faults result.input) (O.faults result.out) (E.faults err.new) (T.faults tree.new))) }
 {
     let mut input = input;
@@ -172,7 +149,7 @@ fn eval_joined<T: Tree, I: Source, O: Sink, E: Sink>(
             how,
             input: left,
             out: sent,
-        } = eval_next(alloc, *join, next, shell, session, tree, input, out, err);
+        } = eval_next(*join, next, shell, session, tree, input, out, err);
         input = left;
         out = sent;
         if !goes_on(&how) {
@@ -188,8 +165,7 @@ fn eval_joined<T: Tree, I: Source, O: Sink, E: Sink>(
 
 /// Evaluates a pipeline where the operator before it has it run.
 #[cycle(evaluation)]
-fn eval_next<T: Tree, I: Source, O: Sink, E: Sink>(
-    alloc: Global,
+fn eval_next<T: Tree, I: Source + Send, O: Sink + Send, E: Sink>(
     join: Join,
     next: &Pipeline,
     shell: &mut Shell,
@@ -201,14 +177,14 @@ fn eval_next<T: Tree, I: Source, O: Sink, E: Sink>(
 ) -> Played<I, O>
     requires sound { IsSound session.old (T.state tree.old) }
     ensures { Evaluates (λ expansions. joined_by join (pipeline_means expansions pages (pipeline_tree next.now)))
-        (point_of shell.old session.old (T.state tree.old) (seen_of (I.left input) (O.taken out) (E.taken err.old))
+        (point_of shell.old session.old (T.state tree.old) (seen_of (drawn_of (I.left input) None) (O.taken out) (E.taken err.old))
         (faults_of (I.faults input) (O.faults out) (E.faults err.old) (T.faults tree.old)))
         result.how
-        (point_of shell.new session.new (T.state tree.new) (seen_of (I.left result.input) (O.taken result.out) (E.taken err.new))
+        (point_of shell.new session.new (T.state tree.new) (seen_of (drawn_of (I.left result.input) None) (O.taken result.out) (E.taken err.new))
         (faults_of (I.faults result.input) (O.faults result.out) (E.faults err.new) (T.faults tree.new))) }
 {
     if joins(join, shell) {
-        return eval_pipeline(alloc, next, shell, session, tree, input, out, err);
+        return eval_pipeline(next, shell, session, tree, input, out, err);
     }
     Played {
         how: How::Gone(Flow::On),
@@ -219,8 +195,7 @@ fn eval_next<T: Tree, I: Source, O: Sink, E: Sink>(
 
 /// Evaluates a pipeline.
 #[cycle(evaluation)]
-fn eval_pipeline<T: Tree, I: Source, O: Sink, E: Sink>(
-    alloc: Global,
+fn eval_pipeline<T: Tree, I: Source + Send, O: Sink + Send, E: Sink>(
     pipeline: &Pipeline,
     shell: &mut Shell,
     session: &mut Session,
@@ -231,14 +206,13 @@ fn eval_pipeline<T: Tree, I: Source, O: Sink, E: Sink>(
 ) -> Played<I, O>
     requires sound { IsSound session.old (T.state tree.old) }
     ensures { Evaluates (λ expansions. pipeline_means expansions pages (pipeline_tree pipeline.now))
-        (point_of shell.old session.old (T.state tree.old) (seen_of (I.left input) (O.taken out) (E.taken err.old))
+        (point_of shell.old session.old (T.state tree.old) (seen_of (drawn_of (I.left input) None) (O.taken out) (E.taken err.old))
         (faults_of (I.faults input) (O.faults out) (E.faults err.old) (T.faults tree.old)))
         result.how
-        (point_of shell.new session.new (T.state tree.new) (seen_of (I.left result.input) (O.taken result.out) (E.taken err.new))
+        (point_of shell.new session.new (T.state tree.new) (seen_of (drawn_of (I.left result.input) None) (O.taken result.out) (E.taken err.new))
         (faults_of (I.faults result.input) (O.faults result.out) (E.faults err.new) (T.faults tree.new))) }
 {
     let Played { how, input, out } = eval_stages(
-        alloc,
         pipeline.stages.as_slice(),
         shell,
         session,
@@ -260,8 +234,7 @@ fn eval_pipeline<T: Tree, I: Source, O: Sink, E: Sink>(
 
 /// Evaluates the commands of a pipeline: one alone in this shell, and each of several in a subshell.
 #[cycle(evaluation)]
-fn eval_stages<T: Tree, I: Source, O: Sink, E: Sink>(
-    alloc: Global,
+fn eval_stages<T: Tree, I: Source + Send, O: Sink + Send, E: Sink>(
     stages: &[Command],
     shell: &mut Shell,
     session: &mut Session,
@@ -272,22 +245,21 @@ fn eval_stages<T: Tree, I: Source, O: Sink, E: Sink>(
 ) -> Played<I, O>
     requires sound { IsSound session.old (T.state tree.old) }
     ensures { Evaluates (λ expansions. stages_means expansions pages (stages_tree stages.now))
-        (point_of shell.old session.old (T.state tree.old) (seen_of (I.left input) (O.taken out) (E.taken err.old))
+        (point_of shell.old session.old (T.state tree.old) (seen_of (drawn_of (I.left input) None) (O.taken out) (E.taken err.old))
         (faults_of (I.faults input) (O.faults out) (E.faults err.old) (T.faults tree.old)))
         result.how
-        (point_of shell.new session.new (T.state tree.new) (seen_of (I.left result.input) (O.taken result.out) (E.taken err.new))
+        (point_of shell.new session.new (T.state tree.new) (seen_of (drawn_of (I.left result.input) None) (O.taken result.out) (E.taken err.new))
         (faults_of (I.faults result.input) (O.faults result.out) (E.faults err.new) (T.faults tree.new))) }
 {
     match stages {
-        [only] => eval_command(alloc, only, shell, session, tree, input, out, err),
-        _ => eval_several(alloc, stages, shell, session, tree, input, out, err),
+        [only] => eval_command(only, shell, session, tree, input, out, err),
+        _ => eval_several(stages, shell, session, tree, input, out, err),
     }
 }
 
 /// Evaluates the several commands of a pipeline.
 #[cycle(evaluation)]
-fn eval_several<T: Tree, I: Source, O: Sink, E: Sink>(
-    alloc: Global,
+fn eval_several<T: Tree, I: Source + Send, O: Sink + Send, E: Sink>(
     stages: &[Command],
     shell: &mut Shell,
     session: &mut Session,
@@ -299,10 +271,10 @@ fn eval_several<T: Tree, I: Source, O: Sink, E: Sink>(
     requires several { length stages.now ≡ 1 → ⊥ }
     requires sound { IsSound session.old (T.state tree.old) }
     ensures { Evaluates (λ expansions. stages_means expansions pages (stages_tree stages.now))
-        (point_of shell.old session.old (T.state tree.old) (seen_of (I.left input) (O.taken out) (E.taken err.old))
+        (point_of shell.old session.old (T.state tree.old) (seen_of (drawn_of (I.left input) None) (O.taken out) (E.taken err.old))
         (faults_of (I.faults input) (O.faults out) (E.faults err.old) (T.faults tree.old)))
         result.how
-        (point_of shell.new session.new (T.state tree.new) (seen_of (I.left result.input) (O.taken result.out) (E.taken err.new))
+        (point_of shell.new session.new (T.state tree.new) (seen_of (drawn_of (I.left result.input) None) (O.taken result.out) (E.taken err.new))
         (faults_of (I.faults result.input) (O.faults result.out) (E.faults err.new) (T.faults tree.new))) }
 {
     let mut input = input;
@@ -315,9 +287,7 @@ fn eval_several<T: Tree, I: Source, O: Sink, E: Sink>(
             how,
             input: left,
             out: sent,
-        } = eval_stage(
-            alloc, position, stage, shell, session, tree, input, out, err,
-        );
+        } = eval_stage(position, stage, shell, session, tree, input, out, err);
         input = left;
         out = sent;
         if !goes_on(&how) {
@@ -333,8 +303,7 @@ fn eval_several<T: Tree, I: Source, O: Sink, E: Sink>(
 
 /// Evaluates one of the several commands of a pipeline.
 #[cycle(evaluation)]
-fn eval_stage<T: Tree, I: Source, O: Sink, E: Sink>(
-    alloc: Global,
+fn eval_stage<T: Tree, I: Source + Send, O: Sink + Send, E: Sink>(
     position: Position,
     command: &Command,
     shell: &mut Shell,
@@ -346,25 +315,22 @@ fn eval_stage<T: Tree, I: Source, O: Sink, E: Sink>(
 ) -> Played<I, O>
     requires sound { IsSound session.old (T.state tree.old) }
     ensures { Evaluates (λ expansions. staged position (command_means expansions pages (command_tree command.now)))
-        (point_of shell.old session.old (T.state tree.old) (seen_of (I.left input) (O.taken out) (E.taken err.old))
+        (point_of shell.old session.old (T.state tree.old) (seen_of (drawn_of (I.left input) None) (O.taken out) (E.taken err.old))
         (faults_of (I.faults input) (O.faults out) (E.faults err.old) (T.faults tree.old)))
         result.how
-        (point_of shell.new session.new (T.state tree.new) (seen_of (I.left result.input) (O.taken result.out) (E.taken err.new))
+        (point_of shell.new session.new (T.state tree.new) (seen_of (drawn_of (I.left result.input) None) (O.taken result.out) (E.taken err.new))
         (faults_of (I.faults result.input) (O.faults result.out) (E.faults err.new) (T.faults tree.new))) }
 {
     match position {
-        Position::First => eval_first_stage(alloc, command, shell, session, tree, input, out, err),
-        Position::Middle => eval_middle_stage(
-            alloc, command, shell, session, tree, input, out, err,
-        ),
-        Position::Last => eval_last_stage(alloc, command, shell, session, tree, input, out, err),
+        Position::First => eval_first_stage(command, shell, session, tree, input, out, err),
+        Position::Middle => eval_middle_stage(command, shell, session, tree, input, out, err),
+        Position::Last => eval_last_stage(command, shell, session, tree, input, out, err),
     }
 }
 
 /// Evaluates the first command of a pipeline of several: its output is gathered for the next.
 #[cycle(evaluation)]
-fn eval_first_stage<T: Tree, I: Source, O: Sink, E: Sink>(
-    alloc: Global,
+fn eval_first_stage<T: Tree, I: Source + Send, O: Sink + Send, E: Sink>(
     command: &Command,
     shell: &mut Shell,
     session: &mut Session,
@@ -375,12 +341,13 @@ fn eval_first_stage<T: Tree, I: Source, O: Sink, E: Sink>(
 ) -> Played<I, O>
     requires sound { IsSound session.old (T.state tree.old) }
     ensures { Evaluates (λ expansions. first_stage (command_means expansions pages (command_tree command.now)))
-        (point_of shell.old session.old (T.state tree.old) (seen_of (I.left input) (O.taken out) (E.taken err.old))
+        (point_of shell.old session.old (T.state tree.old) (seen_of (drawn_of (I.left input) None) (O.taken out) (E.taken err.old))
         (faults_of (I.faults input) (O.faults out) (E.faults err.old) (T.faults tree.old)))
         result.how
-        (point_of shell.new session.new (T.state tree.new) (seen_of (I.left result.input) (O.taken result.out) (E.taken err.new))
+        (point_of shell.new session.new (T.state tree.new) (seen_of (drawn_of (I.left result.input) None) (O.taken result.out) (E.taken err.new))
         (faults_of (I.faults result.input) (O.faults result.out) (E.faults err.new) (T.faults tree.new))) }
 {
+    let alloc = session.alloc();
     let Ok(mut inner) = shell.inside(alloc) else {
         return Played {
             how: How::Memory,
@@ -396,7 +363,7 @@ fn eval_first_stage<T: Tree, I: Source, O: Sink, E: Sink>(
         };
     };
     let Played { how, input, out } = eval_command(
-        alloc, command, &mut inner, session, tree, input, out, err,
+        command, &mut inner, session, tree, input, out, err,
     );
     session.hand_on(alloc, to);
     Played {
@@ -408,8 +375,7 @@ fn eval_first_stage<T: Tree, I: Source, O: Sink, E: Sink>(
 
 /// Evaluates a command between two of a pipeline: it reads what the one before has written, and its output is gathered for the next.
 #[cycle(evaluation)]
-fn eval_middle_stage<T: Tree, I: Source, O: Sink, E: Sink>(
-    alloc: Global,
+fn eval_middle_stage<T: Tree, I: Source + Send, O: Sink + Send, E: Sink>(
     command: &Command,
     shell: &mut Shell,
     session: &mut Session,
@@ -420,12 +386,13 @@ fn eval_middle_stage<T: Tree, I: Source, O: Sink, E: Sink>(
 ) -> Played<I, O>
     requires sound { IsSound session.old (T.state tree.old) }
     ensures { Evaluates (λ expansions. middle_stage (command_means expansions pages (command_tree command.now)))
-        (point_of shell.old session.old (T.state tree.old) (seen_of (I.left input) (O.taken out) (E.taken err.old))
+        (point_of shell.old session.old (T.state tree.old) (seen_of (drawn_of (I.left input) None) (O.taken out) (E.taken err.old))
         (faults_of (I.faults input) (O.faults out) (E.faults err.old) (T.faults tree.old)))
         result.how
-        (point_of shell.new session.new (T.state tree.new) (seen_of (I.left result.input) (O.taken result.out) (E.taken err.new))
+        (point_of shell.new session.new (T.state tree.new) (seen_of (drawn_of (I.left result.input) None) (O.taken result.out) (E.taken err.new))
         (faults_of (I.faults result.input) (O.faults result.out) (E.faults err.new) (T.faults tree.new))) }
 {
+    let alloc = session.alloc();
     let Ok(mut inner) = shell.inside(alloc) else {
         return Played {
             how: How::Memory,
@@ -442,7 +409,7 @@ fn eval_middle_stage<T: Tree, I: Source, O: Sink, E: Sink>(
         };
     };
     let Played { how, input, out } = eval_command(
-        alloc, command, &mut inner, session, tree, input, out, err,
+        command, &mut inner, session, tree, input, out, err,
     );
     session.hand_on(alloc, to);
     session.read_from(from);
@@ -455,8 +422,7 @@ fn eval_middle_stage<T: Tree, I: Source, O: Sink, E: Sink>(
 
 /// Evaluates the last command of a pipeline of several: it reads what the one before has written.
 #[cycle(evaluation)]
-fn eval_last_stage<T: Tree, I: Source, O: Sink, E: Sink>(
-    alloc: Global,
+fn eval_last_stage<T: Tree, I: Source + Send, O: Sink + Send, E: Sink>(
     command: &Command,
     shell: &mut Shell,
     session: &mut Session,
@@ -467,12 +433,13 @@ fn eval_last_stage<T: Tree, I: Source, O: Sink, E: Sink>(
 ) -> Played<I, O>
     requires sound { IsSound session.old (T.state tree.old) }
     ensures { Evaluates (λ expansions. last_stage (command_means expansions pages (command_tree command.now)))
-        (point_of shell.old session.old (T.state tree.old) (seen_of (I.left input) (O.taken out) (E.taken err.old))
+        (point_of shell.old session.old (T.state tree.old) (seen_of (drawn_of (I.left input) None) (O.taken out) (E.taken err.old))
         (faults_of (I.faults input) (O.faults out) (E.faults err.old) (T.faults tree.old)))
         result.how
-        (point_of shell.new session.new (T.state tree.new) (seen_of (I.left result.input) (O.taken result.out) (E.taken err.new))
+        (point_of shell.new session.new (T.state tree.new) (seen_of (drawn_of (I.left result.input) None) (O.taken result.out) (E.taken err.new))
         (faults_of (I.faults result.input) (O.faults result.out) (E.faults err.new) (T.faults tree.new))) }
 {
+    let alloc = session.alloc();
     let Ok(mut inner) = shell.inside(alloc) else {
         return Played {
             how: How::Memory,
@@ -482,7 +449,7 @@ fn eval_last_stage<T: Tree, I: Source, O: Sink, E: Sink>(
     };
     let from = session.read_piped(alloc);
     let Played { how, input, out } = eval_command(
-        alloc, command, &mut inner, session, tree, input, out, err,
+        command, &mut inner, session, tree, input, out, err,
     );
     session.read_from(from);
     shell.status = inner.status;
@@ -495,8 +462,7 @@ fn eval_last_stage<T: Tree, I: Source, O: Sink, E: Sink>(
 
 /// Evaluates a command.
 #[cycle(evaluation)]
-fn eval_command<T: Tree, I: Source, O: Sink, E: Sink>(
-    alloc: Global,
+fn eval_command<T: Tree, I: Source + Send, O: Sink + Send, E: Sink>(
     command: &Command,
     shell: &mut Shell,
     session: &mut Session,
@@ -507,44 +473,50 @@ fn eval_command<T: Tree, I: Source, O: Sink, E: Sink>(
 ) -> Played<I, O>
     requires sound { IsSound session.old (T.state tree.old) }
     ensures { Evaluates (λ expansions. command_means expansions pages (command_tree command.now))
-        (point_of shell.old session.old (T.state tree.old) (seen_of (I.left input) (O.taken out) (E.taken err.old))
+        (point_of shell.old session.old (T.state tree.old) (seen_of (drawn_of (I.left input) None) (O.taken out) (E.taken err.old))
         (faults_of (I.faults input) (O.faults out) (E.faults err.old) (T.faults tree.old)))
         result.how
-        (point_of shell.new session.new (T.state tree.new) (seen_of (I.left result.input) (O.taken result.out) (E.taken err.new))
+        (point_of shell.new session.new (T.state tree.new) (seen_of (drawn_of (I.left result.input) None) (O.taken result.out) (E.taken err.new))
         (faults_of (I.faults result.input) (O.faults result.out) (E.faults err.new) (T.faults tree.new))) }
 {
+    let alloc = session.alloc();
     match command {
-        Command::Simple(simple) => {
-            eval_simple(alloc, simple, shell, session, tree, input, out, err)
-        }
+        Command::Simple(simple) => { eval_simple(simple, shell, session, tree, input, out, err) }
         Command::Group(_, tail)
         | Command::Subshell(_, tail)
         | Command::If(_, _, tail)
         | Command::While(_, _, tail)
         | Command::Until(_, _, tail)
         | Command::For(_, _, _, tail) => {
-            let Played { how, input, out } = eval_tail(
-                alloc, tail, shell, session, tree, input, out, err,
-            );
+            let Played { how, input, out } = eval_tail(tail, shell, session, tree, input, out, err);
             if !goes_on(&how) {
                 return Played { how, input, out };
             }
-            if !is_bare(tail) {
-                return Played {
-                    how: How::Memory,
-                    input,
-                    out,
-                };
-            }
-            eval_body(alloc, command, shell, session, tree, input, out, err)
+            let mut out = out;
+            let before = match open_tail(
+                alloc,
+                tail.redirs.as_slice(),
+                shell,
+                session,
+                tree,
+                &mut out,
+                err,
+            ) {
+                Ok(before) => before,
+                Err(how) => return Played { how, input, out },
+            };
+            let Played { how, input, out } = eval_body(
+                command, shell, session, tree, input, out, err,
+            );
+            close(before, session);
+            Played { how, input, out }
         }
     }
 }
 
 /// Evaluates the substitutions of the redirections behind a compound command.
 #[cycle(evaluation)]
-fn eval_tail<T: Tree, I: Source, O: Sink, E: Sink>(
-    alloc: Global,
+fn eval_tail<T: Tree, I: Source + Send, O: Sink + Send, E: Sink>(
     tail: &Tail,
     shell: &mut Shell,
     session: &mut Session,
@@ -555,29 +527,20 @@ fn eval_tail<T: Tree, I: Source, O: Sink, E: Sink>(
 ) -> Played<I, O>
     requires sound { IsSound session.old (T.state tree.old) }
     ensures { Evaluates (λ expansions. subs_begun expansions pages (subs_tree (out-Tail tail.now).subs.items))
-        (point_of shell.old session.old (T.state tree.old) (seen_of (I.left input) (O.taken out) (E.taken err.old))
+        (point_of shell.old session.old (T.state tree.old) (seen_of (drawn_of (I.left input) None) (O.taken out) (E.taken err.old))
         (faults_of (I.faults input) (O.faults out) (E.faults err.old) (T.faults tree.old)))
         result.how
-        (point_of shell.new session.new (T.state tree.new) (seen_of (I.left result.input) (O.taken result.out) (E.taken err.new))
+        (point_of shell.new session.new (T.state tree.new) (seen_of (drawn_of (I.left result.input) None) (O.taken result.out) (E.taken err.new))
         (faults_of (I.faults result.input) (O.faults result.out) (E.faults err.new) (T.faults tree.new))) }
 {
+    let alloc = session.alloc();
     shell.begin_command(alloc);
-    eval_subs(
-        alloc,
-        tail.subs.as_slice(),
-        shell,
-        session,
-        tree,
-        input,
-        out,
-        err,
-    )
+    eval_subs(tail.subs.as_slice(), shell, session, tree, input, out, err)
 }
 
 /// Evaluates what is in a compound command, behind its redirections.
 #[cycle(evaluation)]
-fn eval_body<T: Tree, I: Source, O: Sink, E: Sink>(
-    alloc: Global,
+fn eval_body<T: Tree, I: Source + Send, O: Sink + Send, E: Sink>(
     command: &Command,
     shell: &mut Shell,
     session: &mut Session,
@@ -588,27 +551,19 @@ fn eval_body<T: Tree, I: Source, O: Sink, E: Sink>(
 ) -> Played<I, O>
     requires sound { IsSound session.old (T.state tree.old) }
     ensures { Evaluates (λ expansions. body_means expansions pages (command_tree command.now))
-        (point_of shell.old session.old (T.state tree.old) (seen_of (I.left input) (O.taken out) (E.taken err.old))
+        (point_of shell.old session.old (T.state tree.old) (seen_of (drawn_of (I.left input) None) (O.taken out) (E.taken err.old))
         (faults_of (I.faults input) (O.faults out) (E.faults err.old) (T.faults tree.old)))
         result.how
-        (point_of shell.new session.new (T.state tree.new) (seen_of (I.left result.input) (O.taken result.out) (E.taken err.new))
+        (point_of shell.new session.new (T.state tree.new) (seen_of (drawn_of (I.left result.input) None) (O.taken result.out) (E.taken err.new))
         (faults_of (I.faults result.input) (O.faults result.out) (E.faults err.new) (T.faults tree.new))) }
 {
     match command {
-        Command::Group(list, _) => eval_list(alloc, list, shell, session, tree, input, out, err),
-        Command::Subshell(list, _) => {
-            eval_subshell(alloc, list, shell, session, tree, input, out, err)
-        }
-        Command::If(_, _, _) => eval_if(alloc, command, shell, session, tree, input, out, err),
-        Command::While(_, _, _) => {
-            eval_while(alloc, command, shell, session, tree, input, out, err)
-        }
-        Command::Until(_, _, _) => {
-            eval_while(alloc, command, shell, session, tree, input, out, err)
-        }
-        Command::For(_, _, _, _) => {
-            eval_for(alloc, command, shell, session, tree, input, out, err)
-        }
+        Command::Group(list, _) => eval_list(list, shell, session, tree, input, out, err),
+        Command::Subshell(list, _) => { eval_subshell(list, shell, session, tree, input, out, err) }
+        Command::If(_, _, _) => eval_if(command, shell, session, tree, input, out, err),
+        Command::While(_, _, _) => { eval_while(command, shell, session, tree, input, out, err) }
+        Command::Until(_, _, _) => { eval_while(command, shell, session, tree, input, out, err) }
+        Command::For(_, _, _, _) => { eval_for(command, shell, session, tree, input, out, err) }
         Command::Simple(_) => Played {
             how: How::Memory,
             input,
@@ -619,8 +574,7 @@ fn eval_body<T: Tree, I: Source, O: Sink, E: Sink>(
 
 /// Evaluates what is in an `if`.
 #[cycle(evaluation)]
-fn eval_if<T: Tree, I: Source, O: Sink, E: Sink>(
-    alloc: Global,
+fn eval_if<T: Tree, I: Source + Send, O: Sink + Send, E: Sink>(
     command: &Command,
     shell: &mut Shell,
     session: &mut Session,
@@ -631,10 +585,10 @@ fn eval_if<T: Tree, I: Source, O: Sink, E: Sink>(
 ) -> Played<I, O>
     requires sound { IsSound session.old (T.state tree.old) }
     ensures { Evaluates (λ expansions. body_means expansions pages (command_tree command.now))
-        (point_of shell.old session.old (T.state tree.old) (seen_of (I.left input) (O.taken out) (E.taken err.old))
+        (point_of shell.old session.old (T.state tree.old) (seen_of (drawn_of (I.left input) None) (O.taken out) (E.taken err.old))
         (faults_of (I.faults input) (O.faults out) (E.faults err.old) (T.faults tree.old)))
         result.how
-        (point_of shell.new session.new (T.state tree.new) (seen_of (I.left result.input) (O.taken result.out) (E.taken err.new))
+        (point_of shell.new session.new (T.state tree.new) (seen_of (drawn_of (I.left result.input) None) (O.taken result.out) (E.taken err.new))
         (faults_of (I.faults result.input) (O.faults result.out) (E.faults err.new) (T.faults tree.new))) }
 {
     let Command::If(branches, otherwise, _) = command else {
@@ -646,23 +600,23 @@ fn eval_if<T: Tree, I: Source, O: Sink, E: Sink>(
     };
     let mut input = input;
     let mut out = out;
-    for (condition, body) in branches.as_slice() {
+    for branch in branches.as_slice() {
         let Played {
             how,
             input: left,
             out: sent,
-        } = eval_list(alloc, condition, shell, session, tree, input, out, err);
+        } = eval_condition(branch, shell, session, tree, input, out, err);
         input = left;
         out = sent;
         if !goes_on(&how) {
             return Played { how, input, out };
         }
         if shell.status == 0 {
-            return eval_list(alloc, body, shell, session, tree, input, out, err);
+            return eval_branch(branch, shell, session, tree, input, out, err);
         }
     }
     match otherwise {
-        Some(list) => eval_list(alloc, list, shell, session, tree, input, out, err),
+        Some(list) => eval_list(list, shell, session, tree, input, out, err),
         None => {
             shell.status = 0;
             Played {
@@ -674,10 +628,53 @@ fn eval_if<T: Tree, I: Source, O: Sink, E: Sink>(
     }
 }
 
+/// Evaluates the condition of a branch.
+#[cycle(evaluation)]
+fn eval_condition<T: Tree, I: Source + Send, O: Sink + Send, E: Sink>(
+    branch: &(List, List),
+    shell: &mut Shell,
+    session: &mut Session,
+    tree: &mut T,
+    input: I,
+    out: O,
+    err: &mut E,
+) -> Played<I, O>
+    requires sound { IsSound session.old (T.state tree.old) }
+    ensures { Evaluates (λ expansions. list_means expansions pages (list_tree branch.now.0))
+        (point_of shell.old session.old (T.state tree.old) (seen_of (drawn_of (I.left input) None) (O.taken out) (E.taken err.old))
+        (faults_of (I.faults input) (O.faults out) (E.faults err.old) (T.faults tree.old)))
+        result.how
+        (point_of shell.new session.new (T.state tree.new) (seen_of (drawn_of (I.left result.input) None) (O.taken result.out) (E.taken err.new))
+        (faults_of (I.faults result.input) (O.faults result.out) (E.faults err.new) (T.faults tree.new))) }
+{
+    eval_list(&branch.0, shell, session, tree, input, out, err)
+}
+
+/// Evaluates the commands of a branch.
+#[cycle(evaluation)]
+fn eval_branch<T: Tree, I: Source + Send, O: Sink + Send, E: Sink>(
+    branch: &(List, List),
+    shell: &mut Shell,
+    session: &mut Session,
+    tree: &mut T,
+    input: I,
+    out: O,
+    err: &mut E,
+) -> Played<I, O>
+    requires sound { IsSound session.old (T.state tree.old) }
+    ensures { Evaluates (λ expansions. list_means expansions pages (list_tree branch.now.1))
+        (point_of shell.old session.old (T.state tree.old) (seen_of (drawn_of (I.left input) None) (O.taken out) (E.taken err.old))
+        (faults_of (I.faults input) (O.faults out) (E.faults err.old) (T.faults tree.old)))
+        result.how
+        (point_of shell.new session.new (T.state tree.new) (seen_of (drawn_of (I.left result.input) None) (O.taken result.out) (E.taken err.new))
+        (faults_of (I.faults result.input) (O.faults result.out) (E.faults err.new) (T.faults tree.new))) }
+{
+    eval_list(&branch.1, shell, session, tree, input, out, err)
+}
+
 /// Evaluates a simple command.
 #[cycle(evaluation)]
-fn eval_simple<T: Tree, I: Source, O: Sink, E: Sink>(
-    alloc: Global,
+fn eval_simple<T: Tree, I: Source + Send, O: Sink + Send, E: Sink>(
     simple: &Simple,
     shell: &mut Shell,
     session: &mut Session,
@@ -688,15 +685,15 @@ fn eval_simple<T: Tree, I: Source, O: Sink, E: Sink>(
 ) -> Played<I, O>
     requires sound { IsSound session.old (T.state tree.old) }
     ensures { Evaluates (λ expansions. simple_means expansions pages (simple_tree simple.now))
-        (point_of shell.old session.old (T.state tree.old) (seen_of (I.left input) (O.taken out) (E.taken err.old))
+        (point_of shell.old session.old (T.state tree.old) (seen_of (drawn_of (I.left input) None) (O.taken out) (E.taken err.old))
         (faults_of (I.faults input) (O.faults out) (E.faults err.old) (T.faults tree.old)))
         result.how
-        (point_of shell.new session.new (T.state tree.new) (seen_of (I.left result.input) (O.taken result.out) (E.taken err.new))
+        (point_of shell.new session.new (T.state tree.new) (seen_of (drawn_of (I.left result.input) None) (O.taken result.out) (E.taken err.new))
         (faults_of (I.faults result.input) (O.faults result.out) (E.faults err.new) (T.faults tree.new))) }
 {
+    let alloc = session.alloc();
     shell.begin_command(alloc);
     let Played { how, input, out } = eval_subs(
-        alloc,
         simple.subs.as_slice(),
         shell,
         session,
@@ -724,8 +721,7 @@ fn eval_simple<T: Tree, I: Source, O: Sink, E: Sink>(
 
 /// Evaluates command substitutions, in text order.
 #[cycle(evaluation)]
-fn eval_subs<T: Tree, I: Source, O: Sink, E: Sink>(
-    alloc: Global,
+fn eval_subs<T: Tree, I: Source + Send, O: Sink + Send, E: Sink>(
     subs: &[List],
     shell: &mut Shell,
     session: &mut Session,
@@ -736,10 +732,10 @@ fn eval_subs<T: Tree, I: Source, O: Sink, E: Sink>(
 ) -> Played<I, O>
     requires sound { IsSound session.old (T.state tree.old) }
     ensures { Evaluates (λ expansions. subs_mean expansions pages (subs_tree subs.now))
-        (point_of shell.old session.old (T.state tree.old) (seen_of (I.left input) (O.taken out) (E.taken err.old))
+        (point_of shell.old session.old (T.state tree.old) (seen_of (drawn_of (I.left input) None) (O.taken out) (E.taken err.old))
         (faults_of (I.faults input) (O.faults out) (E.faults err.old) (T.faults tree.old)))
         result.how
-        (point_of shell.new session.new (T.state tree.new) (seen_of (I.left result.input) (O.taken result.out) (E.taken err.new))
+        (point_of shell.new session.new (T.state tree.new) (seen_of (drawn_of (I.left result.input) None) (O.taken result.out) (E.taken err.new))
         (faults_of (I.faults result.input) (O.faults result.out) (E.faults err.new) (T.faults tree.new))) }
 {
     let mut input = input;
@@ -749,7 +745,7 @@ fn eval_subs<T: Tree, I: Source, O: Sink, E: Sink>(
             how,
             input: left,
             out: sent,
-        } = eval_substitution(alloc, list, shell, session, tree, input, out, err);
+        } = eval_substitution(list, shell, session, tree, input, out, err);
         input = left;
         out = sent;
         if !goes_on(&how) {
@@ -765,8 +761,7 @@ fn eval_subs<T: Tree, I: Source, O: Sink, E: Sink>(
 
 /// Evaluates a command substitution: its output is gathered in a pipe, and kept without the newlines at its end.
 #[cycle(evaluation)]
-fn eval_substitution<T: Tree, I: Source, O: Sink, E: Sink>(
-    alloc: Global,
+fn eval_substitution<T: Tree, I: Source + Send, O: Sink + Send, E: Sink>(
     list: &List,
     shell: &mut Shell,
     session: &mut Session,
@@ -777,12 +772,13 @@ fn eval_substitution<T: Tree, I: Source, O: Sink, E: Sink>(
 ) -> Played<I, O>
     requires sound { IsSound session.old (T.state tree.old) }
     ensures { Evaluates (λ expansions. substitution (some_command (has_item (list_tree list.now)) (list_means expansions pages (list_tree list.now))))
-        (point_of shell.old session.old (T.state tree.old) (seen_of (I.left input) (O.taken out) (E.taken err.old))
+        (point_of shell.old session.old (T.state tree.old) (seen_of (drawn_of (I.left input) None) (O.taken out) (E.taken err.old))
         (faults_of (I.faults input) (O.faults out) (E.faults err.old) (T.faults tree.old)))
         result.how
-        (point_of shell.new session.new (T.state tree.new) (seen_of (I.left result.input) (O.taken result.out) (E.taken err.new))
+        (point_of shell.new session.new (T.state tree.new) (seen_of (drawn_of (I.left result.input) None) (O.taken result.out) (E.taken err.new))
         (faults_of (I.faults result.input) (O.faults result.out) (E.faults err.new) (T.faults tree.new))) }
 {
+    let alloc = session.alloc();
     let Ok(mut inner) = shell.inside(alloc) else {
         return Played {
             how: How::Memory,
@@ -798,7 +794,7 @@ fn eval_substitution<T: Tree, I: Source, O: Sink, E: Sink>(
         };
     };
     let Played { how, input, out } = eval_substituted(
-        alloc, list, &mut inner, session, tree, input, out, err,
+        list, &mut inner, session, tree, input, out, err,
     );
     let text = session.close_pipe(alloc, to);
     let Ok(()) = shell.keep_text(alloc, text.as_slice(), inner.status) else {
@@ -817,8 +813,7 @@ fn eval_substitution<T: Tree, I: Source, O: Sink, E: Sink>(
 
 /// Evaluates the list of a command substitution, in its shell: one without a command succeeds.
 #[cycle(evaluation)]
-fn eval_substituted<T: Tree, I: Source, O: Sink, E: Sink>(
-    alloc: Global,
+fn eval_substituted<T: Tree, I: Source + Send, O: Sink + Send, E: Sink>(
     list: &List,
     shell: &mut Shell,
     session: &mut Session,
@@ -829,10 +824,10 @@ fn eval_substituted<T: Tree, I: Source, O: Sink, E: Sink>(
 ) -> Played<I, O>
     requires sound { IsSound session.old (T.state tree.old) }
     ensures { Evaluates (λ expansions. some_command (has_item (list_tree list.now)) (list_means expansions pages (list_tree list.now)))
-        (point_of shell.old session.old (T.state tree.old) (seen_of (I.left input) (O.taken out) (E.taken err.old))
+        (point_of shell.old session.old (T.state tree.old) (seen_of (drawn_of (I.left input) None) (O.taken out) (E.taken err.old))
         (faults_of (I.faults input) (O.faults out) (E.faults err.old) (T.faults tree.old)))
         result.how
-        (point_of shell.new session.new (T.state tree.new) (seen_of (I.left result.input) (O.taken result.out) (E.taken err.new))
+        (point_of shell.new session.new (T.state tree.new) (seen_of (drawn_of (I.left result.input) None) (O.taken result.out) (E.taken err.new))
         (faults_of (I.faults result.input) (O.faults result.out) (E.faults err.new) (T.faults tree.new))) }
 {
     if !has_command(list) {
@@ -843,13 +838,12 @@ fn eval_substituted<T: Tree, I: Source, O: Sink, E: Sink>(
             out,
         };
     }
-    eval_list(alloc, list, shell, session, tree, input, out, err)
+    eval_list(list, shell, session, tree, input, out, err)
 }
 
 /// Evaluates a `while` or an `until`.
 #[cycle(evaluation)]
-fn eval_while<T: Tree, I: Source, O: Sink, E: Sink>(
-    alloc: Global,
+fn eval_while<T: Tree, I: Source + Send, O: Sink + Send, E: Sink>(
     command: &Command,
     shell: &mut Shell,
     session: &mut Session,
@@ -860,10 +854,10 @@ fn eval_while<T: Tree, I: Source, O: Sink, E: Sink>(
 ) -> Played<I, O>
     requires sound { IsSound session.old (T.state tree.old) }
     ensures { Evaluates (λ expansions. in_loop (all_turns (turn_means expansions pages (command_tree command.now))))
-        (point_of shell.old session.old (T.state tree.old) (seen_of (I.left input) (O.taken out) (E.taken err.old))
+        (point_of shell.old session.old (T.state tree.old) (seen_of (drawn_of (I.left input) None) (O.taken out) (E.taken err.old))
         (faults_of (I.faults input) (O.faults out) (E.faults err.old) (T.faults tree.old)))
         result.how
-        (point_of shell.new session.new (T.state tree.new) (seen_of (I.left result.input) (O.taken result.out) (E.taken err.new))
+        (point_of shell.new session.new (T.state tree.new) (seen_of (drawn_of (I.left result.input) None) (O.taken result.out) (E.taken err.new))
         (faults_of (I.faults result.input) (O.faults result.out) (E.faults err.new) (T.faults tree.new))) }
 {
     let Some(around) = shell.enter_loop() else {
@@ -873,17 +867,14 @@ fn eval_while<T: Tree, I: Source, O: Sink, E: Sink>(
             out,
         };
     };
-    let Played { how, input, out } = eval_turns(
-        alloc, command, shell, session, tree, input, out, err,
-    );
+    let Played { how, input, out } = eval_turns(command, shell, session, tree, input, out, err);
     shell.leave_loop(around);
     Played { how, input, out }
 }
 
 /// Evaluates the turns of a `while` or an `until`, until one of them ends it, or all turns of the run are used.
 #[cycle(evaluation)]
-fn eval_turns<T: Tree, I: Source, O: Sink, E: Sink>(
-    alloc: Global,
+fn eval_turns<T: Tree, I: Source + Send, O: Sink + Send, E: Sink>(
     command: &Command,
     shell: &mut Shell,
     session: &mut Session,
@@ -894,10 +885,10 @@ fn eval_turns<T: Tree, I: Source, O: Sink, E: Sink>(
 ) -> Played<I, O>
     requires sound { IsSound session.old (T.state tree.old) }
     ensures { Evaluates (λ expansions. all_turns (turn_means expansions pages (command_tree command.now)))
-        (point_of shell.old session.old (T.state tree.old) (seen_of (I.left input) (O.taken out) (E.taken err.old))
+        (point_of shell.old session.old (T.state tree.old) (seen_of (drawn_of (I.left input) None) (O.taken out) (E.taken err.old))
         (faults_of (I.faults input) (O.faults out) (E.faults err.old) (T.faults tree.old)))
         result.how
-        (point_of shell.new session.new (T.state tree.new) (seen_of (I.left result.input) (O.taken result.out) (E.taken err.new))
+        (point_of shell.new session.new (T.state tree.new) (seen_of (drawn_of (I.left result.input) None) (O.taken result.out) (E.taken err.new))
         (faults_of (I.faults result.input) (O.faults result.out) (E.faults err.new) (T.faults tree.new))) }
 {
     let mut input = input;
@@ -908,7 +899,7 @@ fn eval_turns<T: Tree, I: Source, O: Sink, E: Sink>(
             how,
             input: left,
             out: sent,
-        } = eval_turn(alloc, command, shell, session, tree, input, out, err);
+        } = eval_turn(command, shell, session, tree, input, out, err);
         input = left;
         out = sent;
         if !goes_round(&how) {
@@ -928,8 +919,7 @@ fn eval_turns<T: Tree, I: Source, O: Sink, E: Sink>(
 
 /// Evaluates one turn of a `while` or an `until`.
 #[cycle(evaluation)]
-fn eval_turn<T: Tree, I: Source, O: Sink, E: Sink>(
-    alloc: Global,
+fn eval_turn<T: Tree, I: Source + Send, O: Sink + Send, E: Sink>(
     command: &Command,
     shell: &mut Shell,
     session: &mut Session,
@@ -940,18 +930,18 @@ fn eval_turn<T: Tree, I: Source, O: Sink, E: Sink>(
 ) -> Played<I, O>
     requires sound { IsSound session.old (T.state tree.old) }
     ensures { Evaluates (λ expansions. turn_means expansions pages (command_tree command.now))
-        (point_of shell.old session.old (T.state tree.old) (seen_of (I.left input) (O.taken out) (E.taken err.old))
+        (point_of shell.old session.old (T.state tree.old) (seen_of (drawn_of (I.left input) None) (O.taken out) (E.taken err.old))
         (faults_of (I.faults input) (O.faults out) (E.faults err.old) (T.faults tree.old)))
         result.how
-        (point_of shell.new session.new (T.state tree.new) (seen_of (I.left result.input) (O.taken result.out) (E.taken err.new))
+        (point_of shell.new session.new (T.state tree.new) (seen_of (drawn_of (I.left result.input) None) (O.taken result.out) (E.taken err.new))
         (faults_of (I.faults result.input) (O.faults result.out) (E.faults err.new) (T.faults tree.new))) }
 {
     match command {
         Command::While(_, _, _) => {
-            eval_while_turn(alloc, command, shell, session, tree, input, out, err)
+            eval_while_turn(command, shell, session, tree, input, out, err)
         }
         Command::Until(_, _, _) => {
-            eval_until_turn(alloc, command, shell, session, tree, input, out, err)
+            eval_until_turn(command, shell, session, tree, input, out, err)
         }
         _ => Played {
             how: How::Memory,
@@ -963,8 +953,7 @@ fn eval_turn<T: Tree, I: Source, O: Sink, E: Sink>(
 
 /// Evaluates one turn of a `while`: its condition, and where that holds its body.
 #[cycle(evaluation)]
-fn eval_while_turn<T: Tree, I: Source, O: Sink, E: Sink>(
-    alloc: Global,
+fn eval_while_turn<T: Tree, I: Source + Send, O: Sink + Send, E: Sink>(
     command: &Command,
     shell: &mut Shell,
     session: &mut Session,
@@ -975,10 +964,10 @@ fn eval_while_turn<T: Tree, I: Source, O: Sink, E: Sink>(
 ) -> Played<I, O>
     requires sound { IsSound session.old (T.state tree.old) }
     ensures { Evaluates (λ expansions. turn_means expansions pages (command_tree command.now))
-        (point_of shell.old session.old (T.state tree.old) (seen_of (I.left input) (O.taken out) (E.taken err.old))
+        (point_of shell.old session.old (T.state tree.old) (seen_of (drawn_of (I.left input) None) (O.taken out) (E.taken err.old))
         (faults_of (I.faults input) (O.faults out) (E.faults err.old) (T.faults tree.old)))
         result.how
-        (point_of shell.new session.new (T.state tree.new) (seen_of (I.left result.input) (O.taken result.out) (E.taken err.new))
+        (point_of shell.new session.new (T.state tree.new) (seen_of (drawn_of (I.left result.input) None) (O.taken result.out) (E.taken err.new))
         (faults_of (I.faults result.input) (O.faults result.out) (E.faults err.new) (T.faults tree.new))) }
 {
     let Command::While(condition, body, _) = command else {
@@ -988,9 +977,7 @@ fn eval_while_turn<T: Tree, I: Source, O: Sink, E: Sink>(
             out,
         };
     };
-    let Played { how, input, out } = eval_list(
-        alloc, condition, shell, session, tree, input, out, err,
-    );
+    let Played { how, input, out } = eval_list(condition, shell, session, tree, input, out, err);
     if !goes_on(&how) {
         leave_condition(&how, shell);
         return Played { how, input, out };
@@ -1003,13 +990,12 @@ fn eval_while_turn<T: Tree, I: Source, O: Sink, E: Sink>(
             out,
         };
     }
-    eval_loop_body(alloc, body, shell, session, tree, input, out, err)
+    eval_loop_body(body, shell, session, tree, input, out, err)
 }
 
 /// Evaluates one turn of an `until`: its condition, and where that fails its body.
 #[cycle(evaluation)]
-fn eval_until_turn<T: Tree, I: Source, O: Sink, E: Sink>(
-    alloc: Global,
+fn eval_until_turn<T: Tree, I: Source + Send, O: Sink + Send, E: Sink>(
     command: &Command,
     shell: &mut Shell,
     session: &mut Session,
@@ -1020,10 +1006,10 @@ fn eval_until_turn<T: Tree, I: Source, O: Sink, E: Sink>(
 ) -> Played<I, O>
     requires sound { IsSound session.old (T.state tree.old) }
     ensures { Evaluates (λ expansions. turn_means expansions pages (command_tree command.now))
-        (point_of shell.old session.old (T.state tree.old) (seen_of (I.left input) (O.taken out) (E.taken err.old))
+        (point_of shell.old session.old (T.state tree.old) (seen_of (drawn_of (I.left input) None) (O.taken out) (E.taken err.old))
         (faults_of (I.faults input) (O.faults out) (E.faults err.old) (T.faults tree.old)))
         result.how
-        (point_of shell.new session.new (T.state tree.new) (seen_of (I.left result.input) (O.taken result.out) (E.taken err.new))
+        (point_of shell.new session.new (T.state tree.new) (seen_of (drawn_of (I.left result.input) None) (O.taken result.out) (E.taken err.new))
         (faults_of (I.faults result.input) (O.faults result.out) (E.faults err.new) (T.faults tree.new))) }
 {
     let Command::Until(condition, body, _) = command else {
@@ -1033,9 +1019,7 @@ fn eval_until_turn<T: Tree, I: Source, O: Sink, E: Sink>(
             out,
         };
     };
-    let Played { how, input, out } = eval_list(
-        alloc, condition, shell, session, tree, input, out, err,
-    );
+    let Played { how, input, out } = eval_list(condition, shell, session, tree, input, out, err);
     if !goes_on(&how) {
         leave_condition(&how, shell);
         return Played { how, input, out };
@@ -1048,13 +1032,12 @@ fn eval_until_turn<T: Tree, I: Source, O: Sink, E: Sink>(
             out,
         };
     }
-    eval_loop_body(alloc, body, shell, session, tree, input, out, err)
+    eval_loop_body(body, shell, session, tree, input, out, err)
 }
 
 /// Evaluates the body of a loop, whose status is kept.
 #[cycle(evaluation)]
-fn eval_loop_body<T: Tree, I: Source, O: Sink, E: Sink>(
-    alloc: Global,
+fn eval_loop_body<T: Tree, I: Source + Send, O: Sink + Send, E: Sink>(
     body: &List,
     shell: &mut Shell,
     session: &mut Session,
@@ -1065,21 +1048,20 @@ fn eval_loop_body<T: Tree, I: Source, O: Sink, E: Sink>(
 ) -> Played<I, O>
     requires sound { IsSound session.old (T.state tree.old) }
     ensures { Evaluates (λ expansions state. noted (list_means expansions pages (list_tree body.now) state))
-        (point_of shell.old session.old (T.state tree.old) (seen_of (I.left input) (O.taken out) (E.taken err.old))
+        (point_of shell.old session.old (T.state tree.old) (seen_of (drawn_of (I.left input) None) (O.taken out) (E.taken err.old))
         (faults_of (I.faults input) (O.faults out) (E.faults err.old) (T.faults tree.old)))
         result.how
-        (point_of shell.new session.new (T.state tree.new) (seen_of (I.left result.input) (O.taken result.out) (E.taken err.new))
+        (point_of shell.new session.new (T.state tree.new) (seen_of (drawn_of (I.left result.input) None) (O.taken result.out) (E.taken err.new))
         (faults_of (I.faults result.input) (O.faults result.out) (E.faults err.new) (T.faults tree.new))) }
 {
-    let Played { how, input, out } = eval_list(alloc, body, shell, session, tree, input, out, err);
+    let Played { how, input, out } = eval_list(body, shell, session, tree, input, out, err);
     note_body(&how, shell);
     Played { how, input, out }
 }
 
 /// Evaluates a `for`: over what its words mean, or over the arguments.
 #[cycle(evaluation)]
-fn eval_for<T: Tree, I: Source, O: Sink, E: Sink>(
-    alloc: Global,
+fn eval_for<T: Tree, I: Source + Send, O: Sink + Send, E: Sink>(
     command: &Command,
     shell: &mut Shell,
     session: &mut Session,
@@ -1090,12 +1072,13 @@ fn eval_for<T: Tree, I: Source, O: Sink, E: Sink>(
 ) -> Played<I, O>
     requires sound { IsSound session.old (T.state tree.old) }
     ensures { Evaluates (λ expansions. body_means expansions pages (command_tree command.now))
-        (point_of shell.old session.old (T.state tree.old) (seen_of (I.left input) (O.taken out) (E.taken err.old))
+        (point_of shell.old session.old (T.state tree.old) (seen_of (drawn_of (I.left input) None) (O.taken out) (E.taken err.old))
         (faults_of (I.faults input) (O.faults out) (E.faults err.old) (T.faults tree.old)))
         result.how
-        (point_of shell.new session.new (T.state tree.new) (seen_of (I.left result.input) (O.taken result.out) (E.taken err.new))
+        (point_of shell.new session.new (T.state tree.new) (seen_of (drawn_of (I.left result.input) None) (O.taken result.out) (E.taken err.new))
         (faults_of (I.faults result.input) (O.faults result.out) (E.faults err.new) (T.faults tree.new))) }
 {
+    let alloc = session.alloc();
     let Command::For(_, words, _, _) = command else {
         return Played {
             how: How::Memory,
@@ -1113,7 +1096,6 @@ fn eval_for<T: Tree, I: Source, O: Sink, E: Sink>(
                 };
             };
             eval_for_over(
-                alloc,
                 command,
                 arguments.as_slice(),
                 shell,
@@ -1127,7 +1109,6 @@ fn eval_for<T: Tree, I: Source, O: Sink, E: Sink>(
         Some(words) => {
             shell.begin_command(alloc);
             let Played { how, input, out } = eval_subs(
-                alloc,
                 words.subs.as_slice(),
                 shell,
                 session,
@@ -1153,7 +1134,6 @@ fn eval_for<T: Tree, I: Source, O: Sink, E: Sink>(
                 Err(how) => return Played { how, input, out },
             };
             eval_for_over(
-                alloc,
                 command,
                 fields.as_slice(),
                 shell,
@@ -1169,8 +1149,7 @@ fn eval_for<T: Tree, I: Source, O: Sink, E: Sink>(
 
 /// Evaluates a `for` over fields.
 #[cycle(evaluation)]
-fn eval_for_over<T: Tree, I: Source, O: Sink, E: Sink>(
-    alloc: Global,
+fn eval_for_over<T: Tree, I: Source + Send, O: Sink + Send, E: Sink>(
     command: &Command,
     fields: &[Vec<u8>],
     shell: &mut Shell,
@@ -1182,10 +1161,10 @@ fn eval_for_over<T: Tree, I: Source, O: Sink, E: Sink>(
 ) -> Played<I, O>
     requires sound { IsSound session.old (T.state tree.old) }
     ensures { Evaluates (λ expansions. in_loop (rounds_mean expansions pages (command_tree command.now) (texts_of fields.now)))
-        (point_of shell.old session.old (T.state tree.old) (seen_of (I.left input) (O.taken out) (E.taken err.old))
+        (point_of shell.old session.old (T.state tree.old) (seen_of (drawn_of (I.left input) None) (O.taken out) (E.taken err.old))
         (faults_of (I.faults input) (O.faults out) (E.faults err.old) (T.faults tree.old)))
         result.how
-        (point_of shell.new session.new (T.state tree.new) (seen_of (I.left result.input) (O.taken result.out) (E.taken err.new))
+        (point_of shell.new session.new (T.state tree.new) (seen_of (drawn_of (I.left result.input) None) (O.taken result.out) (E.taken err.new))
         (faults_of (I.faults result.input) (O.faults result.out) (E.faults err.new) (T.faults tree.new))) }
 {
     let Some(around) = shell.enter_loop() else {
@@ -1196,7 +1175,7 @@ fn eval_for_over<T: Tree, I: Source, O: Sink, E: Sink>(
         };
     };
     let Played { how, input, out } = eval_rounds(
-        alloc, command, fields, shell, session, tree, input, out, err,
+        command, fields, shell, session, tree, input, out, err,
     );
     shell.leave_loop(around);
     Played { how, input, out }
@@ -1204,8 +1183,7 @@ fn eval_for_over<T: Tree, I: Source, O: Sink, E: Sink>(
 
 /// Evaluates the rounds of a `for`, one a field, until one of them ends it, or all turns of the run are used.
 #[cycle(evaluation)]
-fn eval_rounds<T: Tree, I: Source, O: Sink, E: Sink>(
-    alloc: Global,
+fn eval_rounds<T: Tree, I: Source + Send, O: Sink + Send, E: Sink>(
     command: &Command,
     fields: &[Vec<u8>],
     shell: &mut Shell,
@@ -1217,10 +1195,10 @@ fn eval_rounds<T: Tree, I: Source, O: Sink, E: Sink>(
 ) -> Played<I, O>
     requires sound { IsSound session.old (T.state tree.old) }
     ensures { Evaluates (λ expansions. rounds_mean expansions pages (command_tree command.now) (texts_of fields.now))
-        (point_of shell.old session.old (T.state tree.old) (seen_of (I.left input) (O.taken out) (E.taken err.old))
+        (point_of shell.old session.old (T.state tree.old) (seen_of (drawn_of (I.left input) None) (O.taken out) (E.taken err.old))
         (faults_of (I.faults input) (O.faults out) (E.faults err.old) (T.faults tree.old)))
         result.how
-        (point_of shell.new session.new (T.state tree.new) (seen_of (I.left result.input) (O.taken result.out) (E.taken err.new))
+        (point_of shell.new session.new (T.state tree.new) (seen_of (drawn_of (I.left result.input) None) (O.taken result.out) (E.taken err.new))
         (faults_of (I.faults result.input) (O.faults result.out) (E.faults err.new) (T.faults tree.new))) }
 {
     let mut input = input;
@@ -1239,7 +1217,6 @@ fn eval_rounds<T: Tree, I: Source, O: Sink, E: Sink>(
             input: left,
             out: sent,
         } = eval_round(
-            alloc,
             command,
             field.as_slice(),
             shell,
@@ -1269,8 +1246,7 @@ fn eval_rounds<T: Tree, I: Source, O: Sink, E: Sink>(
 
 /// Evaluates one round of a `for`, in which its name has this text.
 #[cycle(evaluation)]
-fn eval_round<T: Tree, I: Source, O: Sink, E: Sink>(
-    alloc: Global,
+fn eval_round<T: Tree, I: Source + Send, O: Sink + Send, E: Sink>(
     command: &Command,
     field: &[u8],
     shell: &mut Shell,
@@ -1282,12 +1258,13 @@ fn eval_round<T: Tree, I: Source, O: Sink, E: Sink>(
 ) -> Played<I, O>
     requires sound { IsSound session.old (T.state tree.old) }
     ensures { Evaluates (λ expansions. round_means expansions pages (command_tree command.now) field.now)
-        (point_of shell.old session.old (T.state tree.old) (seen_of (I.left input) (O.taken out) (E.taken err.old))
+        (point_of shell.old session.old (T.state tree.old) (seen_of (drawn_of (I.left input) None) (O.taken out) (E.taken err.old))
         (faults_of (I.faults input) (O.faults out) (E.faults err.old) (T.faults tree.old)))
         result.how
-        (point_of shell.new session.new (T.state tree.new) (seen_of (I.left result.input) (O.taken result.out) (E.taken err.new))
+        (point_of shell.new session.new (T.state tree.new) (seen_of (drawn_of (I.left result.input) None) (O.taken result.out) (E.taken err.new))
         (faults_of (I.faults result.input) (O.faults result.out) (E.faults err.new) (T.faults tree.new))) }
 {
+    let alloc = session.alloc();
     let Command::For(name, _, body, _) = command else {
         return Played {
             how: How::Memory,
@@ -1302,13 +1279,12 @@ fn eval_round<T: Tree, I: Source, O: Sink, E: Sink>(
             out,
         };
     };
-    eval_loop_body(alloc, body, shell, session, tree, input, out, err)
+    eval_loop_body(body, shell, session, tree, input, out, err)
 }
 
 /// Evaluates a list in a subshell.
 #[cycle(evaluation)]
-fn eval_subshell<T: Tree, I: Source, O: Sink, E: Sink>(
-    alloc: Global,
+fn eval_subshell<T: Tree, I: Source + Send, O: Sink + Send, E: Sink>(
     list: &List,
     shell: &mut Shell,
     session: &mut Session,
@@ -1319,12 +1295,13 @@ fn eval_subshell<T: Tree, I: Source, O: Sink, E: Sink>(
 ) -> Played<I, O>
     requires sound { IsSound session.old (T.state tree.old) }
     ensures { Evaluates (λ expansions. subshell (list_means expansions pages (list_tree list.now)))
-        (point_of shell.old session.old (T.state tree.old) (seen_of (I.left input) (O.taken out) (E.taken err.old))
+        (point_of shell.old session.old (T.state tree.old) (seen_of (drawn_of (I.left input) None) (O.taken out) (E.taken err.old))
         (faults_of (I.faults input) (O.faults out) (E.faults err.old) (T.faults tree.old)))
         result.how
-        (point_of shell.new session.new (T.state tree.new) (seen_of (I.left result.input) (O.taken result.out) (E.taken err.new))
+        (point_of shell.new session.new (T.state tree.new) (seen_of (drawn_of (I.left result.input) None) (O.taken result.out) (E.taken err.new))
         (faults_of (I.faults result.input) (O.faults result.out) (E.faults err.new) (T.faults tree.new))) }
 {
+    let alloc = session.alloc();
     let Ok(mut inner) = shell.inside(alloc) else {
         return Played {
             how: How::Memory,
@@ -1332,9 +1309,7 @@ fn eval_subshell<T: Tree, I: Source, O: Sink, E: Sink>(
             out,
         };
     };
-    let Played { how, input, out } = eval_list(
-        alloc, list, &mut inner, session, tree, input, out, err,
-    );
+    let Played { how, input, out } = eval_list(list, &mut inner, session, tree, input, out, err);
     shell.status = inner.status;
     Played {
         how: settled(how),

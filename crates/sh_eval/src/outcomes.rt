@@ -1,6 +1,6 @@
 //! How the evaluation of a command came out.
 ghost use Rattle.std.specs.Prelude.{◌≡◌, ◌<◌, [], false, true};
-ghost use Rattle.sh_tree.specs.declared.commands.Command.TheViews.{out-List, out-Tail};
+ghost use Rattle.sh_tree.specs.declared.commands.Command.TheViews.{out-List};
 ghost use Rattle.sh_eval.specs.Commands.{goes_on_behind, goes_round as goes_round_lem, kept_by, left_by as left_by_lem, negated_status, position_at};
 ghost use Rattle.sh_eval.specs.Contract.{changed_by, goes_on as goes_on_lem, going, gone_by, settled_how};
 ghost use Rattle.sh_eval.specs.Inner.Loops.{condition_left};
@@ -8,7 +8,7 @@ ghost use Rattle.sh_eval.specs.Shells.{with_status};
 
 use crate::flows::Flow;
 use crate::shell::Shell;
-use sh_tree::{Join, List, Tail};
+use sh_tree::{Join, List};
 
 /// How the evaluation of a command came out.
 #[derive(Debug, Drop)]
@@ -130,13 +130,6 @@ pub(crate) fn leave_condition(how: &How, shell: &mut Shell)
         How::Gone(Flow::Break(_) | Flow::Continue(_)) => shell.status = shell.body_status,
         _ => {}
     }
-}
-
-/// Whether a compound command has no redirection.
-pub(crate) fn is_bare(tail: &Tail) -> bool
-    ensures { result ≡ true → (out-Tail tail.now).redirs.items ≡ [] }
-{
-    tail.redirs.is_empty()
 }
 
 /// Whether a list has a command.

@@ -98,6 +98,11 @@ impl Session {
         }
     }
 
+    /// What it takes memory from.
+    pub(crate) fn alloc(&self) -> Global {
+        *self.pipes.texts.allocator()
+    }
+
     /// Opens a pipe, which takes in the output, and gives where the output went.
     pub(crate) fn open_pipe(&mut self, alloc: Global) -> Result<To, Memory>
         ensures ok { IfOk result (λ place. (place ≡ self.old.streams.to) × (self.new ≡ piping self.old)) }

@@ -1,25 +1,28 @@
 //! Simple commands, behind their substitutions.
-ghost use Rattle.std.specs.Prelude.{◌≡◌, ◌<◌, [], List, ℕ, length, map, true, Err, Result};
+ghost use Rattle.std.specs.Prelude.{◌≡◌, ◌<◌, [], List, ℕ, length, map, true, Err, Result, None};
 ghost use Rattle.ps_lines.specs.Texts.{texts_of};
 ghost use Rattle.sh_tree.specs.Views.{redir_tree, word_tree};
 ghost use Rattle.ut_args.specs.Invocations.{command_of};
 ghost use Rattle.ut_args.specs.Reading.{invocation};
 ghost use Rattle.ut_args.specs.declared.commands.Command.{Command};
-ghost use Rattle.sh_eval.specs.Asking.{asked_as, asked_by, at_fault, does, is_special as is_special_lem, no_name};
-ghost use Rattle.sh_eval.specs.Contract.{Evaluates, IsSound, faults_of, point_of, seen_of};
+ghost use Rattle.sh_eval.specs.Asking.{asked_as, asked_by, at_fault, does, is_special as is_special_lem};
+ghost use Rattle.sh_eval.specs.Contract.{Evaluates, IsSound, drawn_of, faults_of, point_of, seen_of};
 ghost use Rattle.sh_eval.specs.Expanding.{assigning};
 ghost use Rattle.sh_eval.specs.Inner.Bodies.{assign_tree};
-ghost use Rattle.sh_eval.specs.Inner.Doing.{asked_of, can_be_done, is_own, is_special_of, own_means};
+ghost use Rattle.sh_eval.specs.Inner.Doing.{asked_of, can_be_done, is_own, own_means, stays_of, way_of as way_of_lem};
+ghost use Rattle.sh_eval.specs.Inner.Opening.{opened};
 ghost use Rattle.sh_eval.specs.Simple.{assigned_for, checked, runs_simple};
 ghost use Rattle.sh_eval.specs.Table.{pages};
 
 use crate::builtins::{misuse, run_builtin};
-use crate::expanding::{assign_all, expand_words, restore};
+use crate::expanding::{assign_all, expand_targets, expand_words, restore};
 use crate::flows::Flow;
+use crate::opening::{close, open};
 use crate::outcomes::{How, Played};
 use crate::refusals::Refusal;
 use crate::session::Session;
 use crate::shell::Shell;
+use crate::targets::Target;
 use ps_lines::Text;
 use ps_world::{Sink, Source, Tree};
 use sh_tree::{Redir, Word};
@@ -29,6 +32,8 @@ use ut_args::{ArgFault, Inv, read_inv};
 /// What a command does once its assignments are done.
 #[derive(Clone, Copy)]
 pub(crate) enum Doing<'name, 'inv> {
+    /// Nothing more: it has no name.
+    Nothing,
     /// One of the shell's own commands, by its name.
     Builtin(&'name [u8], &'inv Inv),
     /// The command of this name tells that its words can't be used.
@@ -70,11 +75,12 @@ fn is_special_name(name: &[u8]) -> bool
         || name == b"unset".as_slice()
 }
 
-/// Whether it is of a special built-in.
-fn is_special(doing: Doing<'_, '_>) -> bool
-    ensures { result ≡ is_special_of (asked_of doing.entry) }
+/// Whether its assignments stay (XCU 2.9.1, 2.14): those of a special built-in, and those of no command.
+fn stays(doing: Doing<'_, '_>) -> bool
+    ensures { result ≡ stays_of (asked_of doing.entry) }
 {
     match doing {
+        Doing::Nothing => true,
         Doing::Builtin(_, inv) => matches!(
             inv,
             Inv::Colon(_)
@@ -100,8 +106,20 @@ fn flow_at_fault(name: &[u8]) -> Flow
     }
 }
 
-/// Runs a simple command. One with redirections wants memory.
-pub(crate) fn run_simple<T: Tree, I: Source, O: Sink, E: Sink>(
+/// How the shell goes on where a redirection of the command stops (XCU 2.8.1).
+fn way_of(doing: Doing<'_, '_>) -> Flow
+    ensures { result ≡ way_of_lem (asked_of doing.entry) }
+{
+    match doing {
+        Doing::Nothing => Flow::On,
+        Doing::Builtin(_, _) | Doing::Misuse(_) => {
+            if stays(doing) { Flow::Exit } else { Flow::On }
+        }
+    }
+}
+
+/// Runs a simple command.
+pub(crate) fn run_simple<T: Tree, I: Source + Send, O: Sink + Send, E: Sink>(
     alloc: Global,
     assigns: &[(Text, Word)],
     words: &[Word],
@@ -115,10 +133,10 @@ pub(crate) fn run_simple<T: Tree, I: Source, O: Sink, E: Sink>(
 ) -> Played<I, O>
     requires sound { IsSound session.old (T.state tree.old) }
     ensures { Evaluates (λ expansions. runs_simple expansions pages (map assign_tree assigns.now) (map word_tree words.now) (map redir_tree redirs.now))
-        (point_of shell.old session.old (T.state tree.old) (seen_of (I.left input) (O.taken out) (E.taken err.old))
+        (point_of shell.old session.old (T.state tree.old) (seen_of (drawn_of (I.left input) None) (O.taken out) (E.taken err.old))
         (faults_of (I.faults input) (O.faults out) (E.faults err.old) (T.faults tree.old)))
         result.how
-        (point_of shell.new session.new (T.state tree.new) (seen_of (I.left result.input) (O.taken result.out) (E.taken err.new))
+        (point_of shell.new session.new (T.state tree.new) (seen_of (drawn_of (I.left result.input) None) (O.taken result.out) (E.taken err.new))
         (faults_of (I.faults result.input) (O.faults result.out) (E.faults err.new) (T.faults tree.new))) }
 {
     let mut out = out;
@@ -126,16 +144,14 @@ pub(crate) fn run_simple<T: Tree, I: Source, O: Sink, E: Sink>(
         Ok(fields) => fields,
         Err(how) => return Played { how, input, out },
     };
-    let [] = redirs else {
-        return Played {
-            how: How::Memory,
-            input,
-            out,
-        };
+    let targets = match expand_targets(alloc, redirs, shell, session, tree, &mut out, err) {
+        Ok(targets) => targets,
+        Err(how) => return Played { how, input, out },
     };
     run_fields(
         alloc,
         assigns,
+        targets.as_slice(),
         fields.as_slice(),
         shell,
         session,
@@ -147,9 +163,10 @@ pub(crate) fn run_simple<T: Tree, I: Source, O: Sink, E: Sink>(
 }
 
 /// Runs what the fields of a command ask for.
-fn run_fields<T: Tree, I: Source, O: Sink, E: Sink>(
+fn run_fields<T: Tree, I: Source + Send, O: Sink + Send, E: Sink>(
     alloc: Global,
     assigns: &[(Text, Word)],
+    targets: &[Target],
     fields: &[Vec<u8>],
     shell: &mut Shell,
     session: &mut Session,
@@ -159,18 +176,30 @@ fn run_fields<T: Tree, I: Source, O: Sink, E: Sink>(
     err: &mut E,
 ) -> Played<I, O>
     requires sound { IsSound session.old (T.state tree.old) }
-    ensures { Evaluates (λ expansions. checked expansions pages (map assign_tree assigns.now) [] (asked_by (texts_of fields.now)))
-        (point_of shell.old session.old (T.state tree.old) (seen_of (I.left input) (O.taken out) (E.taken err.old))
+    ensures { Evaluates (λ expansions. checked expansions pages (map assign_tree assigns.now) targets.now (asked_by (texts_of fields.now)))
+        (point_of shell.old session.old (T.state tree.old) (seen_of (drawn_of (I.left input) None) (O.taken out) (E.taken err.old))
         (faults_of (I.faults input) (O.faults out) (E.faults err.old) (T.faults tree.old)))
         result.how
-        (point_of shell.new session.new (T.state tree.new) (seen_of (I.left result.input) (O.taken result.out) (E.taken err.new))
+        (point_of shell.new session.new (T.state tree.new) (seen_of (drawn_of (I.left result.input) None) (O.taken result.out) (E.taken err.new))
         (faults_of (I.faults result.input) (O.faults result.out) (E.faults err.new) (T.faults tree.new))) }
 {
     match fields {
-        [] => run_assigns(alloc, assigns, shell, session, tree, input, out, err),
+        [] => run_in_redirections(
+            alloc,
+            assigns,
+            targets,
+            Doing::Nothing,
+            shell,
+            session,
+            tree,
+            input,
+            out,
+            err,
+        ),
         [name, ..] => run_named(
             alloc,
             assigns,
+            targets,
             name.as_slice(),
             fields,
             shell,
@@ -183,10 +212,11 @@ fn run_fields<T: Tree, I: Source, O: Sink, E: Sink>(
     }
 }
 
-/// Runs what the fields of a command ask for, of which this is the first. No utility is built.
-fn run_named<T: Tree, I: Source, O: Sink, E: Sink>(
+/// Runs what the fields of a command ask for, of which this is the first.
+fn run_named<T: Tree, I: Source + Send, O: Sink + Send, E: Sink>(
     alloc: Global,
     assigns: &[(Text, Word)],
+    targets: &[Target],
     name: &[u8],
     fields: &[Vec<u8>],
     shell: &mut Shell,
@@ -198,30 +228,57 @@ fn run_named<T: Tree, I: Source, O: Sink, E: Sink>(
 ) -> Played<I, O>
     requires named { 0 < length fields.now }
     requires sound { IsSound session.old (T.state tree.old) }
-    ensures { Evaluates (λ expansions. checked expansions pages (map assign_tree assigns.now) [] (asked_as name.now (texts_of fields.now) (invocation (texts_of fields.now))))
-        (point_of shell.old session.old (T.state tree.old) (seen_of (I.left input) (O.taken out) (E.taken err.old))
+    ensures { Evaluates (λ expansions. checked expansions pages (map assign_tree assigns.now) targets.now (asked_as name.now (texts_of fields.now) (invocation (texts_of fields.now))))
+        (point_of shell.old session.old (T.state tree.old) (seen_of (drawn_of (I.left input) None) (O.taken out) (E.taken err.old))
         (faults_of (I.faults input) (O.faults out) (E.faults err.old) (T.faults tree.old)))
         result.how
-        (point_of shell.new session.new (T.state tree.new) (seen_of (I.left result.input) (O.taken result.out) (E.taken err.new))
+        (point_of shell.new session.new (T.state tree.new) (seen_of (drawn_of (I.left result.input) None) (O.taken result.out) (E.taken err.new))
         (faults_of (I.faults result.input) (O.faults result.out) (E.faults err.new) (T.faults tree.new))) }
 {
-    let inv = match read_inv(alloc, fields) {
-        Ok(inv) => inv,
-        Err(fault) => return run_fault(
-            alloc, assigns, fault, shell, session, tree, input, out, err,
+    match read_inv(alloc, fields) {
+        Ok(inv) => run_inv(
+            alloc, assigns, targets, name, &inv, shell, session, tree, input, out, err,
         ),
-    };
-    if !is_builtin(&inv) {
+        Err(fault) => run_fault(
+            alloc, assigns, targets, fault, shell, session, tree, input, out, err,
+        ),
+    }
+}
+
+/// Runs an invocation in its redirections and behind its assignments. No utility is built.
+fn run_inv<T: Tree, I: Source + Send, O: Sink + Send, E: Sink>(
+    alloc: Global,
+    assigns: &[(Text, Word)],
+    targets: &[Target],
+    name: &[u8],
+    inv: &Inv,
+    shell: &mut Shell,
+    session: &mut Session,
+    tree: &mut T,
+    input: I,
+    out: O,
+    err: &mut E,
+) -> Played<I, O>
+    requires sound { IsSound session.old (T.state tree.old) }
+    ensures { (words : List (List ℕ)) → Evaluates (λ expansions. checked expansions pages (map assign_tree assigns.now) targets.now (does name.now words (command_of inv.now)))
+        (point_of shell.old session.old (T.state tree.old) (seen_of (drawn_of (I.left input) None) (O.taken out) (E.taken err.old))
+        (faults_of (I.faults input) (O.faults out) (E.faults err.old) (T.faults tree.old)))
+        result.how
+        (point_of shell.new session.new (T.state tree.new) (seen_of (drawn_of (I.left result.input) None) (O.taken result.out) (E.taken err.new))
+        (faults_of (I.faults result.input) (O.faults result.out) (E.faults err.new) (T.faults tree.new))) }
+{
+    if !is_builtin(inv) {
         return Played {
             how: How::Gone(Flow::Refused(Refusal::NotBuilt)),
             input,
             out,
         };
     }
-    run_doing(
+    run_in_redirections(
         alloc,
         assigns,
-        Doing::Builtin(name, &inv),
+        targets,
+        Doing::Builtin(name, inv),
         shell,
         session,
         tree,
@@ -232,9 +289,10 @@ fn run_named<T: Tree, I: Source, O: Sink, E: Sink>(
 }
 
 /// Refuses what is no invocation; words that can't be used are told.
-fn run_fault<T: Tree, I: Source, O: Sink, E: Sink>(
+fn run_fault<T: Tree, I: Source + Send, O: Sink + Send, E: Sink>(
     alloc: Global,
     assigns: &[(Text, Word)],
+    targets: &[Target],
     fault: ArgFault,
     shell: &mut Shell,
     session: &mut Session,
@@ -245,11 +303,11 @@ fn run_fault<T: Tree, I: Source, O: Sink, E: Sink>(
 ) -> Played<I, O>
     requires sound { IsSound session.old (T.state tree.old) }
     ensures { (name : List ℕ) (words : List (List ℕ)) (asked : Result Command ArgFault) → ((fault ≡ ArgFault.Memory → ⊥) → asked ≡ Err fault)
-        → Evaluates (λ expansions. checked expansions pages (map assign_tree assigns.now) [] (asked_as name words asked))
-        (point_of shell.old session.old (T.state tree.old) (seen_of (I.left input) (O.taken out) (E.taken err.old))
+        → Evaluates (λ expansions. checked expansions pages (map assign_tree assigns.now) targets.now (asked_as name words asked))
+        (point_of shell.old session.old (T.state tree.old) (seen_of (drawn_of (I.left input) None) (O.taken out) (E.taken err.old))
         (faults_of (I.faults input) (O.faults out) (E.faults err.old) (T.faults tree.old)))
         result.how
-        (point_of shell.new session.new (T.state tree.new) (seen_of (I.left result.input) (O.taken result.out) (E.taken err.new))
+        (point_of shell.new session.new (T.state tree.new) (seen_of (drawn_of (I.left result.input) None) (O.taken result.out) (E.taken err.new))
         (faults_of (I.faults result.input) (O.faults result.out) (E.faults err.new) (T.faults tree.new))) }
 {
     match fault {
@@ -263,9 +321,10 @@ fn run_fault<T: Tree, I: Source, O: Sink, E: Sink>(
             input,
             out,
         },
-        ArgFault::BadUsage(name) => run_doing(
+        ArgFault::BadUsage(name) => run_in_redirections(
             alloc,
             assigns,
+            targets,
             Doing::Misuse(name.as_slice()),
             shell,
             session,
@@ -282,10 +341,12 @@ fn run_fault<T: Tree, I: Source, O: Sink, E: Sink>(
     }
 }
 
-/// Does the assignments of a command that has no fields.
-fn run_assigns<T: Tree, I: Source, O: Sink, E: Sink>(
+/// Does something in its redirections, where no path of theirs is busy.
+fn run_in_redirections<T: Tree, I: Source + Send, O: Sink + Send, E: Sink>(
     alloc: Global,
     assigns: &[(Text, Word)],
+    targets: &[Target],
+    doing: Doing<'_, '_>,
     shell: &mut Shell,
     session: &mut Session,
     tree: &mut T,
@@ -293,29 +354,41 @@ fn run_assigns<T: Tree, I: Source, O: Sink, E: Sink>(
     out: O,
     err: &mut E,
 ) -> Played<I, O>
+    requires own { can_be_done doing ≡ true }
     requires sound { IsSound session.old (T.state tree.old) }
-    ensures { Evaluates (λ expansions. checked expansions pages (map assign_tree assigns.now) [] no_name)
-        (point_of shell.old session.old (T.state tree.old) (seen_of (I.left input) (O.taken out) (E.taken err.old))
+    ensures { Evaluates (λ expansions. opened (way_of_lem (asked_of doing.entry)) (λ state. []) targets.now
+        (assigned_for expansions (stays_of (asked_of doing.entry)) (map assign_tree assigns.now) (own_means (asked_of doing.entry))))
+        (point_of shell.old session.old (T.state tree.old) (seen_of (drawn_of (I.left input) None) (O.taken out) (E.taken err.old))
         (faults_of (I.faults input) (O.faults out) (E.faults err.old) (T.faults tree.old)))
         result.how
-        (point_of shell.new session.new (T.state tree.new) (seen_of (I.left result.input) (O.taken result.out) (E.taken err.new))
+        (point_of shell.new session.new (T.state tree.new) (seen_of (drawn_of (I.left result.input) None) (O.taken result.out) (E.taken err.new))
         (faults_of (I.faults result.input) (O.faults result.out) (E.faults err.new) (T.faults tree.new))) }
 {
+    let way = way_of(doing);
     let mut out = out;
-    match assign_all(alloc, assigns, shell, session, tree, &mut out, err) {
-        Ok(()) => {}
+    let before = match open(
+        alloc,
+        Vec::new(alloc),
+        targets,
+        way,
+        shell,
+        session,
+        tree,
+        &mut out,
+        err,
+    ) {
+        Ok(before) => before,
         Err(how) => return Played { how, input, out },
-    }
-    shell.status = shell.substitution_status;
-    Played {
-        how: How::Gone(Flow::On),
-        input,
-        out,
-    }
+    };
+    let Played { how, input, out } = run_doing(
+        alloc, assigns, doing, shell, session, tree, input, out, err,
+    );
+    close(before, session);
+    Played { how, input, out }
 }
 
-/// Does something with the assignments before it: those of a special built-in stay, and those of another command are undone.
-fn run_doing<T: Tree, I: Source, O: Sink, E: Sink>(
+/// Does something with the assignments before it, which stay or are undone behind it.
+fn run_doing<T: Tree, I: Source + Send, O: Sink + Send, E: Sink>(
     alloc: Global,
     assigns: &[(Text, Word)],
     doing: Doing<'_, '_>,
@@ -328,14 +401,14 @@ fn run_doing<T: Tree, I: Source, O: Sink, E: Sink>(
 ) -> Played<I, O>
     requires own { can_be_done doing ≡ true }
     requires sound { IsSound session.old (T.state tree.old) }
-    ensures { Evaluates (λ expansions. assigned_for expansions (is_special_of (asked_of doing.entry)) (map assign_tree assigns.now) (own_means (asked_of doing.entry)))
-        (point_of shell.old session.old (T.state tree.old) (seen_of (I.left input) (O.taken out) (E.taken err.old))
+    ensures { Evaluates (λ expansions. assigned_for expansions (stays_of (asked_of doing.entry)) (map assign_tree assigns.now) (own_means (asked_of doing.entry)))
+        (point_of shell.old session.old (T.state tree.old) (seen_of (drawn_of (I.left input) None) (O.taken out) (E.taken err.old))
         (faults_of (I.faults input) (O.faults out) (E.faults err.old) (T.faults tree.old)))
         result.how
-        (point_of shell.new session.new (T.state tree.new) (seen_of (I.left result.input) (O.taken result.out) (E.taken err.new))
+        (point_of shell.new session.new (T.state tree.new) (seen_of (drawn_of (I.left result.input) None) (O.taken result.out) (E.taken err.new))
         (faults_of (I.faults result.input) (O.faults result.out) (E.faults err.new) (T.faults tree.new))) }
 {
-    if is_special(doing) {
+    if stays(doing) {
         return run_assigned(alloc, assigns, doing, shell, session, tree, input, out, err);
     }
     if let [] = assigns {
@@ -362,7 +435,7 @@ fn run_doing<T: Tree, I: Source, O: Sink, E: Sink>(
 }
 
 /// Does something behind its assignments.
-fn run_assigned<T: Tree, I: Source, O: Sink, E: Sink>(
+fn run_assigned<T: Tree, I: Source + Send, O: Sink + Send, E: Sink>(
     alloc: Global,
     assigns: &[(Text, Word)],
     doing: Doing<'_, '_>,
@@ -376,10 +449,10 @@ fn run_assigned<T: Tree, I: Source, O: Sink, E: Sink>(
     requires own { can_be_done doing ≡ true }
     requires sound { IsSound session.old (T.state tree.old) }
     ensures { Evaluates (λ expansions. assigning expansions (map assign_tree assigns.now) (own_means (asked_of doing.entry)))
-        (point_of shell.old session.old (T.state tree.old) (seen_of (I.left input) (O.taken out) (E.taken err.old))
+        (point_of shell.old session.old (T.state tree.old) (seen_of (drawn_of (I.left input) None) (O.taken out) (E.taken err.old))
         (faults_of (I.faults input) (O.faults out) (E.faults err.old) (T.faults tree.old)))
         result.how
-        (point_of shell.new session.new (T.state tree.new) (seen_of (I.left result.input) (O.taken result.out) (E.taken err.new))
+        (point_of shell.new session.new (T.state tree.new) (seen_of (drawn_of (I.left result.input) None) (O.taken result.out) (E.taken err.new))
         (faults_of (I.faults result.input) (O.faults result.out) (E.faults err.new) (T.faults tree.new))) }
 {
     let mut out = out;
@@ -388,6 +461,14 @@ fn run_assigned<T: Tree, I: Source, O: Sink, E: Sink>(
         Err(how) => return Played { how, input, out },
     }
     match doing {
+        Doing::Nothing => {
+            shell.status = shell.substitution_status;
+            Played {
+                how: How::Gone(Flow::On),
+                input,
+                out,
+            }
+        }
         Doing::Builtin(name, inv) => {
             run_builtin(alloc, name, inv, shell, session, tree, input, out, err)
         }

@@ -1,7 +1,7 @@
 //! Commands that are skipped where a redirection of theirs stopped (XCU 2.8.1).
 ghost use Rattle.std.specs.Prelude.{◌≡◌, ℕ, List, Option};
-ghost use Rattle.sh_eval.specs.Contract.{IsSound, faults_of, point_of, seen_of};
-ghost use Rattle.sh_eval.specs.Reaching.{Skips};
+ghost use Rattle.sh_eval.specs.Contract.{Drawn, faults_of, point_of, seen_of};
+ghost use Rattle.sh_eval.specs.Reaching.{CanSkip, Skips};
 
 use crate::builtins::leave;
 use crate::flows::Flow;
@@ -24,13 +24,13 @@ pub(crate) fn skip<T: Tree, O: Sink, E: Sink>(
     out: &mut O,
     err: &mut E,
 ) -> How
-    requires sound { IsSound session.old (T.state tree.old) }
+    requires sound { CanSkip stop session.old (T.state tree.old) }
     ensures streams { session.new.streams ≡ session.old.streams }
-    ensures skips { (left : Option (List ℕ)) (input : ℕ) → Skips stop way
-        (point_of shell.old session.old (T.state tree.old) (seen_of left (O.taken out.old) (E.taken err.old))
+    ensures skips { (drawn : Drawn) (input : ℕ) → Skips stop way
+        (point_of shell.old session.old (T.state tree.old) (seen_of drawn (O.taken out.old) (E.taken err.old))
         (faults_of input (O.faults out.old) (E.faults err.old) (T.faults tree.old)))
         result
-        (point_of shell.new session.new (T.state tree.new) (seen_of left (O.taken out.new) (E.taken err.new))
+        (point_of shell.new session.new (T.state tree.new) (seen_of drawn (O.taken out.new) (E.taken err.new))
         (faults_of input (O.faults out.new) (E.faults err.new) (T.faults tree.new))) }
 {
     match stop {

@@ -1,5 +1,101 @@
+//! Small scripts over objects in memory: what each writes and tells, and the status that it leaves.
 use super::*;
+use ps_fakes::{MemSink, MemSource, MemTree};
+use ps_lines::Memory;
+use sh_lex::lex;
+use sh_parse::parse;
+use sh_tree::Script;
+use std::alloc::Global;
+use std::process::Abort;
 use std::test::Fail;
+
+/// What came of a script.
+#[derive(Drop)]
+struct Ran {
+    how: How,
+    status: u8,
+    output: Vec<u8>,
+    errors: Vec<u8>,
+    /// The bytes of the file `f`, where there is one.
+    file: Option<Vec<u8>>,
+}
+
+/// The script that a text is, if it is one.
+fn script_of(alloc: Global, text: &[u8]) -> Result<Option<Script>, Memory> {
+    let Ok(tokens) = lex(alloc, text) else {
+        return Ok(None);
+    };
+    let Ok(script) = parse(alloc, text, tokens.as_slice()) else {
+        return Ok(None);
+    };
+    Ok(Some(script))
+}
+
+/// Runs a script over an input, in a tree where `g` is a file, `d` a directory, and `f` missing.
+fn run(alloc: Global, text: &str, input: &str) -> Result<Option<Ran>, Memory> {
+    let Some(script) = script_of(alloc, text.as_bytes())? else {
+        return Ok(None);
+    };
+    let Some(mut tree) = MemTree::of_table(
+        alloc,
+        b"/w",
+        &[(b"/w/g", Some(b"1\n2\n")), (b"/w/d", None)],
+        Vec::new(alloc),
+    )?
+    else {
+        return Ok(None);
+    };
+    let mut shell = Shell::new(alloc, b"s", &[])?;
+    let mut errors = MemSink::new(alloc, Vec::new(alloc));
+    let input = Vec::from_slice(alloc, input.as_bytes())?;
+    let Played { how, input: _, out } = run_script(
+        alloc,
+        &script,
+        &mut shell,
+        &mut tree,
+        MemSource::new(input, Vec::new(alloc)),
+        MemSink::new(alloc, Vec::new(alloc)),
+        &mut errors,
+    );
+    let file = match tree.file(b"/w/f")? {
+        Some(bytes) => Some(Vec::from_slice(alloc, bytes)?),
+        None => None,
+    };
+    Ok(Some(Ran {
+        how,
+        status: shell.status,
+        output: Vec::from_slice(alloc, out.taken())?,
+        errors: Vec::from_slice(alloc, errors.taken())?,
+        file,
+    }))
+}
+
+/// Whether this came of a script.
+fn is_as(ran: &Ran, output: &str, errors: &str, status: u8) -> bool {
+    ran.output.as_slice() == output.as_bytes()
+        && ran.errors.as_slice() == errors.as_bytes()
+        && ran.status == status
+}
+
+/// A script over an input writes and tells this, and leaves this status.
+fn expect(
+    rt: &impl Abort,
+    alloc: Global,
+    text: &str,
+    input: &str,
+    output: &str,
+    errors: &str,
+    status: u8,
+) -> Result<(), Fail> {
+    let ran = run(alloc, text, input)?.expect(rt, text);
+    let is_right = is_as(&ran, output, errors, status);
+    assert!(rt;
+        is_right,
+        "{text}: {:?} wrote {:?}, told {:?} and left {}",
+        ran.how, ran.output, ran.errors, ran.status
+    );
+    Ok(())
+}
 
 #[test]
 fn a_shell_begins(rt: HostRuntime) -> Result<(), Fail> {
@@ -10,5 +106,263 @@ fn a_shell_begins(rt: HostRuntime) -> Result<(), Fail> {
     assert_eq!(rt; shell.arguments.as_slice().len(), 1);
     assert_eq!(rt; shell.status, 0);
     assert!(rt; shell.variables.get(b"IFS").is_none());
+    Ok(())
+}
+
+#[test]
+fn lists_and_pipelines_are_run(rt: HostRuntime) -> Result<(), Fail> {
+    for (text, input, output, errors, status) in [
+        ("", "", "", "", 0),
+        ("echo a; echo b", "", "a\nb\n", "", 0),
+        ("false || echo x && echo y", "", "x\ny\n", "", 0),
+        ("true || echo x && echo y", "", "y\n", "", 0),
+        ("! true; echo $?; ! false", "", "1\n", "", 0),
+        ("{ echo a; false; }; echo $?", "", "a\n1\n", "", 0),
+        ("(x=1; exit 3); echo $? $x", "", "3\n", "", 0),
+        ("echo a b | read -r x y; echo \"<$x>\"", "", "<>\n", "", 0),
+        ("echo a | echo b | read -r x; echo $?", "", "0\n", "", 0),
+        ("exit 7; echo no", "", "", "", 7),
+    ] {
+        expect(&rt, rt.alloc(), text, input, output, errors, status)?;
+    }
+    Ok(())
+}
+
+#[test]
+fn conditions_and_loops_are_run(rt: HostRuntime) -> Result<(), Fail> {
+    for (text, input, output, errors, status) in [
+        (
+            "if false; then echo 1; elif true; then echo 2; else echo 3; fi",
+            "",
+            "2\n",
+            "",
+            0,
+        ),
+        ("if false; then echo 1; fi; echo $?", "", "0\n", "", 0),
+        (
+            "i=0; while test $i -lt 3; do echo $i; i=$((i+1)); done",
+            "",
+            "0\n1\n2\n",
+            "",
+            0,
+        ),
+        (
+            "i=0; until [ $i = 2 ]; do i=$((i+1)); false; done; echo $?",
+            "",
+            "1\n",
+            "",
+            0,
+        ),
+        (
+            "for x in a b; do for y in 1 2 3; do if test $y = 2; then continue 2; fi; echo $x$y; done; done",
+            "",
+            "a1\nb1\n",
+            "",
+            0,
+        ),
+        (
+            "for x in a b c; do while true; do break 2; done; echo no; done; echo $x",
+            "",
+            "a\n",
+            "",
+            0,
+        ),
+        (
+            "set -- a 'b c'; for x; do echo \"<$x>\"; done",
+            "",
+            "<a>\n<b c>\n",
+            "",
+            0,
+        ),
+        (
+            "while read -r x; do echo \"<$x>\"; done",
+            "1\n2\n",
+            "<1>\n<2>\n",
+            "",
+            0,
+        ),
+    ] {
+        expect(&rt, rt.alloc(), text, input, output, errors, status)?;
+    }
+    Ok(())
+}
+
+#[test]
+fn words_are_expanded(rt: HostRuntime) -> Result<(), Fail> {
+    for (text, input, output, errors, status) in [
+        (
+            "x=$(echo a; echo b; echo); echo \"$x\"",
+            "",
+            "a\nb\n",
+            "",
+            0,
+        ),
+        ("x='a  b'; echo $x \"$x\"", "", "a b a  b\n", "", 0),
+        ("echo $(echo $(echo in))", "", "in\n", "", 0),
+        ("x=$(false); echo $?", "", "1\n", "", 0),
+        ("x=1; x=2 true; echo $x", "", "1\n", "", 0),
+        ("x=1; x=2 :; echo $x", "", "2\n", "", 0),
+        ("unset x; echo ${x:-d}", "", "d\n", "", 0),
+        ("set -- a b c; shift 2; echo $1", "", "c\n", "", 0),
+        (
+            "echo 1:2 | { IFS=: read -r a b; echo $b; }",
+            "",
+            "2\n",
+            "",
+            0,
+        ),
+    ] {
+        expect(&rt, rt.alloc(), text, input, output, errors, status)?;
+    }
+    Ok(())
+}
+
+#[test]
+fn faults_are_told(rt: HostRuntime) -> Result<(), Fail> {
+    for (text, input, output, errors, status) in [
+        ("echo ${x?gone}; echo no", "", "", "pash: x: gone\n", 1),
+        (
+            "echo a; echo $((1/0)); echo no",
+            "",
+            "a\n",
+            "pash: arithmetic: division by zero\n",
+            1,
+        ),
+        ("test a b; echo $?", "", "2\n", "test: bad usage\n", 0),
+        ("shift 1; echo no", "", "", "shift: bad usage\n", 2),
+        ("(shift 1); echo $?", "", "2\n", "shift: bad usage\n", 0),
+    ] {
+        expect(&rt, rt.alloc(), text, input, output, errors, status)?;
+    }
+    Ok(())
+}
+
+#[test]
+fn redirections_are_done(rt: HostRuntime) -> Result<(), Fail> {
+    for (text, output, errors, status, file) in [
+        ("echo a > f; echo b >> f", "", "", 0, Some("a\nb\n")),
+        ("echo a > f; echo b > f", "", "", 0, Some("b\n")),
+        ("read -r x < g; echo $x", "1\n", "", 0, None),
+        (
+            "{ read -r x; read -r y; } < g; echo $y$x",
+            "21\n",
+            "",
+            0,
+            None,
+        ),
+        (
+            "while read -r x; do echo \"<$x>\"; done < g > f",
+            "",
+            "",
+            0,
+            Some("<1>\n<2>\n"),
+        ),
+        (
+            "{ echo a; echo b >&2; } > f 2>&1",
+            "",
+            "",
+            0,
+            Some("a\nb\n"),
+        ),
+        (
+            "{ echo a; echo b >&2; } 2>&1 > f",
+            "b\n",
+            "",
+            0,
+            Some("a\n"),
+        ),
+        (
+            "echo a > f > d; echo $?",
+            "1\n",
+            "pash: d: Is a directory\n",
+            0,
+            Some(""),
+        ),
+        ("> f", "", "", 0, Some("")),
+        (
+            "x=1 < no; echo $? \"$x\"",
+            "1 \n",
+            "pash: no: No such file or directory\n",
+            0,
+            None,
+        ),
+        (
+            "x=1 true 2> f < no; echo $? $x",
+            "1\n",
+            "",
+            0,
+            Some("pash: no: No such file or directory\n"),
+        ),
+        (
+            ": > nodir/x; echo a",
+            "",
+            "pash: nodir/x: No such file or directory\n",
+            1,
+            None,
+        ),
+        (
+            "echo a > /dev/null; read -r x < /dev/null; echo $?",
+            "1\n",
+            "",
+            0,
+            None,
+        ),
+        ("x=$(echo a > f); echo \"<$x>\"", "<>\n", "", 0, Some("a\n")),
+        ("(exit 3) > f; echo $?", "3\n", "", 0, Some("")),
+        (
+            "for x in a b; do echo $x; done > f",
+            "",
+            "",
+            0,
+            Some("a\nb\n"),
+        ),
+        ("test 1 2 2> f", "", "", 2, Some("test: bad usage\n")),
+    ] {
+        let ran = run(rt.alloc(), text, "")?.expect(&rt, text);
+        let is_right = is_as(&ran, output, errors, status);
+        assert!(rt;
+            is_right,
+            "{text}: {:?} wrote {:?}, told {:?} and left {}",
+            ran.how, ran.output, ran.errors, ran.status
+        );
+        let holds = ran.file.as_deref() == file.map(str::as_bytes);
+        assert!(rt; holds, "{text}: f holds {:?}", ran.file);
+    }
+    Ok(())
+}
+
+#[test]
+fn busy_paths_are_refused(rt: HostRuntime) -> Result<(), Fail> {
+    for text in [
+        "> f > f",
+        "read -r x < g > g",
+        "{ echo a > f; } > f",
+        "{ read -r x < f; } > ./f",
+        "while true; do echo a >> d/../f; done > f",
+        "(echo a > f) 2> f",
+    ] {
+        let ran = run(rt.alloc(), text, "")?.expect(&rt, text);
+        assert!(rt;
+            matches!(ran.how, How::Gone(Flow::Refused(Refusal::PathBusy(_)))),
+            "{text}: {:?}",
+            ran.how
+        );
+        assert!(rt; ran.output.is_empty(), "{text}");
+    }
+    Ok(())
+}
+
+#[test]
+fn what_is_refused_ends_the_run(rt: HostRuntime) -> Result<(), Fail> {
+    let texts = [
+        "echo a; sleep 1; echo b",
+        "echo a; (cat f); echo b",
+        "echo a; x=$(tr -Q a); echo b",
+    ];
+    for text in texts {
+        let ran = run(rt.alloc(), text, "")?.expect(&rt, text);
+        assert_eq!(rt; ran.output.as_slice(), b"a\n".as_slice(), "{text}");
+        assert!(rt; matches!(ran.how, How::Gone(Flow::Refused(_))), "{text}");
+    }
     Ok(())
 }

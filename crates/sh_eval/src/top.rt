@@ -1,10 +1,10 @@
 //! The evaluation of a script.
-ghost use Rattle.std.specs.Prelude.{◌≡◌, Some, IfSome};
+ghost use Rattle.std.specs.Prelude.{◌≡◌, Some, IfSome, None};
 ghost use Rattle.ps_world.specs.Files.{NoWriterOut};
 ghost use Rattle.ps_world.specs.TreeState.{Balanced};
 ghost use Rattle.sh_tree.specs.Views.{script_tree};
 ghost use Rattle.sh_expand.specs.Outcomes.{AreExpansions, Expansions};
-ghost use Rattle.sh_eval.specs.Contract.{HasCause, IsGone, faults_of, seen_of};
+ghost use Rattle.sh_eval.specs.Contract.{HasCause, IsGone, drawn_of, faults_of, seen_of};
 ghost use Rattle.sh_eval.specs.Meaning.{begun, script_means};
 ghost use Rattle.sh_eval.specs.Scripts.{Leaves};
 ghost use Rattle.sh_eval.specs.Table.{pages};
@@ -18,14 +18,14 @@ use ps_world::{Sink, Source, Tree};
 use sh_tree::Script;
 use std::alloc::Global;
 
-/// Runs a script in this shell, over these files, this input, and this output and error output.
+/// Runs a script in this shell, over these files, this input, and this output and error output. No utility runs so far.
 ///
 /// Where it is over, all is as the script means it (`script_means`): how the shell goes on, the shell, the files, what is left of the
 /// input, and what was written. After a fault, and where memory was refused, output and errors have grown by prefixes of what is meant. A
 /// fault is told only where the count of its object rose. The input and the output come back.
 ///
 /// No writer may be out as the call begins.
-pub fn run_script<T: Tree, I: Source, O: Sink, E: Sink>(
+pub fn run_script<T: Tree, I: Source + Send, O: Sink + Send, E: Sink>(
     alloc: Global,
     script: &Script,
     shell: &mut Shell,
@@ -36,7 +36,7 @@ pub fn run_script<T: Tree, I: Source, O: Sink, E: Sink>(
 ) -> Played<I, O>
     requires whole { IfSome (T.state tree.old).held NoWriterOut }
     ensures meaning { (expansions : Expansions) → AreExpansions expansions → IfSome (T.state tree.old).held (λ files. IfSome (I.left input) (λ text.
-        Leaves (seen_of (I.left input) (O.taken out) (E.taken err.old)) result.how shell.new (T.state tree.new) (seen_of (I.left result.input) (O.taken result.out) (E.taken err.new))
+        Leaves (seen_of (drawn_of (I.left input) None) (O.taken out) (E.taken err.old)) result.how shell.new (T.state tree.new) (seen_of (drawn_of (I.left result.input) None) (O.taken result.out) (E.taken err.new))
         (script_means expansions pages (script_tree script.now) (begun shell.old (T.state tree.old).home files text)))) }
     ensures whole { IsGone result.how → IfSome (T.state tree.new).held NoWriterOut }
     ensures cause { HasCause result.how
@@ -46,7 +46,7 @@ pub fn run_script<T: Tree, I: Source, O: Sink, E: Sink>(
 {
     let mut session = Session::begun(alloc);
     match &script.body {
-        Some(list) => eval_list(alloc, list, shell, &mut session, tree, input, out, err),
+        Some(list) => eval_list(list, shell, &mut session, tree, input, out, err),
         None => Played {
             how: How::Gone(Flow::On),
             input,

@@ -4,7 +4,7 @@ ghost use Rattle.std.specs.Option.{option_map};
 ghost use Rattle.ps_world.specs.Counts.{Rose};
 ghost use Rattle.ps_world.specs.Files.{IsFileAt};
 ghost use Rattle.ps_world.specs.TreeState.{Balanced};
-ghost use Rattle.sh_eval.specs.Contract.{CanTake, Evaluates, IsSound, faults_of, point_of, seen_of};
+ghost use Rattle.sh_eval.specs.Contract.{CanTake, Drawn, Evaluates, IsSound, faults_of, point_of, seen_of};
 ghost use Rattle.sh_eval.specs.States.{on, puts, tells, write};
 ghost use Rattle.sh_eval.specs.Writing.{added_to, kept as kept_lem, written as written_lem};
 ghost use Rattle.sh_eval.specs.declared.session.Session.{Session};
@@ -26,11 +26,11 @@ pub(crate) fn put<T: Tree, O: Sink, E: Sink>(
 ) -> How
     requires sound { IsSound session.old (T.state tree.old) }
     ensures streams { session.new.streams ≡ session.old.streams }
-    ensures evaluates { (shell : Shell) (left : Option (List ℕ)) (input : ℕ) → Evaluates (λ expansions state. on (puts bytes.now state))
-        (point_of shell session.old (T.state tree.old) (seen_of left (O.taken out.old) (E.taken err.old))
+    ensures evaluates { (shell : Shell) (drawn : Drawn) (input : ℕ) → Evaluates (λ expansions state. on (puts bytes.now state))
+        (point_of shell session.old (T.state tree.old) (seen_of drawn (O.taken out.old) (E.taken err.old))
         (faults_of input (O.faults out.old) (E.faults err.old) (T.faults tree.old)))
         result
-        (point_of shell session.new (T.state tree.new) (seen_of left (O.taken out.new) (E.taken err.new))
+        (point_of shell session.new (T.state tree.new) (seen_of drawn (O.taken out.new) (E.taken err.new))
         (faults_of input (O.faults out.new) (E.faults err.new) (T.faults tree.new))) }
 {
     write_to(
@@ -53,11 +53,11 @@ pub(crate) fn tell<T: Tree, O: Sink, E: Sink>(
 ) -> How
     requires sound { IsSound session.old (T.state tree.old) }
     ensures streams { session.new.streams ≡ session.old.streams }
-    ensures evaluates { (shell : Shell) (left : Option (List ℕ)) (input : ℕ) → Evaluates (λ expansions state. on (tells line.now state))
-        (point_of shell session.old (T.state tree.old) (seen_of left (O.taken out.old) (E.taken err.old))
+    ensures evaluates { (shell : Shell) (drawn : Drawn) (input : ℕ) → Evaluates (λ expansions state. on (tells line.now state))
+        (point_of shell session.old (T.state tree.old) (seen_of drawn (O.taken out.old) (E.taken err.old))
         (faults_of input (O.faults out.old) (E.faults err.old) (T.faults tree.old)))
         result
-        (point_of shell session.new (T.state tree.new) (seen_of left (O.taken out.new) (E.taken err.new))
+        (point_of shell session.new (T.state tree.new) (seen_of drawn (O.taken out.new) (E.taken err.new))
         (faults_of input (O.faults out.new) (E.faults err.new) (T.faults tree.new))) }
 {
     write_to(
@@ -80,12 +80,12 @@ fn write_to<T: Tree, O: Sink, E: Sink>(
     err: &mut E,
 ) -> How
     requires there { IfSome (T.state tree.old).held (λ files. CanTake files place.now) }
-    ensures { (shell : Shell) (session : Session) (left : Option (List ℕ)) (input : ℕ) → session.pipes ≡ pipes.old
+    ensures { (shell : Shell) (session : Session) (drawn : Drawn) (input : ℕ) → session.pipes ≡ pipes.old
         → Evaluates (λ expansions state. on (write place.now bytes.now state))
-        (point_of shell session (T.state tree.old) (seen_of left (O.taken out.old) (E.taken err.old))
+        (point_of shell session (T.state tree.old) (seen_of drawn (O.taken out.old) (E.taken err.old))
         (faults_of input (O.faults out.old) (E.faults err.old) (T.faults tree.old)))
         result
-        (point_of shell (record session { pipes = pipes.new }) (T.state tree.new) (seen_of left (O.taken out.new) (E.taken err.new))
+        (point_of shell (record session { pipes = pipes.new }) (T.state tree.new) (seen_of drawn (O.taken out.new) (E.taken err.new))
         (faults_of input (O.faults out.new) (E.faults err.new) (T.faults tree.new))) }
 {
     match place {

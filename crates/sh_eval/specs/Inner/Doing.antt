@@ -1,9 +1,11 @@
 -- What a command does that is no utility, for the functions that do it.
-use Rattle.std.specs.Prelude.{List, [], Bool, true, false}
+use Rattle.std.specs.Prelude.{[], Bool, true, false}
 use Rattle.ut_args.specs.Invocations.{command_of}
 use Rattle.sh_eval.specs.declared.simple.Doing.{Doing}
 use Rattle.sh_eval.specs.declared.simple.Doing.TheVariants as doing
-use Rattle.sh_eval.specs.States.{Means, on}
+use Rattle.sh_eval.specs.declared.flows.Flow.{Flow}
+use Rattle.sh_eval.specs.declared.flows.Flow.TheVariants as flow
+use Rattle.sh_eval.specs.States.{Means, on, leaves}
 use Rattle.sh_eval.specs.Builtins.{misused}
 use Rattle.sh_eval.specs.Asking.{Asked, no_name, unknown, unlisted, unusable, utility, builtin, at_fault, does, is_special}
 
@@ -16,18 +18,27 @@ is_own (unusable is_special name) = false
 is_own (utility name called) = false
 is_own (builtin is_special means) = true
 
--- it is of a special built-in
-abbrev pub is_special_of : Asked → Bool
-is_special_of no_name = false
-is_special_of (unknown name) = false
-is_special_of (unlisted name letter) = false
-is_special_of (unusable is_special name) = is_special
-is_special_of (utility name called) = false
-is_special_of (builtin is_special means) = is_special
+-- its assignments stay: those of a special built-in, and those of no command (XCU 2.9.1)
+abbrev pub stays_of : Asked → Bool
+stays_of no_name = true
+stays_of (unknown name) = false
+stays_of (unlisted name letter) = false
+stays_of (unusable is_special name) = is_special
+stays_of (utility name called) = false
+stays_of (builtin is_special means) = is_special
 
--- what it means, where it is one of them or can't be used
+-- how the shell goes on where a redirection of it stops
+abbrev pub way_of : Asked → Flow
+way_of no_name = flow.On
+way_of (unknown name) = flow.On
+way_of (unlisted name letter) = flow.On
+way_of (unusable is_special name) = at_fault is_special
+way_of (utility name called) = flow.On
+way_of (builtin is_special means) = at_fault is_special
+
+-- what it means, behind its assignments, where it is none of the table, one of the shell's own, or can't be used
 abbrev pub own_means : Asked → Means
-own_means no_name state = on state
+own_means no_name state = on (leaves state.shell.substitution_status state)
 own_means (unknown name) state = on state
 own_means (unlisted name letter) state = on state
 own_means (unusable is_special name) state = misused (at_fault is_special) name state
@@ -36,10 +47,12 @@ own_means (builtin is_special means) state = means state
 
 -- what is to be done
 abbrev pub asked_of : Doing → Asked
+asked_of doing.Nothing = no_name
 asked_of (doing.Builtin name inv) = does name.now [] (command_of inv.now)
 asked_of (doing.Misuse name) = unusable (is_special name.now) name.now
 
 -- where it is said to be one of them, it is
 abbrev pub can_be_done : Doing → Bool
+can_be_done doing.Nothing = true
 can_be_done (doing.Builtin name inv) = is_own (does name.now [] (command_of inv.now))
 can_be_done (doing.Misuse name) = true

@@ -1,7 +1,8 @@
-use Rattle.std.proofs.Common.{rules, ◌+◌, ◌==◌, not, ℕ, List, arith, refl, sym, ap, ◌∙◌}
+use Rattle.std.proofs.Common.{rules, ◌+◌, not, ℕ, List, arith, refl, sym, ap, ◌∙◌}
 use Rattle.sh_eval.specs.Commands.{all_turns, failed, goes_round, in_loop, its_status, some_command, substitution, subshell, succeeded, first_stage, middle_stage, last_stage, handed_on, reading_piped, unchanged, with_kept, with_text}
 use Rattle.sh_eval.specs.declared.outcomes.How.TheVariants as how
-use Rattle.sh_eval.specs.declared.shell.Shell.{Shell}
+use Rattle.sh_eval.specs.declared.session.Session.{Session}
+use Rattle.sh_eval.specs.declared.streams.From.{From}
 use Rattle.sh_eval.specs.Inner.Bodies.{body_means, round_means, rounds_mean, turn_means}
 use Rattle.std.specs.FinMap as finite
 use Rattle.ps_lines.specs.Texts.{texts_of}
@@ -12,8 +13,8 @@ use Rattle.sh_eval.specs.Meaning.{has_item, list_means, command_means}
 use Rattle.sh_eval.specs.Table.{pages}
 use Rattle.sh_tree.specs.Views.{list_tree, command_tree}
 use Rattle.sh_eval.proofs.Growing.{adds-some_command, adds-substitution, same-turns, list-adds, command-adds, adds-subshell, adds-first_stage, adds-middle_stage, adds-last_stage}
-use Rattle.sh_eval.proofs.ListSteps.{items-followed, items-stopped, items-done, and_or-followed, and_or-stopped, joined-followed, joined-stopped, joined-done, next-runs, next-skipped, pipeline-followed, pipeline-stopped, within, wanted-at, stages-followed, stages-stopped, stages-done, staged-at}
-use Rattle.sh_eval.proofs.CommandSteps.{succeeds-so, fails-so, wanted-behind, subs-followed, subs-stopped, subs-done, subs-begun, substituted-empty, substituted-some, simple-followed, simple-stopped, if-stopped, if-taken, if-passed, if-else, if-none, if-body, compound-stopped, compound-bare, compound-wanted, body-adds, while-body, until-body, while-turn, until-turn, turn-adds, turns-add, loop-adds, for-arguments, for-stopped, for-followed, for_behind, for-adds, for-fields, round-adds, rounds-add, round-of}
+use Rattle.sh_eval.proofs.ListSteps.{handed-back, read-back, items-followed, items-stopped, items-done, and_or-followed, and_or-stopped, joined-followed, joined-stopped, joined-done, next-runs, next-skipped, pipeline-followed, pipeline-stopped, within, wanted-at, stages-followed, stages-stopped, stages-done, staged-at}
+use Rattle.sh_eval.proofs.CommandSteps.{succeeds-so, fails-so, wanted-behind, subs-followed, subs-stopped, subs-done, substituted-empty, substituted-some, simple-followed, simple-stopped, if-stopped, if-taken, if-passed, if-else, if-none, if-body, compound-stopped, compound-opened, body-adds, while-body, until-body, while-turn, until-turn, turn-adds, turns-add, loop-adds, for-arguments, for-stopped, for-followed, for_behind, for-adds, for-fields, round-adds, rounds-add, round-of}
 use Rattle.sh_eval.proofs.LoopSteps.{over-here, left-here, again-here, done-here, in-loop, turns-over, turns-left, turns-again, turn-left, turn-held, turn-failed, body-noted}
 use Rattle.sh_eval.proofs.Steps.{failed-early, goes-gone, gone-so, no-fewer, wanted, sound-behind}
 use Rattle.sh_eval.proofs.lists.+evaluation.Goals as goal
@@ -97,7 +98,7 @@ eval_first_stage-returns-in_default-open_pipe g t c =
 pub eval_first_stage-returns : goal.eval_first_stage-returns
 eval_first_stage-returns g t c =
     within (λ expansions. command_means expansions pages (command_tree c.args.command.now)) piping handed_on unchanged _ _ _ _ _ _ _ _ _ _ _ _
-    (search rules) (search rules) refl (search rules) c.settled.ensures same-turns (λ old new. same-turns new) (λ old new same. record { output = refl; errors = same.errors }) c.eval_command-how.ensures
+    c.in-Ok.ensures c.in-Ok-open_pipe.ensures.ok.1 refl (handed-back c.args.session.now c.eval_command-how.new.session _ _ c.in-Ok-open_pipe.ensures.ok.0 c.hand_on.ensures) c.settled.ensures same-turns (λ old new. same-turns new) (λ old new same. record { output = refl; errors = same.errors }) c.eval_command-how.ensures
 
 pub eval_middle_stage-returns-in_default : goal.eval_middle_stage-returns-in_default
 eval_middle_stage-returns-in_default g t c =
@@ -113,7 +114,9 @@ pub eval_middle_stage-returns : goal.eval_middle_stage-returns
 eval_middle_stage-returns g t c =
     within (λ expansions. command_means expansions pages (command_tree c.args.command.now)) (λ session. piping (reading_piped session)) (λ old new. reading old.streams.from (handed_on old new)) unchanged
     _ _ _ _ _ _ _ _ _ _ _ _
-    (search rules) (search rules) refl (search rules) c.settled.ensures same-turns (λ old new. same-turns new) (λ old new same. record { output = refl; errors = same.errors }) c.eval_command-how.ensures
+    c.in-Ok.ensures (c.in-Ok-open_pipe.ensures.ok.1 ∙ ap piping c.read_piped-from.ensures.session) refl
+    (c.read_from.ensures ∙ read-back c.args.session.now c.eval_command-how.new.session _ _ c.read_piped-from.ensures.from (handed-back c.args.session.now c.eval_command-how.new.session _ _ (c.in-Ok-open_pipe.ensures.ok.0 ∙ ap (λ (it : Session). it.streams.to) c.read_piped-from.ensures.session) c.hand_on.ensures))
+    c.settled.ensures same-turns (λ old new. same-turns new) (λ old new same. record { output = refl; errors = same.errors }) c.eval_command-how.ensures
 
 pub eval_last_stage-returns-in_default : goal.eval_last_stage-returns-in_default
 eval_last_stage-returns-in_default g t c =
@@ -123,7 +126,7 @@ eval_last_stage-returns-in_default g t c =
 pub eval_last_stage-returns : goal.eval_last_stage-returns
 eval_last_stage-returns g t c =
     within (λ expansions. command_means expansions pages (command_tree c.args.command.now)) reading_piped (λ old new. reading old.streams.from new) its_status _ _ _ _ _ _ _ _ _ _ _ _
-    (search rules) (search rules) refl (search rules) c.settled.ensures same-turns (λ old new. same-turns new) (λ old new same. record { output = same.output; errors = same.errors }) c.eval_command-how.ensures
+    c.in-Ok.ensures c.read_piped-from.ensures.session refl (c.read_from.ensures ∙ ap (λ (it : From). reading it c.eval_command-how.new.session) c.read_piped-from.ensures.from) c.settled.ensures same-turns (λ old new. same-turns new) (λ old new same. record { output = same.output; errors = same.errors }) c.eval_command-how.ensures
 
 pub eval_several-loop-stage-init : goal.eval_several-loop-stage-init
 eval_several-loop-stage-init g t c = record { counted = refl; rest = λ came new all. all; sound = c.requires.sound }
@@ -175,56 +178,58 @@ eval_body-returns-in-Until g t c = until-body c.args.command.now _ _ _ _ _ _ c.i
 pub eval_body-returns-in-Simple : goal.eval_body-returns-in-Simple
 eval_body-returns-in-Simple g t c = wanted (λ expansions. body_means expansions pages (command_tree c.args.command.now)) _ (λ expansions. body-adds expansions (command_tree c.args.command.now))
 
-pub eval_command-returns-else-not-is_bare : goal.eval_command-returns-else-not-is_bare
-eval_command-returns-else-not-is_bare g t c =
-    compound-bare c.args.command.now _ c.in-Group.is _ _ _ _ _ (sym c.goes_on.ensures ∙ c.if-not-goes_on.false) (c.is_bare.ensures c.if-not-is_bare.false) c.eval_tail-how.ensures c.eval_body.ensures
+pub eval_command-returns-in-Err : goal.eval_command-returns-in-Err
+eval_command-returns-in-Err g t c =
+    compound-opened c.args.command.now _ _ c.in-Group.is c.as_slice.ensures.value _ _ _ _ _ (sym c.goes_on.ensures ∙ c.if-not-goes_on.false) c.eval_tail-how.ensures
+    (c.in-Err.ensures.err _ _ (λ expansions. body_means expansions pages (command_tree c.args.command.now)) (λ expansions. body-adds expansions (command_tree c.args.command.now)))
+
+pub eval_command-returns-in-Ok : goal.eval_command-returns-in-Ok
+eval_command-returns-in-Ok g t c =
+    compound-opened c.args.command.now _ _ c.in-Group.is c.as_slice.ensures.value _ _ _ _ _ (sym c.goes_on.ensures ∙ c.if-not-goes_on.false) c.eval_tail-how.ensures
+    (c.in-Ok.ensures.ok _ _ (λ expansions. body_means expansions pages (command_tree c.args.command.now)) _ _ _ c.eval_body-how.ensures c.close.ensures)
 
 pub eval_command-returns-then-not-goes_on : goal.eval_command-returns-then-not-goes_on
 eval_command-returns-then-not-goes_on g t c = compound-stopped c.args.command.now _ c.in-Group.is _ _ _ (sym c.goes_on.ensures ∙ c.if-not-goes_on.true) c.eval_tail-how.ensures
 
-pub eval_command-returns-then-not-is_bare : goal.eval_command-returns-then-not-is_bare
-eval_command-returns-then-not-is_bare g t c =
-    compound-wanted c.args.command.now _ c.in-Group.is _ _ _ _ _ _ _ _ (sym c.goes_on.ensures ∙ c.if-not-goes_on.false) c.eval_tail-how.ensures
+pub eval_if-eval_condition-how-requires-clause-sound : goal.eval_if-eval_condition-how-requires-clause-sound
+eval_if-eval_condition-how-requires-clause-sound g t c κs outlive = c.loop-branch.invariant.sound
 
-pub eval_if-eval_list-how-requires-clause-sound : goal.eval_if-eval_list-how-requires-clause-sound
-eval_if-eval_list-how-requires-clause-sound g t c κs outlive = c.loop-condition.invariant.sound
+pub eval_if-eval_branch-requires-clause-sound : goal.eval_if-eval_branch-requires-clause-sound
+eval_if-eval_branch-requires-clause-sound g t c κs outlive = sound-behind _ _ (c.eval_condition-how.ensures.keeps (goes-gone _ (sym c.goes_on.ensures ∙ c.if-not-goes_on.false))) c.loop-branch.invariant.sound
 
 pub eval_if-eval_list-requires-clause-sound : goal.eval_if-eval_list-requires-clause-sound
-eval_if-eval_list-requires-clause-sound g t c κs outlive = sound-behind _ _ (c.eval_list-how.ensures.keeps (goes-gone _ (sym c.goes_on.ensures ∙ c.if-not-goes_on.false))) c.loop-condition.invariant.sound
+eval_if-eval_list-requires-clause-sound g t c κs outlive = c.loop-branch.invariant.sound
 
-pub eval_if-eval_list-requires-in-Some-clause-sound : goal.eval_if-eval_list-requires-in-Some-clause-sound
-eval_if-eval_list-requires-in-Some-clause-sound g t c κs outlive = c.loop-condition.invariant.sound
-
-pub eval_if-loop-condition-init : goal.eval_if-loop-condition-init
-eval_if-loop-condition-init g t c =
+pub eval_if-loop-branch-init : goal.eval_if-loop-branch-init
+eval_if-loop-branch-init g t c =
     record {
-      rest = λ came new all. if-body c.args.command.now _ _ _ _ _ _ _ c.in-If.is c.as_slice-condition-items.ensures.value all;
+      rest = λ came new all. if-body c.args.command.now _ _ _ _ _ _ _ c.in-If.is c.as_slice-branch-items.ensures.value all;
       sound = c.requires.sound;
     }
 
-pub eval_if-loop-condition-preserved : goal.eval_if-loop-condition-preserved
-eval_if-loop-condition-preserved g t c =
+pub eval_if-loop-branch-preserved : goal.eval_if-loop-branch-preserved
+eval_if-loop-branch-preserved g t c =
     record {
-      rest = λ came new rest. c.loop-condition.invariant.rest came new (if-passed _ _ c.loop-condition.condition-index _ c.loop-condition-item.is c.loop-condition-test.true _ _ _ _ _ (sym c.goes_on.ensures ∙ c.if-not-goes_on.false) c.if-shell-eq0.false c.eval_list-how.ensures rest);
-      sound = sound-behind _ _ (c.eval_list-how.ensures.keeps (goes-gone _ (sym c.goes_on.ensures ∙ c.if-not-goes_on.false))) c.loop-condition.invariant.sound;
+      rest = λ came new rest. c.loop-branch.invariant.rest came new (if-passed _ _ c.loop-branch.branch-index _ c.branch-item.is c.loop-branch-test.true _ _ _ _ _ (sym c.goes_on.ensures ∙ c.if-not-goes_on.false) c.if-shell-eq0.false c.eval_condition-how.ensures rest);
+      sound = sound-behind _ _ (c.eval_condition-how.ensures.keeps (goes-gone _ (sym c.goes_on.ensures ∙ c.if-not-goes_on.false))) c.loop-branch.invariant.sound;
     }
 
 pub eval_if-returns-in-None : goal.eval_if-returns-in-None
-eval_if-returns-in-None g t c = c.loop-condition.invariant.rest _ _ (if-none _ _ c.loop-condition.condition-index _ _ _ _ _ _ c.loop-condition-test.false c.in-None.is refl)
+eval_if-returns-in-None g t c = c.loop-branch.invariant.rest _ _ (if-none _ _ c.loop-branch.branch-index _ _ _ _ _ _ c.loop-branch-test.false c.in-None.is refl)
 
 pub eval_if-returns-in-Some : goal.eval_if-returns-in-Some
-eval_if-returns-in-Some g t c = c.loop-condition.invariant.rest _ _ (if-else _ _ _ c.loop-condition.condition-index _ _ _ c.loop-condition-test.false c.in-Some.is c.eval_list-in-Some.ensures)
+eval_if-returns-in-Some g t c = c.loop-branch.invariant.rest _ _ (if-else _ _ _ c.loop-branch.branch-index _ _ _ c.loop-branch-test.false c.in-Some.is c.eval_list.ensures)
 
 pub eval_if-returns-in_default : goal.eval_if-returns-in_default
 eval_if-returns-in_default g t c = wanted (λ expansions. body_means expansions pages (command_tree c.args.command.now)) _ (λ expansions. body-adds expansions (command_tree c.args.command.now))
 
 pub eval_if-returns-then-not-goes_on : goal.eval_if-returns-then-not-goes_on
 eval_if-returns-then-not-goes_on g t c =
-    c.loop-condition.invariant.rest _ _ (if-stopped _ _ c.loop-condition.condition-index _ c.loop-condition-item.is c.loop-condition-test.true _ _ _ (sym c.goes_on.ensures ∙ c.if-not-goes_on.true) c.eval_list-how.ensures)
+    c.loop-branch.invariant.rest _ _ (if-stopped _ _ c.loop-branch.branch-index _ c.branch-item.is c.loop-branch-test.true _ _ _ (sym c.goes_on.ensures ∙ c.if-not-goes_on.true) c.eval_condition-how.ensures)
 
 pub eval_if-returns-then-shell-eq0 : goal.eval_if-returns-then-shell-eq0
 eval_if-returns-then-shell-eq0 g t c =
-    c.loop-condition.invariant.rest _ _ (if-taken _ _ c.loop-condition.condition-index _ c.loop-condition-item.is c.loop-condition-test.true _ _ _ _ _ (sym c.goes_on.ensures ∙ c.if-not-goes_on.false) c.if-shell-eq0.true c.eval_list-how.ensures c.eval_list.ensures)
+    c.loop-branch.invariant.rest _ _ (if-taken _ _ c.loop-branch.branch-index _ c.branch-item.is c.loop-branch-test.true _ _ _ _ _ (sym c.goes_on.ensures ∙ c.if-not-goes_on.false) c.if-shell-eq0.true c.eval_condition-how.ensures c.eval_branch.ensures)
 
 pub eval_loop_body-returns : goal.eval_loop_body-returns
 eval_loop_body-returns g t c = body-noted (λ expansions. list_means expansions pages (list_tree c.args.body.now)) _ _ _ _ _ _ _ _ c.note_body.ensures c.eval_list-how.ensures

@@ -1,7 +1,7 @@
 use Rattle.std.proofs.Common.{[], None, refl, ap}
 use Rattle.sh_eval.specs.declared.session.Session.{Session}
 use Rattle.sh_eval.specs.Shells.{started}
-use Rattle.sh_eval.specs.Contract.{seen_of}
+use Rattle.sh_eval.specs.Contract.{drawn_of, seen_of}
 use Rattle.sh_eval.specs.Redirections.{redirecting}
 use Rattle.sh_eval.proofs.RedirectionLoops.{reaches-none, all-led, all-done, all-stopped-at, kept-none, kept-more, kept-all, kept-some}
 use Rattle.sh_eval.proofs.redirections.redirect_all.Goals as goal
@@ -16,7 +16,7 @@ loop-target-preserved g c =
       reaches = λ shell seen input output errors.
           all-led c.args.targets.now c.loop-target.target-index c.target-item.result _ _ _ c.target-item.is c.loop-target-test.true (c.loop-target.invariant.reaches shell seen input output errors)
           (c.in-Ok.ensures.does shell seen input output errors);
-      whole = (c.in-Ok.ensures.does (started [] []) (seen_of None None None) 0 0 0).leaves_on.whole c.loop-target.invariant.whole;
+      whole = (c.in-Ok.ensures.does (started [] []) (seen_of (drawn_of None None) None None) 0 0 0).leaves_on.whole c.loop-target.invariant.whole;
       kept = kept-more c.args.targets.now c.loop-target.target-index c.target-item.result _ _ _ _ _ _ c.in-Ok.read c.target-item.is c.loop-target-test.true c.loop-target.invariant.kept c.in-Ok.ensures.from c.keep_read.ensures
           c.in-Ok.ensures.kept c.requires.fresh;
     }

@@ -1,12 +1,21 @@
+use Rattle.std.proofs.Common.{refl}
+use Rattle.sh_eval.specs.declared.flows.Flow.TheVariants as flow
+use Rattle.sh_eval.specs.Shells.{with_status}
 use Rattle.sh_eval.specs.Inner.Doing.{asked_of, own_means}
 use Rattle.sh_eval.proofs.SimpleSteps.{doing-adds, misuse-runs, runs-own}
+use Rattle.sh_eval.proofs.Steps.{changed}
 use Rattle.sh_eval.proofs.simple.run_assigned.Goals as goal
 
 pub returns-in-Err : goal.returns-in-Err
 returns-in-Err g c = c.in-Err.ensures.err _ _ (λ expansions given. own_means (asked_of c.args.doing)) (λ expansions given. doing-adds c.args.doing)
 
+pub returns-in-Nothing : goal.returns-in-Nothing
+returns-in-Nothing g c =
+    c.in-Ok.ensures.ok _ _ (λ expansions given. own_means (asked_of c.args.doing)) _ _
+    (runs-own c.args.doing _ _ _ c.requires.own (rw c.in-Nothing.is (changed flow.On (λ shell. with_status shell.substitution_status shell) _ _ _ _ _ _ refl)))
+
 pub returns-in-Builtin : goal.returns-in-Builtin
-returns-in-Builtin g c = c.in-Ok.ensures.ok _ _ (λ expansions given. own_means (asked_of c.args.doing)) _ _ (runs-own c.args.doing _ _ _ c.requires.own (rw c.in-Builtin.is c.run_builtin.ensures))
+returns-in-Builtin g c = c.in-Ok.ensures.ok _ _ (λ expansions given. own_means (asked_of c.args.doing)) _ _ (runs-own c.args.doing _ _ _ c.requires.own (rw c.in-Builtin.is (c.run_builtin.ensures _)))
 
 pub returns-in-Misuse : goal.returns-in-Misuse
 returns-in-Misuse g c =

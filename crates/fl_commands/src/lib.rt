@@ -14,5 +14,5 @@ mod stages;
 #[cfg(test)]
 mod tests;
 
-pub use operands::{Operand, ins_of, lacking, look_at};
+pub use operands::{Operand, ins_of, lacking, lacks, look_at};
 pub use runs::{Commanded, Ended, run_command};

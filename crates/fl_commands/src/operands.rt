@@ -88,7 +88,7 @@ fn is_readable(place: &Place) -> bool
 }
 
 /// Whether an operand has no input.
-pub(crate) fn lacks(operand: &Operand) -> bool
+pub fn lacks(operand: &Operand) -> bool
     ensures { result ≡ lacks_lem operand.now }
 {
     match operand {

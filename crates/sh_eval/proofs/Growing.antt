@@ -32,7 +32,8 @@ use Rattle.sh_eval.specs.Expanding.{ends_told, stops_at, goes_on_with, with_vari
 use Rattle.sh_eval.specs.Expanding.{with_text as with_text_of}
 use Rattle.sh_eval.specs.Targets.{Target}
 use Rattle.sh_eval.specs.Redirections.{Use, named_by, unless_busy, where_free, first_busy, Redirected, led, stopped, reading_at, writing_at, redirected, leads_to, goes_on_in, redirecting, in_redirections, uses_of, holding}
-use Rattle.sh_eval.specs.Utilities.{Called, appends, deals, needs_all, Made, make_file, make_files, write_files, noted_run, is_cat, has_input, words_without, Pages, Patterns, read, wrong, refers_back, given_to, inputs_in, complaints_in, has_none, reads_standard, status_of, taken_in, takes_inputs, tells_some, lines_told, made_by, texts_joined, writes_out, does_nothing, runs_utility, uses_by_operands}
+use Rattle.fl_commands.specs.Inputs.{status_of}
+use Rattle.sh_eval.specs.Utilities.{Called, appends, deals, needs_all, Made, make_file, make_files, write_files, noted_run, is_cat, has_input, words_without, Pages, Patterns, read, wrong, refers_back, given_to, inputs_in, has_none, reads_standard, taken_in, takes_inputs, tells_some, lines_told, made_by, texts_joined, writes_out, does_nothing, runs_utility, uses_by_operands}
 use Rattle.sh_eval.specs.Builtins.{misused, answers, sets, shifts, set_all, line_in, behind_line, reads}
 use Rattle.sh_eval.specs.Asking.{Asked, no_name, unknown, unlisted, unusable, utility, builtin, at_fault, does, asked_as, asked_by}
 use Rattle.sh_eval.specs.Simple.{assigned_for, done, where_few, by_patterns, checked, runs_simple, most_operands}
@@ -50,7 +51,7 @@ use Rattle.ut_test.specs.Fields.{fields_read}
 use Rattle.ut_test.specs.Echo.{echoed}
 use Rattle.sh_expand.specs.Separators.{ifs_of}
 use Rattle.std.specs.Option.{unwrap_or}
-use Rattle.std.specs.List.{list_any, flat_map}
+use Rattle.std.specs.List.{list_any}
 use Rattle.sh_eval.specs.Growth.{Grows, Adds}
 
 -- states that only grow
@@ -365,16 +366,16 @@ grows-noted start false ran state grows = grows
 grows-noted start true ran state grows = record { output = grows.output; errors = grows.errors; turns = grows.turns }
 
 module _ (pages : Pages) where
-  adds-takes_inputs : (name : List ℕ) (called : Called) (made : Made) → Adds (takes_inputs pages name called made)
-  adds-takes_inputs name called made state =
+  pub adds-takes_inputs : (name : List ℕ) (called : Called) (paths : List Components) (is_whole : Bool) → Adds (takes_inputs pages name called paths is_whole)
+  adds-takes_inputs name called paths is_whole state =
       let operands = operands_by called.command in
       let inputs = inputs_in (given_to state (deals called.command) name operands) in
       let taken = taken_in (reads_standard operands) state in
       let taken_grows = grows-if state (reads_standard operands) (reads_to [] state) state (grows-reads_to state [] state (grows-self state)) (grows-self state) in
       let noted = in_world (noted_run (not (is_cat called.command) && has_input inputs) (words_without (has_none state) called)) taken in
       let noted_grows = grows-noted state (not (is_cat called.command) && has_input inputs) (words_without (has_none state) called) taken taken_grows in
-      let left = leaves (status_of called.command (not made.is_whole || list_any (has_none state) operands) (pages.selects called.command inputs)) noted in
-      grows-files state made.paths (texts_joined pages inputs) (puts (pages.output called.command inputs) left)
+      let left = leaves (status_of called.command (not is_whole || list_any (has_none state) operands) (pages.selects called.command inputs)) noted in
+      grows-files state paths (texts_joined pages inputs) (puts (pages.output called.command inputs) left)
       (grows-puts state (pages.output called.command inputs) left (record { output = noted_grows.output; errors = noted_grows.errors; turns = noted_grows.turns }))
 
   adds-writes_out : (name : List ℕ) (called : Called) (made : Made) (state : State) → IsOf state made → Grows state (writes_out pages name called made state).state
@@ -382,12 +383,12 @@ module _ (pages : Pages) where
       let given = given_to state (deals called.command) name (operands_by called.command) in
       let first : State = in_world (λ world. made.world) state in
       let lines = made.complaints ++ lines_told called.command given in
-      grows-trans state (tells_some lines first) (takes_inputs pages name called made (tells_some lines first)).state
-      (grows-tells_some state lines first (grows-made state made is)) (adds-takes_inputs name called made (tells_some lines first))
+      grows-trans state (tells_some lines first) (takes_inputs pages name called made.paths made.is_whole (tells_some lines first)).state
+      (grows-tells_some state lines first (grows-made state made is)) (adds-takes_inputs name called made.paths made.is_whole (tells_some lines first))
 
   adds-does_nothing : (name : List ℕ) (called : Called) → Adds (does_nothing pages name called)
   adds-does_nothing name called state =
-      grows-write state.session.streams.errors_to (flat_map (λ line. line) (complaints_in (given_to state (deals called.command) name (operands_by called.command)))) state
+      grows-tells_some state (lines_told called.command (given_to state (deals called.command) name (operands_by called.command))) state (grows-self state)
 
   pub adds-runs_utility : (name : List ℕ) (called : Called) → Adds (runs_utility pages name called)
   adds-runs_utility name called state = by_need (needs_all called.command && list_any (has_none state) (operands_by called.command))

@@ -14,5 +14,8 @@ pub mod RedirectionSteps
 pub mod RedirectionLoops
 pub mod SkippingLemmas
 pub mod SimpleSteps
+pub mod OperandSteps
+pub mod UtilitySteps
+pub mod MeasureLemmas
 pub mod ScriptSteps
 pub mod OpeningLemmas

@@ -102,6 +102,13 @@ shuts-tail redirs given chosen old mid new came same passes shuts =
 pub adds-freed : (uses : State → List Use) (targets : List Target) (inner : State → Means) → ((state : State) → Adds (inner state)) → Adds (freed uses targets inner)
 adds-freed uses targets inner adds state = adds-where_free (λ state. uses state ++ uses_of state targets) (inner state) (adds state) state
 
+pub adds-opened : (way : Flow) (uses : State → List Use) (targets : List Target) (next : Means) → Adds next → Adds (opened way uses targets next)
+adds-opened way uses targets next adds = adds-freed uses targets (λ at_first. in_redirections way targets next) (λ state. adds-in_redirections way targets next adds)
+
+-- the same is found in the tree as it is now
+pub finds-moved : (tree tree' : TreeState) (uses : List Use) (found : State → List Use) → tree' ≡ tree → FindsUses tree uses found → FindsUses tree' uses found
+finds-moved tree tree' uses found is finds = subst (λ (it : TreeState). FindsUses it uses found) (sym is) finds
+
 free-at : (targets : List Target) (found : State → List Use) (uses : List Use) (old : Point) (busy : Option (List ℕ)) → first_busy old.session.streams.held uses ≡ busy → FindsUses old.tree uses (λ state. found state ++ uses_of state targets)
     → (inner : State → Means) (base : Base) (state : State) → Has base old state → freed found targets inner state ≡ unless_busy busy (inner state) state
 free-at targets found uses old busy is finds inner base state has =

@@ -1,13 +1,20 @@
 -- What is evaluated of a simple command comes of what is evaluated behind its words and assignments.
-use Rattle.std.proofs.Common.{◌≡◌, ℕ, List, [], ◌∷◌, ◌<◌, length, map, get_or, arith, Bool, true, false, Result, Ok, Err, refl, sym, ap, ◌∙◌, subst}
-use Rattle.std.proofs.lemmas.Bool.{true≢false}
+use Rattle.std.proofs.Common.{◌≡◌, ℕ, List, [], ◌∷◌, ◌<◌, ◌≤◌, ◌+◌, nat_le, nat_lt, Bor, length, map, get_or, arith, Bool, true, false, Result, Ok, Err, Some, ◌++◌, append-nil, refl, sym, ap, ◌∙◌, subst, if◌then◌else◌}
+use Rattle.std.proofs.lemmas.List.{length-map}
+use Rattle.std.proofs.lemmas.Bool.{true≢false, cond-true, cond-false, and_from, and_parts, le-leb, le-ltb, leb-true, lt-ltb}
+use Rattle.std.specs.Global.{Vec}
+use Rattle.std.specs.List.{flat_map}
+use Rattle.ps_lines.specs.Texts.{texts_of}
 use Rattle.ps_world.specs.TreeState.{TreeState}
 use Rattle.sh_arith.specs.Variables.{Variables}
 use Rattle.sh_tree.specs.Trees.{WordTree, RedirTree}
-use Rattle.ut_args.specs.Invocations.{command_of}
+use Rattle.ut_args.specs.Built.{is_built_by, is_built_of}
+use Rattle.ut_args.specs.Inputs.{files_by, files_of, operands_of}
+use Rattle.ut_args.specs.Invocations.{command_of, words_of}
 use Rattle.ut_args.specs.Reading.{invocation}
 use Rattle.ut_args.specs.declared.commands.Command.{Command}
 use Rattle.ut_args.specs.declared.commands.Command.TheVariants as command
+use Rattle.ut_args.specs.declared.invocations.Inv.{Inv}
 use Rattle.ut_args.specs.declared.faults.ArgFault.{ArgFault}
 use Rattle.ut_args.specs.declared.faults.ArgFault.TheVariants as fault
 use Rattle.sh_expand.specs.Outcomes.{Expansions}
@@ -28,12 +35,15 @@ use Rattle.sh_eval.specs.Builtins.{misused}
 use Rattle.sh_eval.specs.Contract.{Seen, Faults, Point, point_of, Base, Has, Comes, Meaning, Evaluates, PassesOn}
 use Rattle.sh_eval.specs.Expanding.{assigning, with_targets}
 use Rattle.sh_eval.specs.Growth.{Adds}
-use Rattle.sh_eval.specs.Inner.Doing.{can_be_done, is_own, stays_of, way_of, own_means, asked_of}
-use Rattle.sh_eval.specs.Inner.Opening.{opened}
+use Rattle.sh_eval.specs.Inner.Doing.{can_be_done, can_run, is_own, stays_of, way_of, own_means, uses_own, asked_of}
+use Rattle.sh_eval.specs.Inner.Inputs.{called_by}
+use Rattle.sh_eval.specs.Inner.Opening.{FindsUses, opened}
+use Rattle.sh_eval.specs.Redirections.{Use}
 use Rattle.sh_eval.specs.Targets.{Target}
-use Rattle.sh_eval.specs.Simple.{assigned_for, checked, restored, undone}
+use Rattle.sh_eval.specs.Simple.{assigned_for, by_patterns, checked, done, most_operands, restored, undone}
 use Rattle.sh_eval.specs.Table.{pages}
-use Rattle.sh_eval.proofs.Growing.{grows-self, AddsAsked, does-adds, asked-adds, adds-misused, adds-assigned_for, adds-checked, adds-with_targets}
+use Rattle.sh_eval.specs.Utilities.{deals, read, read_use, runs_utility, uses_by_operands, written_use}
+use Rattle.sh_eval.proofs.Growing.{grows-self, AddsAsked, does-adds, asked-adds, adds-misused, adds-assigned_for, adds-checked, adds-runs_utility, adds-with_targets}
 use Rattle.sh_eval.proofs.Steps.{changed, meant-at}
 
 -- what goes on with fields
@@ -86,12 +96,12 @@ own-adds no_name adds state = grows-self state
 own-adds (unknown name) adds state = grows-self state
 own-adds (unlisted name letter) adds state = grows-self state
 own-adds (unusable is_special name) adds state = adds-misused (at_fault is_special) name state
-own-adds (utility name called) adds state = grows-self state
+own-adds (utility name called) adds state = adds-runs_utility pages name called state
 own-adds (builtin is_special means) adds state = adds state
 
 -- what is done in its redirections and behind its assignments
 abbrev pub done_so : List (List ℕ × WordTree) → List Target → Asked → Meaning
-done_so assigns targets asked = λ expansions. opened (way_of asked) (λ state. []) targets (assigned_for expansions (stays_of asked) assigns (own_means asked))
+done_so assigns targets asked = λ expansions. opened (way_of asked) (uses_own asked) targets (assigned_for expansions (stays_of asked) assigns (own_means asked))
 
 pub own-checked : (asked : Asked) (assigns : List (List ℕ × WordTree)) (targets : List Target) (old new : Point) (came : How) → is_own asked ≡ true
     → Evaluates (done_so assigns targets asked) old came new → Evaluates (λ expansions. checked expansions pages assigns targets asked) old came new
@@ -102,56 +112,113 @@ own-checked (unusable is_special name) assigns targets old new came is one = abs
 own-checked (utility name called) assigns targets old new came is one = absurd (true≢false (sym is))
 own-checked (builtin is_special means) assigns targets old new came is one = one
 
--- a command of the table is one of the shell's own, or a utility
-abbrev pub IsDone : Asked → Type 0
-IsDone no_name = ⊥
-IsDone (unknown name) = ⊥
-IsDone (unlisted name letter) = ⊥
-IsDone (unusable is_special name) = ⊥
-IsDone (utility name called) = Unit {0}
-IsDone (builtin is_special means) = Unit {0}
+-- another command is a utility
+utility-so : (name : List ℕ) (words : List (List ℕ)) (asked : Command) → is_own (does name words asked) ≡ false → does name words asked ≡ utility name (record { words = words; command = asked })
+utility-so name words command.True other = absurd (true≢false other)
+utility-so name words command.False other = absurd (true≢false other)
+utility-so name words command.Colon other = absurd (true≢false other)
+utility-so name words (command.Break args) other = absurd (true≢false other)
+utility-so name words (command.Continue args) other = absurd (true≢false other)
+utility-so name words (command.Exit args) other = absurd (true≢false other)
+utility-so name words (command.Set args) other = absurd (true≢false other)
+utility-so name words (command.Shift args) other = absurd (true≢false other)
+utility-so name words (command.Unset args) other = absurd (true≢false other)
+utility-so name words (command.Read args) other = absurd (true≢false other)
+utility-so name words (command.Test args) other = absurd (true≢false other)
+utility-so name words (command.Bracket args) other = absurd (true≢false other)
+utility-so name words (command.Echo args) other = absurd (true≢false other)
+utility-so name words (command.Cat args) other = refl
+utility-so name words (command.Grep args) other = refl
+utility-so name words (command.Tr args) other = refl
+utility-so name words (command.Cut args) other = refl
+utility-so name words (command.Head args) other = refl
+utility-so name words (command.Tail args) other = refl
+utility-so name words (command.Wc args) other = refl
+utility-so name words (command.Uniq args) other = refl
+utility-so name words (command.Sort args) other = refl
+utility-so name words (command.Paste args) other = refl
+utility-so name words (command.Tee args) other = refl
 
--- another command isn't built
-pub not-own : (asked : Asked) (assigns : List (List ℕ × WordTree)) (targets : List Target) (shell : Shell) (session : Session) (tree : TreeState) (seen : Seen) (faults : Faults) → is_own asked ≡ false → IsDone asked
-    → Evaluates (λ expansions. checked expansions pages assigns targets asked) (point_of shell session tree seen faults) (how.Gone (flow.Refused refusal.NotBuilt)) (point_of shell session tree seen faults)
-not-own no_name assigns targets shell session tree seen faults is done = absurd done
-not-own (unknown name) assigns targets shell session tree seen faults is done = absurd done
-not-own (unlisted name letter) assigns targets shell session tree seen faults is done = absurd done
-not-own (unusable is_special name) assigns targets shell session tree seen faults is done = absurd done
-not-own (utility name called) assigns targets shell session tree seen faults is done = refused-so refusal.NotBuilt (λ expansions. checked expansions pages assigns targets (utility name called)) shell session tree seen faults (λ expansions state. refl)
-not-own (builtin is_special means) assigns targets shell session tree seen faults is done = absurd (true≢false is)
+-- one that has a stream writes no file
+built-so : (asked : Command) → is_built_by asked ≡ true → (files_by asked ≡ []) × (deals asked ≡ false)
+built-so command.True is = (refl, refl)
+built-so command.False is = (refl, refl)
+built-so command.Colon is = (refl, refl)
+built-so (command.Break args) is = (refl, refl)
+built-so (command.Continue args) is = (refl, refl)
+built-so (command.Exit args) is = (refl, refl)
+built-so (command.Set args) is = (refl, refl)
+built-so (command.Shift args) is = (refl, refl)
+built-so (command.Unset args) is = (refl, refl)
+built-so (command.Read args) is = (refl, refl)
+built-so (command.Test args) is = (refl, refl)
+built-so (command.Bracket args) is = (refl, refl)
+built-so (command.Echo args) is = (refl, refl)
+built-so (command.Cat args) is = (refl, refl)
+built-so (command.Grep args) is = (refl, refl)
+built-so (command.Tr args) is = (refl, refl)
+built-so (command.Cut args) is = (refl, refl)
+built-so (command.Head args) is = (refl, refl)
+built-so (command.Tail args) is = (refl, refl)
+built-so (command.Wc args) is = (refl, refl)
+built-so (command.Uniq args) is = (refl, refl)
+built-so (command.Sort args) is = (refl, refl)
+built-so (command.Paste args) is = absurd (true≢false (sym is))
+built-so (command.Tee args) is = absurd (true≢false (sym is))
 
-does-done : (name : List ℕ) (words : List (List ℕ)) (asked : Command) → IsDone (does name words asked)
-does-done name words command.True = tt
-does-done name words command.False = tt
-does-done name words command.Colon = tt
-does-done name words (command.Break args) = tt
-does-done name words (command.Continue args) = tt
-does-done name words (command.Exit args) = tt
-does-done name words (command.Set args) = tt
-does-done name words (command.Shift args) = tt
-does-done name words (command.Unset args) = tt
-does-done name words (command.Read args) = tt
-does-done name words (command.Test args) = tt
-does-done name words (command.Bracket args) = tt
-does-done name words (command.Echo args) = tt
-does-done name words (command.Cat args) = tt
-does-done name words (command.Grep args) = tt
-does-done name words (command.Tr args) = tt
-does-done name words (command.Cut args) = tt
-does-done name words (command.Head args) = tt
-does-done name words (command.Tail args) = tt
-does-done name words (command.Wc args) = tt
-does-done name words (command.Uniq args) = tt
-does-done name words (command.Sort args) = tt
-does-done name words (command.Paste args) = tt
-does-done name words (command.Tee args) = tt
+pub writes-none : (it : Inv) → is_built_of it ≡ true → files_of it ≡ []
+writes-none it is = (built-so (command_of it) is).0
 
-pub unbuilt : (name : List ℕ) (words : List (List ℕ)) (asked : Command) (assigns : List (List ℕ × WordTree)) (targets : List Target) (shell : Shell) (session : Session) (tree : TreeState) (seen : Seen) (faults : Faults)
-    → is_own (does name words asked) ≡ false
-    → Evaluates (λ expansions. checked expansions pages assigns targets (does name words asked)) (point_of shell session tree seen faults) (how.Gone (flow.Refused refusal.NotBuilt)) (point_of shell session tree seen faults)
-unbuilt name words asked assigns targets shell session tree seen faults other =
-    not-own (does name words asked) assigns targets shell session tree seen faults other (does-done name words asked)
+pub deals-not : (it : Inv) → is_built_of it ≡ true → deals (command_of it) ≡ false
+deals-not it is = (built-so (command_of it) is).1
+
+module _ (name : List ℕ) (it : Inv) (assigns : List (List ℕ × WordTree)) (targets : List Target) (other : is_own (does name (words_of it) (command_of it)) ≡ false) where
+  abbrev checks : Asked → Meaning
+  checks asked expansions = checked expansions pages assigns targets asked
+
+  abbrev the_utility : Asked
+  the_utility = utility name (called_by it)
+
+  -- a utility that has no stream is refused
+  pub unbuilt : (shell : Shell) (session : Session) (tree : TreeState) (seen : Seen) (faults : Faults) → is_built_of it ≡ false
+      → Evaluates (checks (does name (words_of it) (command_of it))) (point_of shell session tree seen faults) (how.Gone (flow.Refused refusal.NotBuilt)) (point_of shell session tree seen faults)
+  unbuilt shell session tree seen faults is =
+      subst (λ (it : Asked). Evaluates (checks it) (point_of shell session tree seen faults) (how.Gone (flow.Refused refusal.NotBuilt)) (point_of shell session tree seen faults))
+      (sym (utility-so name (words_of it) (command_of it) other))
+      (refused-so refusal.NotBuilt (checks the_utility) shell session tree seen faults
+      (λ expansions state. sym (cond-false (is_built_of it) (by_patterns expansions pages name (called_by it) assigns targets read state) (refused refusal.NotBuilt state) is)))
+
+  abbrev by_count : Expansions → Means
+  by_count expansions = done expansions false assigns (uses_by_operands pages (called_by it)) targets (runs_utility pages name (called_by it))
+
+  few-so : (files : List (List ℕ)) → files ≡ [] → nat_lt most_operands (length (operands_of it) + length files) ≡ nat_lt most_operands (length (operands_of it))
+  few-so files none = ap (λ (it_files : List (List ℕ)). nat_lt most_operands (length (operands_of it) + length it_files)) none ∙ ap (nat_lt most_operands) (add-none (length (operands_of it)))
+    where
+      add-none : (number : ℕ) → number + 0 ≡ number
+      add-none number = omega arith
+
+  built-means : (expansions : Expansions) (state : State) → is_built_of it ≡ true → checks the_utility expansions state
+      ≡ (if nat_lt most_operands (length (operands_of it)) then refused refusal.ArgsTooMany state else by_count expansions state)
+  built-means expansions state is =
+      cond-true (is_built_of it) (by_patterns expansions pages name (called_by it) assigns targets read state) (refused refusal.NotBuilt state) is
+      ∙ ap (λ (it : Bool). if it then refused refusal.ArgsTooMany state else by_count expansions state) (few-so (files_of it) (writes-none it is))
+
+  -- one with too many operands too
+  pub too-many : (shell : Shell) (session : Session) (tree : TreeState) (seen : Seen) (faults : Faults) → is_built_of it ≡ true → nat_lt most_operands (length (operands_of it)) ≡ true
+      → Evaluates (checks (does name (words_of it) (command_of it))) (point_of shell session tree seen faults) (how.Gone (flow.Refused refusal.ArgsTooMany)) (point_of shell session tree seen faults)
+  too-many shell session tree seen faults is many =
+      subst (λ (it : Asked). Evaluates (checks it) (point_of shell session tree seen faults) (how.Gone (flow.Refused refusal.ArgsTooMany)) (point_of shell session tree seen faults))
+      (sym (utility-so name (words_of it) (command_of it) other))
+      (refused-so refusal.ArgsTooMany (checks the_utility) shell session tree seen faults
+      (λ expansions state. sym (built-means expansions state is ∙ cond-true (nat_lt most_operands (length (operands_of it))) (refused refusal.ArgsTooMany state) (by_count expansions state) many)))
+
+  -- and any other is run
+  pub utility-runs : (old new : Point) (came : How) → is_built_of it ≡ true → nat_lt most_operands (length (operands_of it)) ≡ false
+      → Evaluates (done_so assigns targets the_utility) old came new → Evaluates (checks (does name (words_of it) (command_of it))) old came new
+  utility-runs old new came is few one =
+      subst (λ (it : Asked). Evaluates (checks it) old came new) (sym (utility-so name (words_of it) (command_of it) other))
+      (meant-at (checks the_utility) (done_so assigns targets the_utility) old new came
+      (λ expansions base state has. built-means expansions state is ∙ cond-false (nat_lt most_operands (length (operands_of it))) (refused refusal.ArgsTooMany state) (by_count expansions state) few) one)
 
 -- the words of one of the shell's own commands don't count beside its options and operands
 same-own : (name : List ℕ) (words others : List (List ℕ)) (asked : Command) → is_own (does name words asked) ≡ true → does name words asked ≡ does name others asked
@@ -248,6 +315,7 @@ pub doing-adds : (it : Doing) → Adds (own_means (asked_of it))
 doing-adds doing.Nothing = own-adds no_name tt
 doing-adds (doing.Builtin name inv) = own-adds (asked_of (doing.Builtin name inv)) (does-adds name.now [] (command_of inv.now))
 doing-adds (doing.Misuse name) = own-adds (asked_of (doing.Misuse name)) tt
+doing-adds (doing.Utility name inv) = own-adds (asked_of (doing.Utility name inv)) tt
 
 pub done-adds : (assigns : List (List ℕ × WordTree)) (it : Doing) (expansions : Expansions) → Adds (assigned_for expansions (stays_of (asked_of it)) assigns (own_means (asked_of it)))
 done-adds assigns it expansions = adds-assigned_for expansions (stays_of (asked_of it)) assigns (own_means (asked_of it)) (doing-adds it)
@@ -258,6 +326,7 @@ Runs doing.Nothing old came new = Evaluates (λ expansions. own_means no_name) o
 Runs (doing.Builtin name inv) old came new =
     (words : List (List ℕ)) (is_special : Bool) (means : Means) → does name.now words (command_of inv.now) ≡ builtin is_special means → Evaluates (λ expansions. means) old came new
 Runs (doing.Misuse name) old came new = Evaluates (λ expansions. misused (at_fault (is_special name.now)) name.now) old came new
+Runs (doing.Utility name inv) old came new = Evaluates (λ expansions. runs_utility pages name.now (called_by inv.now)) old came new
 
 pub runs-own : (it : Doing) (old new : Point) (came : How) → can_be_done it ≡ true → Runs it old came new → Evaluates (λ expansions. own_means (asked_of it)) old came new
 runs-own doing.Nothing old new came own run = run
@@ -266,6 +335,7 @@ runs-own (doing.Builtin name inv) old new came own run = by_own (own-so (does na
     by_own : (is_special : Bool) × (means : Means) × (does name.now [] (command_of inv.now) ≡ builtin is_special means) → Evaluates (λ expansions. own_means (does name.now [] (command_of inv.now))) old came new
     by_own (is_special, means, is) = subst (λ (it : Asked). Evaluates (λ expansions. own_means it) old came new) (sym is) (run [] is_special means is)
 runs-own (doing.Misuse name) old new came own run = run
+runs-own (doing.Utility name inv) old new came own run = run
 
 pub misuse-runs : (way : Flow) (name : List ℕ) (old new : Point) (came : How) → way ≡ at_fault (is_special name) → Evaluates (λ expansions. misused way name) old came new
     → Evaluates (λ expansions. misused (at_fault (is_special name)) name) old came new
@@ -279,9 +349,9 @@ misuse-checked assigns targets name given old new came is one =
 
 -- the way on where a redirection stops
 pub by-way : (assigns : List (List ℕ × WordTree)) (targets : List Target) (asked : Asked) (way : Flow) (old new : Point) (came : How) → way ≡ way_of asked
-    → Evaluates (λ expansions. opened way (λ state. []) targets (assigned_for expansions (stays_of asked) assigns (own_means asked))) old came new → Evaluates (done_so assigns targets asked) old came new
+    → Evaluates (λ expansions. opened way (uses_own asked) targets (assigned_for expansions (stays_of asked) assigns (own_means asked))) old came new → Evaluates (done_so assigns targets asked) old came new
 by-way assigns targets asked way old new came is one =
-    subst (λ (it : Flow). Evaluates (λ expansions. opened it (λ state. []) targets (assigned_for expansions (stays_of asked) assigns (own_means asked))) old came new) is one
+    subst (λ (it : Flow). Evaluates (λ expansions. opened it (uses_own asked) targets (assigned_for expansions (stays_of asked) assigns (own_means asked))) old came new) is one
 
 -- words without a name
 pub unnamed : (assigns : List (List ℕ × WordTree)) (targets : List Target) (fields : List (List ℕ)) (old new : Point) (came : How) → fields ≡ []
@@ -306,3 +376,42 @@ behind-targets assigns redirs fields given targets chosen old mid new came same 
     passes (λ expansions targets. checked expansions pages assigns targets (asked_by given)) came new
     (subst (λ (it : List (List ℕ)). Evaluates (λ expansions. checked expansions pages assigns targets (asked_by it)) mid came new) same
     (subst (λ (it : List Target). Evaluates (λ expansions. checked expansions pages assigns it (asked_by fields)) mid came new) is one))
+
+-- what can be run is built, and has few operands
+run-parts : (it : Doing) (name : Bor (List ℕ)) (inv : Bor Inv) → it ≡ doing.Utility name inv → can_be_done it ≡ true → (is_built_of inv.now ≡ true) × (nat_le (length (operands_of inv.now)) most_operands ≡ true)
+run-parts it name inv is can = and_parts (is_built_of inv.now) (nat_le (length (operands_of inv.now)) most_operands) (sym (ap can_be_done is) ∙ can)
+
+pub run-built : (it : Doing) (name : Bor (List ℕ)) (inv : Bor Inv) → it ≡ doing.Utility name inv → can_be_done it ≡ true → is_built_of inv.now ≡ true
+run-built it name inv is can = (run-parts it name inv is can).0
+
+pub run-few : (it : Doing) (name : Bor (List ℕ)) (inv : Bor Inv) → it ≡ doing.Utility name inv → can_be_done it ≡ true → length (operands_of inv.now) ≤ most_operands
+run-few it name inv is can = leb-true (length (operands_of inv.now)) most_operands (run-parts it name inv is can).1
+
+pub can-run : (inv : Inv) → is_built_of inv ≡ true → length (operands_of inv) ≤ most_operands → can_run inv ≡ true
+can-run inv built few = and_from (is_built_of inv) (nat_le (length (operands_of inv)) most_operands) built (le-leb (length (operands_of inv)) most_operands few)
+
+-- the paths that a utility's operands use
+pub finds-operands : (inv : Inv) (tree : TreeState) (uses : List Use) → is_built_of inv ≡ true
+    → ((state : State) → tree.held ≡ Some state.world.files → tree.home ≡ state.world.home → uses ≡ flat_map (read_use state) (operands_of inv)) → FindsUses tree uses (uses_by_operands pages (called_by inv))
+finds-operands inv tree uses built found = λ state held home.
+    found state held home ∙ sym (append-nil (flat_map (read_use state) (operands_of inv)))
+    ∙ ap (λ (it : List (List ℕ)). flat_map (read_use state) (operands_of inv) ++ map (written_use state) it) (sym (writes-none inv built))
+
+-- the words of an invocation are those that were read
+pub words-so : (name : List ℕ) (words given : List (List ℕ)) (asked : Command) (assigns : List (List ℕ × WordTree)) (targets : List Target) (old new : Point) (came : How) → words ≡ given
+    → Evaluates (λ expansions. checked expansions pages assigns targets (does name words asked)) old came new → Evaluates (λ expansions. checked expansions pages assigns targets (does name given asked)) old came new
+words-so name words given asked assigns targets old new came is one =
+    subst (λ (it : List (List ℕ)). Evaluates (λ expansions. checked expansions pages assigns targets (does name it asked)) old came new) is one
+
+-- how many operands there are, by those that were looked at
+as-long : (inv : Inv) (texts : List (Vec ℕ)) → texts_of texts ≡ operands_of inv → length (operands_of inv) ≡ length texts
+as-long inv texts are = ap length (sym are) ∙ length-map texts (λ text. text.items)
+
+pub many-so : (inv : Inv) (texts : List (Vec ℕ)) → texts_of texts ≡ operands_of inv → 256 < length texts → nat_lt most_operands (length (operands_of inv)) ≡ true
+many-so inv texts are many = let long = as-long inv texts are in lt-ltb most_operands (length (operands_of inv)) (omega (arith, many, long))
+
+pub few-enough : (inv : Inv) (texts : List (Vec ℕ)) → texts_of texts ≡ operands_of inv → length texts ≤ 256 → length (operands_of inv) ≤ most_operands
+few-enough inv texts are few = let long = as-long inv texts are in omega (arith, few, long)
+
+pub few-counted : (inv : Inv) → length (operands_of inv) ≤ most_operands → nat_lt most_operands (length (operands_of inv)) ≡ false
+few-counted inv few = le-ltb most_operands (length (operands_of inv)) few

@@ -4,3 +4,4 @@ pub mod Loops
 pub mod Doing
 pub mod Faults
 pub mod Opening
+pub mod Inputs

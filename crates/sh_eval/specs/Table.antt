@@ -1,7 +1,8 @@
 -- What is built so far.
-use Rattle.std.specs.Prelude.{[], false}
+use Rattle.ut_args.specs.Built.{is_built_by}
+use Rattle.fl_commands.specs.Inputs.{output_for, selects_for}
 use Rattle.sh_eval.specs.Utilities.{Pages, read}
 
--- no utility is
+-- the utilities that have a stream. All patterns of those are read
 abbrev pub pages : Pages
-pages = record { is_built = λ called. false; patterns = λ called. read; output = λ called inputs. []; selects = λ called inputs. false }
+pages = record { is_built = is_built_by; patterns = λ called. read; output = output_for; selects = selects_for }

@@ -1,18 +1,17 @@
 -- The utilities of the table, as a shell runs them (XCU 2.9.1, and each utility's page): their operands are looked up, what can't be read
 -- is told, and the output for what can be read is written. What a utility writes for its inputs is its own matter, and given here.
-use Rattle.std.specs.Prelude.{ℕ, List, [], ◌∷◌, ◌++◌, Bool, true, false, not, ◌&&◌, ◌||◌, nat_eq, codes, map, take, length, ◌-◌, if◌then◌else◌}
+use Rattle.std.specs.Prelude.{ℕ, List, [], ◌∷◌, ◌++◌, Bool, true, false, not, ◌&&◌, ◌||◌, map, take, length, ◌-◌, if◌then◌else◌}
 use Rattle.std.specs.List.{list_any, flat_map}
-use Rattle.std.specs.Cmp.Lexicographic.{pointwise}
 use Rattle.ps_world.specs.Paths.{Components}
 use Rattle.ps_world.specs.Files.{bytes_at}
 use Rattle.ps_world.specs.declared.places.Place.{Place}
 use Rattle.ps_world.specs.declared.places.Place.TheVariants as place
-use Rattle.ut_args.specs.Inputs.{files_by, operands_by}
+use Rattle.ut_args.specs.Inputs.{files_by, is_standard, operands_by}
 use Rattle.ut_args.specs.declared.commands.Command.{Command}
 use Rattle.ut_args.specs.declared.commands.Command.TheVariants as command
-use Rattle.ut_args.specs.declared.commands.Report.{Report}
-use Rattle.ut_args.specs.declared.commands.Report.TheVariants as report
 use Rattle.ut_streams.specs.Utilities.{Input}
+use Rattle.fl_commands.specs.Inputs.{status_of}
+use Rattle.fl_commands.specs.Operands.{lacks, named}
 use Rattle.sh_eval.specs.declared.streams.To.TheVariants as to
 use Rattle.sh_eval.specs.States.{World, State, Means, on, in_world, leaves, puts, tells, to_read, reads_to, write}
 use Rattle.sh_eval.specs.Lines.{diagnostic, no_such_file, is_a_directory}
@@ -66,28 +65,11 @@ abbrev pub deals : Command → Bool
 deals (command.Paste args) = not args.serial
 deals other = false
 
--- the status, by whether an operand has no input, and whether a line is selected (XCU grep, sort)
-abbrev pub writes_nothing : Report → Bool
-writes_nothing report.Nothing = true
-writes_nothing report.Lines = false
-writes_nothing report.Count = false
-writes_nothing report.Path = false
-
-abbrev pub status_of : Command → Bool → Bool → ℕ
-status_of (command.Grep args) lacks true = if lacks && not (writes_nothing args.report) then 2 else 0
-status_of (command.Grep args) lacks false = if lacks then 2 else 1
-status_of (command.Sort args) lacks selected = if lacks then 2 else 0
-status_of other lacks selected = if lacks then 1 else 0
-
 -- the words with the empty text, which names nothing, in place of the operands that have no input. The operands are the last words
 abbrev pub words_without : (List ℕ → Bool) → Called → List (List ℕ)
 words_without is_lacking called =
     take (length called.words - length (operands_by called.command)) called.words
     ++ map (λ operand. if is_lacking operand then [] else operand) (operands_by called.command)
-
--- the name of the standard input
-abbrev pub is_dash : List ℕ → Bool
-is_dash operand = pointwise nat_eq operand (codes "-")
 
 abbrev pub file_input : State → List ℕ → List ℕ → Place → Given
 file_input state name operand place.Missing = complaint (diagnostic name operand no_such_file)
@@ -107,7 +89,7 @@ standard_again deals operand = if deals then nothing else input (record { label 
 abbrev pub given_from : State → Bool → List ℕ → Bool → List (List ℕ) → List Given
 given_from state deals name is_taken [] = []
 given_from state deals name is_taken (operand ∷ operands) =
-    if is_dash operand then (if is_taken then standard_again deals operand else standard_input state operand) ∷ given_from state deals name true operands
+    if is_standard operand then (if is_taken then standard_again deals operand else standard_input state operand) ∷ given_from state deals name true operands
     else file_input state name operand (named_by state operand) ∷ given_from state deals name is_taken operands
 
 abbrev pub given_to : State → Bool → List ℕ → List (List ℕ) → List Given
@@ -129,22 +111,15 @@ complaints_in (complaint line ∷ rest) = line ∷ complaints_in rest
 -- the standard input is read: there is no operand, or a `-` among them
 abbrev pub reads_standard : List (List ℕ) → Bool
 reads_standard [] = true
-reads_standard (operand ∷ operands) = list_any is_dash (operand ∷ operands)
+reads_standard (operand ∷ operands) = list_any is_standard (operand ∷ operands)
 
--- an operand that has no input
-abbrev pub is_readable : Place → Bool
-is_readable place.Missing = false
-is_readable (place.Makeable path) = false
-is_readable (place.Dir path) = false
-is_readable (place.File path) = true
-is_readable place.Null = true
-
+-- an operand has no input
 abbrev pub has_none : State → List ℕ → Bool
-has_none state operand = not (is_dash operand || is_readable (named_by state operand))
+has_none state operand = lacks (named state.world.files state.world.home operand)
 
 -- what a command uses: its inputs, and the files that it writes
 abbrev pub read_use : State → List ℕ → List Use
-read_use state operand = if is_dash operand then [] else record { text = operand; place = named_by state operand; writes = false } ∷ []
+read_use state operand = if is_standard operand then [] else record { text = operand; place = named_by state operand; writes = false } ∷ []
 
 abbrev pub written_use : State → List ℕ → Use
 written_use state text = record { text = text; place = named_by state text; writes = true }
@@ -210,26 +185,27 @@ module _ (pages : Pages) where
   abbrev pub texts_joined : List Input → List ℕ
   texts_joined inputs = flat_map (λ it. it.text) inputs
 
-  -- the inputs are taken, a status is left, and the output is written
-  abbrev pub takes_inputs : List ℕ → Called → Made → Means
-  takes_inputs name called made state =
+  -- the inputs are taken, a status is left, and the output is written; these files get the inputs, where all of those that are written were
+  -- made
+  abbrev pub takes_inputs : List ℕ → Called → List Components → Bool → Means
+  takes_inputs name called paths is_whole state =
       let operands = operands_by called.command in
       let inputs = inputs_in (given_to state (deals called.command) name operands) in
       let noted = noted_run (not (is_cat called.command) && has_input inputs) (words_without (has_none state) called) in
-      let status = status_of called.command (not made.is_whole || list_any (has_none state) operands) (pages.selects called.command inputs) in
-      on (write_files made.paths (texts_joined inputs) (puts (pages.output called.command inputs) (leaves status (in_world noted (taken_in (reads_standard operands) state)))))
+      let status = status_of called.command (not is_whole || list_any (has_none state) operands) (pages.selects called.command inputs) in
+      on (write_files paths (texts_joined inputs) (puts (pages.output called.command inputs) (leaves status (in_world noted (taken_in (reads_standard operands) state)))))
 
   -- what can't be read, or made, is told before
   abbrev pub writes_out : List ℕ → Called → Made → Means
   writes_out name called made state =
       let given = given_to state (deals called.command) name (operands_by called.command) in
-      takes_inputs name called made (tells_some (made.complaints ++ lines_told called.command given) (in_world (λ world. made.world) state))
+      takes_inputs name called made.paths made.is_whole (tells_some (made.complaints ++ lines_told called.command given) (in_world (λ world. made.world) state))
 
   -- some do nothing at all where an operand has no input, but to tell of it (own)
   abbrev pub does_nothing : List ℕ → Called → Means
   does_nothing name called state =
       let given = given_to state (deals called.command) name (operands_by called.command) in
-      on (leaves (status_of called.command true false) (tells (flat_map (λ line. line) (complaints_in given)) state))
+      on (leaves (status_of called.command true false) (tells_some (lines_told called.command given) state))
 
   -- the files that it writes are begun before all else
   abbrev pub made_by : List ℕ → Called → State → Made

@@ -16,6 +16,7 @@ mod busy;
 mod expanding;
 mod files;
 mod flows;
+mod gathered;
 pub mod laws;
 mod leading;
 mod lines;
@@ -37,6 +38,7 @@ mod targets;
 #[cfg(test)]
 mod tests;
 mod top;
+mod utilities;
 mod writing;
 
 pub use busy::Use;

@@ -1,5 +1,5 @@
 //! The evaluation of lists, pipelines and compound commands.
-ghost use Rattle.std.specs.Prelude.{◌≡◌, length, None};
+ghost use Rattle.std.specs.Prelude.{◌≡◌, length};
 ghost use Rattle.ps_lines.specs.Texts.{texts_of};
 ghost use Rattle.sh_tree.specs.Views.{list_tree, items_tree, and_or_tree, joined_tree, pipeline_tree, stages_tree, command_tree};
 ghost use Rattle.sh_tree.specs.Views.{simple_tree, subs_tree};
@@ -21,7 +21,8 @@ use crate::refusals::Refusal;
 use crate::session::Session;
 use crate::shell::Shell;
 use crate::simple::run_simple;
-use ps_world::{Sink, Source, Tree};
+use fl_core::Engine;
+use ps_world::{Gate, Sink, Source, Tree};
 use sh_tree::{AndOr, Command, Join, List, Pipeline, Simple, Tail};
 
 /// The most turns of a run.
@@ -29,7 +30,7 @@ const MAX_TURNS: u64 = 1_000_000;
 
 /// Evaluates a list.
 #[cycle(evaluation)]
-pub(crate) fn eval_list<T: Tree, I: Source + Send, O: Sink + Send, E: Sink>(
+pub(crate) fn eval_list<T: Tree, I: Source + Send, O: Sink + Send, E: Sink, G: Gate, X: Engine>(
     list: &List,
     shell: &mut Shell,
     session: &mut Session,
@@ -37,21 +38,33 @@ pub(crate) fn eval_list<T: Tree, I: Source + Send, O: Sink + Send, E: Sink>(
     input: I,
     out: O,
     err: &mut E,
+    gate: &G,
+    engine: &mut X,
 ) -> Played<I, O>
     requires sound { IsSound session.old (T.state tree.old) }
     ensures { Evaluates (λ expansions. list_means expansions pages (list_tree list.now))
-        (point_of shell.old session.old (T.state tree.old) (seen_of (drawn_of (I.left input) None) (O.taken out) (E.taken err.old))
+        (point_of shell.old session.old (T.state tree.old) (seen_of (drawn_of (I.left input) (X.used engine.old)) (O.taken out) (E.taken err.old))
         (faults_of (I.faults input) (O.faults out) (E.faults err.old) (T.faults tree.old)))
         result.how
-        (point_of shell.new session.new (T.state tree.new) (seen_of (drawn_of (I.left result.input) None) (O.taken result.out) (E.taken err.new))
+        (point_of shell.new session.new (T.state tree.new) (seen_of (drawn_of (I.left result.input) (X.used engine.new)) (O.taken result.out) (E.taken err.new))
         (faults_of (I.faults result.input) (O.faults result.out) (E.faults err.new) (T.faults tree.new))) }
 {
-    eval_items(list.items.as_slice(), shell, session, tree, input, out, err)
+    eval_items(
+        list.items.as_slice(),
+        shell,
+        session,
+        tree,
+        input,
+        out,
+        err,
+        gate,
+        engine,
+    )
 }
 
 /// Evaluates and-or lists, one behind the other.
 #[cycle(evaluation)]
-fn eval_items<T: Tree, I: Source + Send, O: Sink + Send, E: Sink>(
+fn eval_items<T: Tree, I: Source + Send, O: Sink + Send, E: Sink, G: Gate, X: Engine>(
     items: &[AndOr],
     shell: &mut Shell,
     session: &mut Session,
@@ -59,13 +72,15 @@ fn eval_items<T: Tree, I: Source + Send, O: Sink + Send, E: Sink>(
     input: I,
     out: O,
     err: &mut E,
+    gate: &G,
+    engine: &mut X,
 ) -> Played<I, O>
     requires sound { IsSound session.old (T.state tree.old) }
     ensures { Evaluates (λ expansions. list_means expansions pages (items_tree items.now))
-        (point_of shell.old session.old (T.state tree.old) (seen_of (drawn_of (I.left input) None) (O.taken out) (E.taken err.old))
+        (point_of shell.old session.old (T.state tree.old) (seen_of (drawn_of (I.left input) (X.used engine.old)) (O.taken out) (E.taken err.old))
         (faults_of (I.faults input) (O.faults out) (E.faults err.old) (T.faults tree.old)))
         result.how
-        (point_of shell.new session.new (T.state tree.new) (seen_of (drawn_of (I.left result.input) None) (O.taken result.out) (E.taken err.new))
+        (point_of shell.new session.new (T.state tree.new) (seen_of (drawn_of (I.left result.input) (X.used engine.new)) (O.taken result.out) (E.taken err.new))
         (faults_of (I.faults result.input) (O.faults result.out) (E.faults err.new) (T.faults tree.new))) }
 {
     let mut input = input;
@@ -75,7 +90,7 @@ fn eval_items<T: Tree, I: Source + Send, O: Sink + Send, E: Sink>(
             how,
             input: left,
             out: sent,
-        } = eval_and_or(item, shell, session, tree, input, out, err);
+        } = eval_and_or(item, shell, session, tree, input, out, err, gate, engine);
         input = left;
         out = sent;
         if !goes_on(&how) {
@@ -91,7 +106,7 @@ fn eval_items<T: Tree, I: Source + Send, O: Sink + Send, E: Sink>(
 
 /// Evaluates an and-or list.
 #[cycle(evaluation)]
-fn eval_and_or<T: Tree, I: Source + Send, O: Sink + Send, E: Sink>(
+fn eval_and_or<T: Tree, I: Source + Send, O: Sink + Send, E: Sink, G: Gate, X: Engine>(
     item: &AndOr,
     shell: &mut Shell,
     session: &mut Session,
@@ -99,13 +114,15 @@ fn eval_and_or<T: Tree, I: Source + Send, O: Sink + Send, E: Sink>(
     input: I,
     out: O,
     err: &mut E,
+    gate: &G,
+    engine: &mut X,
 ) -> Played<I, O>
     requires sound { IsSound session.old (T.state tree.old) }
     ensures { Evaluates (λ expansions. and_or_means expansions pages (and_or_tree item.now))
-        (point_of shell.old session.old (T.state tree.old) (seen_of (drawn_of (I.left input) None) (O.taken out) (E.taken err.old))
+        (point_of shell.old session.old (T.state tree.old) (seen_of (drawn_of (I.left input) (X.used engine.old)) (O.taken out) (E.taken err.old))
         (faults_of (I.faults input) (O.faults out) (E.faults err.old) (T.faults tree.old)))
         result.how
-        (point_of shell.new session.new (T.state tree.new) (seen_of (drawn_of (I.left result.input) None) (O.taken result.out) (E.taken err.new))
+        (point_of shell.new session.new (T.state tree.new) (seen_of (drawn_of (I.left result.input) (X.used engine.new)) (O.taken result.out) (E.taken err.new))
         (faults_of (I.faults result.input) (O.faults result.out) (E.faults err.new) (T.faults tree.new))) }
 {
     let Played { how, input, out } = eval_pipeline(
@@ -116,16 +133,28 @@ fn eval_and_or<T: Tree, I: Source + Send, O: Sink + Send, E: Sink>(
         input,
         out,
         err,
+        gate,
+        engine,
     );
     if !goes_on(&how) {
         return Played { how, input, out };
     }
-    eval_joined(item.rest.as_slice(), shell, session, tree, input, out, err)
+    eval_joined(
+        item.rest.as_slice(),
+        shell,
+        session,
+        tree,
+        input,
+        out,
+        err,
+        gate,
+        engine,
+    )
 }
 
 /// Evaluates the pipelines behind the first of an and-or list.
 #[cycle(evaluation)]
-fn eval_joined<T: Tree, I: Source + Send, O: Sink + Send, E: Sink>(
+fn eval_joined<T: Tree, I: Source + Send, O: Sink + Send, E: Sink, G: Gate, X: Engine>(
     rest: &[(Join, Pipeline)],
     shell: &mut Shell,
     session: &mut Session,
@@ -133,13 +162,15 @@ fn eval_joined<T: Tree, I: Source + Send, O: Sink + Send, E: Sink>(
     input: I,
     out: O,
     err: &mut E,
+    gate: &G,
+    engine: &mut X,
 ) -> Played<I, O>
     requires sound { IsSound session.old (T.state tree.old) }
     ensures { Evaluates (λ expansions. joined_means expansions pages (joined_tree rest.now))
-        (point_of shell.old session.old (T.state tree.old) (seen_of (drawn_of (I.left input) None) (O.taken out) (E.taken err.old))
+        (point_of shell.old session.old (T.state tree.old) (seen_of (drawn_of (I.left input) (X.used engine.old)) (O.taken out) (E.taken err.old))
         (faults_of (I.faults input) (O.faults out) (E.faults err.old) (T.faults tree.old)))
         result.how
-        (point_of shell.new session.new (T.state tree.new) (seen_of (drawn_of (I.left result.input) None) (O.taken result.out) (E.taken err.new))
+        (point_of shell.new session.new (T.state tree.new) (seen_of (drawn_of (I.left result.input) (X.used engine.new)) (O.taken result.out) (E.taken err.new))
         (faults_of (I.faults result.input) (O.faults result.out) (E.faults err.new) (T.faults tree.new))) }
 {
     let mut input = input;
@@ -149,7 +180,9 @@ fn eval_joined<T: Tree, I: Source + Send, O: Sink + Send, E: Sink>(
             how,
             input: left,
             out: sent,
-        } = eval_next(*join, next, shell, session, tree, input, out, err);
+        } = eval_next(
+            *join, next, shell, session, tree, input, out, err, gate, engine,
+        );
         input = left;
         out = sent;
         if !goes_on(&how) {
@@ -165,7 +198,7 @@ fn eval_joined<T: Tree, I: Source + Send, O: Sink + Send, E: Sink>(
 
 /// Evaluates a pipeline where the operator before it has it run.
 #[cycle(evaluation)]
-fn eval_next<T: Tree, I: Source + Send, O: Sink + Send, E: Sink>(
+fn eval_next<T: Tree, I: Source + Send, O: Sink + Send, E: Sink, G: Gate, X: Engine>(
     join: Join,
     next: &Pipeline,
     shell: &mut Shell,
@@ -174,17 +207,19 @@ fn eval_next<T: Tree, I: Source + Send, O: Sink + Send, E: Sink>(
     input: I,
     out: O,
     err: &mut E,
+    gate: &G,
+    engine: &mut X,
 ) -> Played<I, O>
     requires sound { IsSound session.old (T.state tree.old) }
     ensures { Evaluates (λ expansions. joined_by join (pipeline_means expansions pages (pipeline_tree next.now)))
-        (point_of shell.old session.old (T.state tree.old) (seen_of (drawn_of (I.left input) None) (O.taken out) (E.taken err.old))
+        (point_of shell.old session.old (T.state tree.old) (seen_of (drawn_of (I.left input) (X.used engine.old)) (O.taken out) (E.taken err.old))
         (faults_of (I.faults input) (O.faults out) (E.faults err.old) (T.faults tree.old)))
         result.how
-        (point_of shell.new session.new (T.state tree.new) (seen_of (drawn_of (I.left result.input) None) (O.taken result.out) (E.taken err.new))
+        (point_of shell.new session.new (T.state tree.new) (seen_of (drawn_of (I.left result.input) (X.used engine.new)) (O.taken result.out) (E.taken err.new))
         (faults_of (I.faults result.input) (O.faults result.out) (E.faults err.new) (T.faults tree.new))) }
 {
     if joins(join, shell) {
-        return eval_pipeline(next, shell, session, tree, input, out, err);
+        return eval_pipeline(next, shell, session, tree, input, out, err, gate, engine);
     }
     Played {
         how: How::Gone(Flow::On),
@@ -195,7 +230,7 @@ fn eval_next<T: Tree, I: Source + Send, O: Sink + Send, E: Sink>(
 
 /// Evaluates a pipeline.
 #[cycle(evaluation)]
-fn eval_pipeline<T: Tree, I: Source + Send, O: Sink + Send, E: Sink>(
+fn eval_pipeline<T: Tree, I: Source + Send, O: Sink + Send, E: Sink, G: Gate, X: Engine>(
     pipeline: &Pipeline,
     shell: &mut Shell,
     session: &mut Session,
@@ -203,13 +238,15 @@ fn eval_pipeline<T: Tree, I: Source + Send, O: Sink + Send, E: Sink>(
     input: I,
     out: O,
     err: &mut E,
+    gate: &G,
+    engine: &mut X,
 ) -> Played<I, O>
     requires sound { IsSound session.old (T.state tree.old) }
     ensures { Evaluates (λ expansions. pipeline_means expansions pages (pipeline_tree pipeline.now))
-        (point_of shell.old session.old (T.state tree.old) (seen_of (drawn_of (I.left input) None) (O.taken out) (E.taken err.old))
+        (point_of shell.old session.old (T.state tree.old) (seen_of (drawn_of (I.left input) (X.used engine.old)) (O.taken out) (E.taken err.old))
         (faults_of (I.faults input) (O.faults out) (E.faults err.old) (T.faults tree.old)))
         result.how
-        (point_of shell.new session.new (T.state tree.new) (seen_of (drawn_of (I.left result.input) None) (O.taken result.out) (E.taken err.new))
+        (point_of shell.new session.new (T.state tree.new) (seen_of (drawn_of (I.left result.input) (X.used engine.new)) (O.taken result.out) (E.taken err.new))
         (faults_of (I.faults result.input) (O.faults result.out) (E.faults err.new) (T.faults tree.new))) }
 {
     let Played { how, input, out } = eval_stages(
@@ -220,6 +257,8 @@ fn eval_pipeline<T: Tree, I: Source + Send, O: Sink + Send, E: Sink>(
         input,
         out,
         err,
+        gate,
+        engine,
     );
     if !goes_on(&how) {
         return Played { how, input, out };
@@ -234,7 +273,7 @@ fn eval_pipeline<T: Tree, I: Source + Send, O: Sink + Send, E: Sink>(
 
 /// Evaluates the commands of a pipeline: one alone in this shell, and each of several in a subshell.
 #[cycle(evaluation)]
-fn eval_stages<T: Tree, I: Source + Send, O: Sink + Send, E: Sink>(
+fn eval_stages<T: Tree, I: Source + Send, O: Sink + Send, E: Sink, G: Gate, X: Engine>(
     stages: &[Command],
     shell: &mut Shell,
     session: &mut Session,
@@ -242,24 +281,26 @@ fn eval_stages<T: Tree, I: Source + Send, O: Sink + Send, E: Sink>(
     input: I,
     out: O,
     err: &mut E,
+    gate: &G,
+    engine: &mut X,
 ) -> Played<I, O>
     requires sound { IsSound session.old (T.state tree.old) }
     ensures { Evaluates (λ expansions. stages_means expansions pages (stages_tree stages.now))
-        (point_of shell.old session.old (T.state tree.old) (seen_of (drawn_of (I.left input) None) (O.taken out) (E.taken err.old))
+        (point_of shell.old session.old (T.state tree.old) (seen_of (drawn_of (I.left input) (X.used engine.old)) (O.taken out) (E.taken err.old))
         (faults_of (I.faults input) (O.faults out) (E.faults err.old) (T.faults tree.old)))
         result.how
-        (point_of shell.new session.new (T.state tree.new) (seen_of (drawn_of (I.left result.input) None) (O.taken result.out) (E.taken err.new))
+        (point_of shell.new session.new (T.state tree.new) (seen_of (drawn_of (I.left result.input) (X.used engine.new)) (O.taken result.out) (E.taken err.new))
         (faults_of (I.faults result.input) (O.faults result.out) (E.faults err.new) (T.faults tree.new))) }
 {
     match stages {
-        [only] => eval_command(only, shell, session, tree, input, out, err),
-        _ => eval_several(stages, shell, session, tree, input, out, err),
+        [only] => eval_command(only, shell, session, tree, input, out, err, gate, engine),
+        _ => eval_several(stages, shell, session, tree, input, out, err, gate, engine),
     }
 }
 
 /// Evaluates the several commands of a pipeline.
 #[cycle(evaluation)]
-fn eval_several<T: Tree, I: Source + Send, O: Sink + Send, E: Sink>(
+fn eval_several<T: Tree, I: Source + Send, O: Sink + Send, E: Sink, G: Gate, X: Engine>(
     stages: &[Command],
     shell: &mut Shell,
     session: &mut Session,
@@ -267,14 +308,16 @@ fn eval_several<T: Tree, I: Source + Send, O: Sink + Send, E: Sink>(
     input: I,
     out: O,
     err: &mut E,
+    gate: &G,
+    engine: &mut X,
 ) -> Played<I, O>
     requires several { length stages.now ≡ 1 → ⊥ }
     requires sound { IsSound session.old (T.state tree.old) }
     ensures { Evaluates (λ expansions. stages_means expansions pages (stages_tree stages.now))
-        (point_of shell.old session.old (T.state tree.old) (seen_of (drawn_of (I.left input) None) (O.taken out) (E.taken err.old))
+        (point_of shell.old session.old (T.state tree.old) (seen_of (drawn_of (I.left input) (X.used engine.old)) (O.taken out) (E.taken err.old))
         (faults_of (I.faults input) (O.faults out) (E.faults err.old) (T.faults tree.old)))
         result.how
-        (point_of shell.new session.new (T.state tree.new) (seen_of (drawn_of (I.left result.input) None) (O.taken result.out) (E.taken err.new))
+        (point_of shell.new session.new (T.state tree.new) (seen_of (drawn_of (I.left result.input) (X.used engine.new)) (O.taken result.out) (E.taken err.new))
         (faults_of (I.faults result.input) (O.faults result.out) (E.faults err.new) (T.faults tree.new))) }
 {
     let mut input = input;
@@ -287,7 +330,9 @@ fn eval_several<T: Tree, I: Source + Send, O: Sink + Send, E: Sink>(
             how,
             input: left,
             out: sent,
-        } = eval_stage(position, stage, shell, session, tree, input, out, err);
+        } = eval_stage(
+            position, stage, shell, session, tree, input, out, err, gate, engine,
+        );
         input = left;
         out = sent;
         if !goes_on(&how) {
@@ -303,7 +348,7 @@ fn eval_several<T: Tree, I: Source + Send, O: Sink + Send, E: Sink>(
 
 /// Evaluates one of the several commands of a pipeline.
 #[cycle(evaluation)]
-fn eval_stage<T: Tree, I: Source + Send, O: Sink + Send, E: Sink>(
+fn eval_stage<T: Tree, I: Source + Send, O: Sink + Send, E: Sink, G: Gate, X: Engine>(
     position: Position,
     command: &Command,
     shell: &mut Shell,
@@ -312,25 +357,33 @@ fn eval_stage<T: Tree, I: Source + Send, O: Sink + Send, E: Sink>(
     input: I,
     out: O,
     err: &mut E,
+    gate: &G,
+    engine: &mut X,
 ) -> Played<I, O>
     requires sound { IsSound session.old (T.state tree.old) }
     ensures { Evaluates (λ expansions. staged position (command_means expansions pages (command_tree command.now)))
-        (point_of shell.old session.old (T.state tree.old) (seen_of (drawn_of (I.left input) None) (O.taken out) (E.taken err.old))
+        (point_of shell.old session.old (T.state tree.old) (seen_of (drawn_of (I.left input) (X.used engine.old)) (O.taken out) (E.taken err.old))
         (faults_of (I.faults input) (O.faults out) (E.faults err.old) (T.faults tree.old)))
         result.how
-        (point_of shell.new session.new (T.state tree.new) (seen_of (drawn_of (I.left result.input) None) (O.taken result.out) (E.taken err.new))
+        (point_of shell.new session.new (T.state tree.new) (seen_of (drawn_of (I.left result.input) (X.used engine.new)) (O.taken result.out) (E.taken err.new))
         (faults_of (I.faults result.input) (O.faults result.out) (E.faults err.new) (T.faults tree.new))) }
 {
     match position {
-        Position::First => eval_first_stage(command, shell, session, tree, input, out, err),
-        Position::Middle => eval_middle_stage(command, shell, session, tree, input, out, err),
-        Position::Last => eval_last_stage(command, shell, session, tree, input, out, err),
+        Position::First => eval_first_stage(
+            command, shell, session, tree, input, out, err, gate, engine,
+        ),
+        Position::Middle => eval_middle_stage(
+            command, shell, session, tree, input, out, err, gate, engine,
+        ),
+        Position::Last => eval_last_stage(
+            command, shell, session, tree, input, out, err, gate, engine,
+        ),
     }
 }
 
 /// Evaluates the first command of a pipeline of several: its output is gathered for the next.
 #[cycle(evaluation)]
-fn eval_first_stage<T: Tree, I: Source + Send, O: Sink + Send, E: Sink>(
+fn eval_first_stage<T: Tree, I: Source + Send, O: Sink + Send, E: Sink, G: Gate, X: Engine>(
     command: &Command,
     shell: &mut Shell,
     session: &mut Session,
@@ -338,13 +391,15 @@ fn eval_first_stage<T: Tree, I: Source + Send, O: Sink + Send, E: Sink>(
     input: I,
     out: O,
     err: &mut E,
+    gate: &G,
+    engine: &mut X,
 ) -> Played<I, O>
     requires sound { IsSound session.old (T.state tree.old) }
     ensures { Evaluates (λ expansions. first_stage (command_means expansions pages (command_tree command.now)))
-        (point_of shell.old session.old (T.state tree.old) (seen_of (drawn_of (I.left input) None) (O.taken out) (E.taken err.old))
+        (point_of shell.old session.old (T.state tree.old) (seen_of (drawn_of (I.left input) (X.used engine.old)) (O.taken out) (E.taken err.old))
         (faults_of (I.faults input) (O.faults out) (E.faults err.old) (T.faults tree.old)))
         result.how
-        (point_of shell.new session.new (T.state tree.new) (seen_of (drawn_of (I.left result.input) None) (O.taken result.out) (E.taken err.new))
+        (point_of shell.new session.new (T.state tree.new) (seen_of (drawn_of (I.left result.input) (X.used engine.new)) (O.taken result.out) (E.taken err.new))
         (faults_of (I.faults result.input) (O.faults result.out) (E.faults err.new) (T.faults tree.new))) }
 {
     let alloc = session.alloc();
@@ -363,7 +418,7 @@ fn eval_first_stage<T: Tree, I: Source + Send, O: Sink + Send, E: Sink>(
         };
     };
     let Played { how, input, out } = eval_command(
-        command, &mut inner, session, tree, input, out, err,
+        command, &mut inner, session, tree, input, out, err, gate, engine,
     );
     session.hand_on(alloc, to);
     Played {
@@ -375,7 +430,7 @@ fn eval_first_stage<T: Tree, I: Source + Send, O: Sink + Send, E: Sink>(
 
 /// Evaluates a command between two of a pipeline: it reads what the one before has written, and its output is gathered for the next.
 #[cycle(evaluation)]
-fn eval_middle_stage<T: Tree, I: Source + Send, O: Sink + Send, E: Sink>(
+fn eval_middle_stage<T: Tree, I: Source + Send, O: Sink + Send, E: Sink, G: Gate, X: Engine>(
     command: &Command,
     shell: &mut Shell,
     session: &mut Session,
@@ -383,13 +438,15 @@ fn eval_middle_stage<T: Tree, I: Source + Send, O: Sink + Send, E: Sink>(
     input: I,
     out: O,
     err: &mut E,
+    gate: &G,
+    engine: &mut X,
 ) -> Played<I, O>
     requires sound { IsSound session.old (T.state tree.old) }
     ensures { Evaluates (λ expansions. middle_stage (command_means expansions pages (command_tree command.now)))
-        (point_of shell.old session.old (T.state tree.old) (seen_of (drawn_of (I.left input) None) (O.taken out) (E.taken err.old))
+        (point_of shell.old session.old (T.state tree.old) (seen_of (drawn_of (I.left input) (X.used engine.old)) (O.taken out) (E.taken err.old))
         (faults_of (I.faults input) (O.faults out) (E.faults err.old) (T.faults tree.old)))
         result.how
-        (point_of shell.new session.new (T.state tree.new) (seen_of (drawn_of (I.left result.input) None) (O.taken result.out) (E.taken err.new))
+        (point_of shell.new session.new (T.state tree.new) (seen_of (drawn_of (I.left result.input) (X.used engine.new)) (O.taken result.out) (E.taken err.new))
         (faults_of (I.faults result.input) (O.faults result.out) (E.faults err.new) (T.faults tree.new))) }
 {
     let alloc = session.alloc();
@@ -409,7 +466,7 @@ fn eval_middle_stage<T: Tree, I: Source + Send, O: Sink + Send, E: Sink>(
         };
     };
     let Played { how, input, out } = eval_command(
-        command, &mut inner, session, tree, input, out, err,
+        command, &mut inner, session, tree, input, out, err, gate, engine,
     );
     session.hand_on(alloc, to);
     session.read_from(from);
@@ -422,7 +479,7 @@ fn eval_middle_stage<T: Tree, I: Source + Send, O: Sink + Send, E: Sink>(
 
 /// Evaluates the last command of a pipeline of several: it reads what the one before has written.
 #[cycle(evaluation)]
-fn eval_last_stage<T: Tree, I: Source + Send, O: Sink + Send, E: Sink>(
+fn eval_last_stage<T: Tree, I: Source + Send, O: Sink + Send, E: Sink, G: Gate, X: Engine>(
     command: &Command,
     shell: &mut Shell,
     session: &mut Session,
@@ -430,13 +487,15 @@ fn eval_last_stage<T: Tree, I: Source + Send, O: Sink + Send, E: Sink>(
     input: I,
     out: O,
     err: &mut E,
+    gate: &G,
+    engine: &mut X,
 ) -> Played<I, O>
     requires sound { IsSound session.old (T.state tree.old) }
     ensures { Evaluates (λ expansions. last_stage (command_means expansions pages (command_tree command.now)))
-        (point_of shell.old session.old (T.state tree.old) (seen_of (drawn_of (I.left input) None) (O.taken out) (E.taken err.old))
+        (point_of shell.old session.old (T.state tree.old) (seen_of (drawn_of (I.left input) (X.used engine.old)) (O.taken out) (E.taken err.old))
         (faults_of (I.faults input) (O.faults out) (E.faults err.old) (T.faults tree.old)))
         result.how
-        (point_of shell.new session.new (T.state tree.new) (seen_of (drawn_of (I.left result.input) None) (O.taken result.out) (E.taken err.new))
+        (point_of shell.new session.new (T.state tree.new) (seen_of (drawn_of (I.left result.input) (X.used engine.new)) (O.taken result.out) (E.taken err.new))
         (faults_of (I.faults result.input) (O.faults result.out) (E.faults err.new) (T.faults tree.new))) }
 {
     let alloc = session.alloc();
@@ -449,7 +508,7 @@ fn eval_last_stage<T: Tree, I: Source + Send, O: Sink + Send, E: Sink>(
     };
     let from = session.read_piped(alloc);
     let Played { how, input, out } = eval_command(
-        command, &mut inner, session, tree, input, out, err,
+        command, &mut inner, session, tree, input, out, err, gate, engine,
     );
     session.read_from(from);
     shell.status = inner.status;
@@ -462,7 +521,7 @@ fn eval_last_stage<T: Tree, I: Source + Send, O: Sink + Send, E: Sink>(
 
 /// Evaluates a command.
 #[cycle(evaluation)]
-fn eval_command<T: Tree, I: Source + Send, O: Sink + Send, E: Sink>(
+fn eval_command<T: Tree, I: Source + Send, O: Sink + Send, E: Sink, G: Gate, X: Engine>(
     command: &Command,
     shell: &mut Shell,
     session: &mut Session,
@@ -470,25 +529,31 @@ fn eval_command<T: Tree, I: Source + Send, O: Sink + Send, E: Sink>(
     input: I,
     out: O,
     err: &mut E,
+    gate: &G,
+    engine: &mut X,
 ) -> Played<I, O>
     requires sound { IsSound session.old (T.state tree.old) }
     ensures { Evaluates (λ expansions. command_means expansions pages (command_tree command.now))
-        (point_of shell.old session.old (T.state tree.old) (seen_of (drawn_of (I.left input) None) (O.taken out) (E.taken err.old))
+        (point_of shell.old session.old (T.state tree.old) (seen_of (drawn_of (I.left input) (X.used engine.old)) (O.taken out) (E.taken err.old))
         (faults_of (I.faults input) (O.faults out) (E.faults err.old) (T.faults tree.old)))
         result.how
-        (point_of shell.new session.new (T.state tree.new) (seen_of (drawn_of (I.left result.input) None) (O.taken result.out) (E.taken err.new))
+        (point_of shell.new session.new (T.state tree.new) (seen_of (drawn_of (I.left result.input) (X.used engine.new)) (O.taken result.out) (E.taken err.new))
         (faults_of (I.faults result.input) (O.faults result.out) (E.faults err.new) (T.faults tree.new))) }
 {
     let alloc = session.alloc();
     match command {
-        Command::Simple(simple) => { eval_simple(simple, shell, session, tree, input, out, err) }
+        Command::Simple(simple) => {
+            eval_simple(simple, shell, session, tree, input, out, err, gate, engine)
+        }
         Command::Group(_, tail)
         | Command::Subshell(_, tail)
         | Command::If(_, _, tail)
         | Command::While(_, _, tail)
         | Command::Until(_, _, tail)
         | Command::For(_, _, _, tail) => {
-            let Played { how, input, out } = eval_tail(tail, shell, session, tree, input, out, err);
+            let Played { how, input, out } = eval_tail(
+                tail, shell, session, tree, input, out, err, gate, engine,
+            );
             if !goes_on(&how) {
                 return Played { how, input, out };
             }
@@ -506,7 +571,7 @@ fn eval_command<T: Tree, I: Source + Send, O: Sink + Send, E: Sink>(
                 Err(how) => return Played { how, input, out },
             };
             let Played { how, input, out } = eval_body(
-                command, shell, session, tree, input, out, err,
+                command, shell, session, tree, input, out, err, gate, engine,
             );
             close(before, session);
             Played { how, input, out }
@@ -516,7 +581,7 @@ fn eval_command<T: Tree, I: Source + Send, O: Sink + Send, E: Sink>(
 
 /// Evaluates the substitutions of the redirections behind a compound command.
 #[cycle(evaluation)]
-fn eval_tail<T: Tree, I: Source + Send, O: Sink + Send, E: Sink>(
+fn eval_tail<T: Tree, I: Source + Send, O: Sink + Send, E: Sink, G: Gate, X: Engine>(
     tail: &Tail,
     shell: &mut Shell,
     session: &mut Session,
@@ -524,23 +589,35 @@ fn eval_tail<T: Tree, I: Source + Send, O: Sink + Send, E: Sink>(
     input: I,
     out: O,
     err: &mut E,
+    gate: &G,
+    engine: &mut X,
 ) -> Played<I, O>
     requires sound { IsSound session.old (T.state tree.old) }
     ensures { Evaluates (λ expansions. subs_begun expansions pages (subs_tree (out-Tail tail.now).subs.items))
-        (point_of shell.old session.old (T.state tree.old) (seen_of (drawn_of (I.left input) None) (O.taken out) (E.taken err.old))
+        (point_of shell.old session.old (T.state tree.old) (seen_of (drawn_of (I.left input) (X.used engine.old)) (O.taken out) (E.taken err.old))
         (faults_of (I.faults input) (O.faults out) (E.faults err.old) (T.faults tree.old)))
         result.how
-        (point_of shell.new session.new (T.state tree.new) (seen_of (drawn_of (I.left result.input) None) (O.taken result.out) (E.taken err.new))
+        (point_of shell.new session.new (T.state tree.new) (seen_of (drawn_of (I.left result.input) (X.used engine.new)) (O.taken result.out) (E.taken err.new))
         (faults_of (I.faults result.input) (O.faults result.out) (E.faults err.new) (T.faults tree.new))) }
 {
     let alloc = session.alloc();
     shell.begin_command(alloc);
-    eval_subs(tail.subs.as_slice(), shell, session, tree, input, out, err)
+    eval_subs(
+        tail.subs.as_slice(),
+        shell,
+        session,
+        tree,
+        input,
+        out,
+        err,
+        gate,
+        engine,
+    )
 }
 
 /// Evaluates what is in a compound command, behind its redirections.
 #[cycle(evaluation)]
-fn eval_body<T: Tree, I: Source + Send, O: Sink + Send, E: Sink>(
+fn eval_body<T: Tree, I: Source + Send, O: Sink + Send, E: Sink, G: Gate, X: Engine>(
     command: &Command,
     shell: &mut Shell,
     session: &mut Session,
@@ -548,22 +625,36 @@ fn eval_body<T: Tree, I: Source + Send, O: Sink + Send, E: Sink>(
     input: I,
     out: O,
     err: &mut E,
+    gate: &G,
+    engine: &mut X,
 ) -> Played<I, O>
     requires sound { IsSound session.old (T.state tree.old) }
     ensures { Evaluates (λ expansions. body_means expansions pages (command_tree command.now))
-        (point_of shell.old session.old (T.state tree.old) (seen_of (drawn_of (I.left input) None) (O.taken out) (E.taken err.old))
+        (point_of shell.old session.old (T.state tree.old) (seen_of (drawn_of (I.left input) (X.used engine.old)) (O.taken out) (E.taken err.old))
         (faults_of (I.faults input) (O.faults out) (E.faults err.old) (T.faults tree.old)))
         result.how
-        (point_of shell.new session.new (T.state tree.new) (seen_of (drawn_of (I.left result.input) None) (O.taken result.out) (E.taken err.new))
+        (point_of shell.new session.new (T.state tree.new) (seen_of (drawn_of (I.left result.input) (X.used engine.new)) (O.taken result.out) (E.taken err.new))
         (faults_of (I.faults result.input) (O.faults result.out) (E.faults err.new) (T.faults tree.new))) }
 {
     match command {
-        Command::Group(list, _) => eval_list(list, shell, session, tree, input, out, err),
-        Command::Subshell(list, _) => { eval_subshell(list, shell, session, tree, input, out, err) }
-        Command::If(_, _, _) => eval_if(command, shell, session, tree, input, out, err),
-        Command::While(_, _, _) => { eval_while(command, shell, session, tree, input, out, err) }
-        Command::Until(_, _, _) => { eval_while(command, shell, session, tree, input, out, err) }
-        Command::For(_, _, _, _) => { eval_for(command, shell, session, tree, input, out, err) }
+        Command::Group(list, _) => eval_list(
+            list, shell, session, tree, input, out, err, gate, engine,
+        ),
+        Command::Subshell(list, _) => {
+            eval_subshell(list, shell, session, tree, input, out, err, gate, engine)
+        }
+        Command::If(_, _, _) => eval_if(
+            command, shell, session, tree, input, out, err, gate, engine,
+        ),
+        Command::While(_, _, _) => {
+            eval_while(command, shell, session, tree, input, out, err, gate, engine)
+        }
+        Command::Until(_, _, _) => {
+            eval_while(command, shell, session, tree, input, out, err, gate, engine)
+        }
+        Command::For(_, _, _, _) => {
+            eval_for(command, shell, session, tree, input, out, err, gate, engine)
+        }
         Command::Simple(_) => Played {
             how: How::Memory,
             input,
@@ -574,7 +665,7 @@ fn eval_body<T: Tree, I: Source + Send, O: Sink + Send, E: Sink>(
 
 /// Evaluates what is in an `if`.
 #[cycle(evaluation)]
-fn eval_if<T: Tree, I: Source + Send, O: Sink + Send, E: Sink>(
+fn eval_if<T: Tree, I: Source + Send, O: Sink + Send, E: Sink, G: Gate, X: Engine>(
     command: &Command,
     shell: &mut Shell,
     session: &mut Session,
@@ -582,13 +673,15 @@ fn eval_if<T: Tree, I: Source + Send, O: Sink + Send, E: Sink>(
     input: I,
     out: O,
     err: &mut E,
+    gate: &G,
+    engine: &mut X,
 ) -> Played<I, O>
     requires sound { IsSound session.old (T.state tree.old) }
     ensures { Evaluates (λ expansions. body_means expansions pages (command_tree command.now))
-        (point_of shell.old session.old (T.state tree.old) (seen_of (drawn_of (I.left input) None) (O.taken out) (E.taken err.old))
+        (point_of shell.old session.old (T.state tree.old) (seen_of (drawn_of (I.left input) (X.used engine.old)) (O.taken out) (E.taken err.old))
         (faults_of (I.faults input) (O.faults out) (E.faults err.old) (T.faults tree.old)))
         result.how
-        (point_of shell.new session.new (T.state tree.new) (seen_of (drawn_of (I.left result.input) None) (O.taken result.out) (E.taken err.new))
+        (point_of shell.new session.new (T.state tree.new) (seen_of (drawn_of (I.left result.input) (X.used engine.new)) (O.taken result.out) (E.taken err.new))
         (faults_of (I.faults result.input) (O.faults result.out) (E.faults err.new) (T.faults tree.new))) }
 {
     let Command::If(branches, otherwise, _) = command else {
@@ -605,18 +698,18 @@ fn eval_if<T: Tree, I: Source + Send, O: Sink + Send, E: Sink>(
             how,
             input: left,
             out: sent,
-        } = eval_condition(branch, shell, session, tree, input, out, err);
+        } = eval_condition(branch, shell, session, tree, input, out, err, gate, engine);
         input = left;
         out = sent;
         if !goes_on(&how) {
             return Played { how, input, out };
         }
         if shell.status == 0 {
-            return eval_branch(branch, shell, session, tree, input, out, err);
+            return eval_branch(branch, shell, session, tree, input, out, err, gate, engine);
         }
     }
     match otherwise {
-        Some(list) => eval_list(list, shell, session, tree, input, out, err),
+        Some(list) => eval_list(list, shell, session, tree, input, out, err, gate, engine),
         None => {
             shell.status = 0;
             Played {
@@ -630,7 +723,7 @@ fn eval_if<T: Tree, I: Source + Send, O: Sink + Send, E: Sink>(
 
 /// Evaluates the condition of a branch.
 #[cycle(evaluation)]
-fn eval_condition<T: Tree, I: Source + Send, O: Sink + Send, E: Sink>(
+fn eval_condition<T: Tree, I: Source + Send, O: Sink + Send, E: Sink, G: Gate, X: Engine>(
     branch: &(List, List),
     shell: &mut Shell,
     session: &mut Session,
@@ -638,21 +731,25 @@ fn eval_condition<T: Tree, I: Source + Send, O: Sink + Send, E: Sink>(
     input: I,
     out: O,
     err: &mut E,
+    gate: &G,
+    engine: &mut X,
 ) -> Played<I, O>
     requires sound { IsSound session.old (T.state tree.old) }
     ensures { Evaluates (λ expansions. list_means expansions pages (list_tree branch.now.0))
-        (point_of shell.old session.old (T.state tree.old) (seen_of (drawn_of (I.left input) None) (O.taken out) (E.taken err.old))
+        (point_of shell.old session.old (T.state tree.old) (seen_of (drawn_of (I.left input) (X.used engine.old)) (O.taken out) (E.taken err.old))
         (faults_of (I.faults input) (O.faults out) (E.faults err.old) (T.faults tree.old)))
         result.how
-        (point_of shell.new session.new (T.state tree.new) (seen_of (drawn_of (I.left result.input) None) (O.taken result.out) (E.taken err.new))
+        (point_of shell.new session.new (T.state tree.new) (seen_of (drawn_of (I.left result.input) (X.used engine.new)) (O.taken result.out) (E.taken err.new))
         (faults_of (I.faults result.input) (O.faults result.out) (E.faults err.new) (T.faults tree.new))) }
 {
-    eval_list(&branch.0, shell, session, tree, input, out, err)
+    eval_list(
+        &branch.0, shell, session, tree, input, out, err, gate, engine,
+    )
 }
 
 /// Evaluates the commands of a branch.
 #[cycle(evaluation)]
-fn eval_branch<T: Tree, I: Source + Send, O: Sink + Send, E: Sink>(
+fn eval_branch<T: Tree, I: Source + Send, O: Sink + Send, E: Sink, G: Gate, X: Engine>(
     branch: &(List, List),
     shell: &mut Shell,
     session: &mut Session,
@@ -660,21 +757,25 @@ fn eval_branch<T: Tree, I: Source + Send, O: Sink + Send, E: Sink>(
     input: I,
     out: O,
     err: &mut E,
+    gate: &G,
+    engine: &mut X,
 ) -> Played<I, O>
     requires sound { IsSound session.old (T.state tree.old) }
     ensures { Evaluates (λ expansions. list_means expansions pages (list_tree branch.now.1))
-        (point_of shell.old session.old (T.state tree.old) (seen_of (drawn_of (I.left input) None) (O.taken out) (E.taken err.old))
+        (point_of shell.old session.old (T.state tree.old) (seen_of (drawn_of (I.left input) (X.used engine.old)) (O.taken out) (E.taken err.old))
         (faults_of (I.faults input) (O.faults out) (E.faults err.old) (T.faults tree.old)))
         result.how
-        (point_of shell.new session.new (T.state tree.new) (seen_of (drawn_of (I.left result.input) None) (O.taken result.out) (E.taken err.new))
+        (point_of shell.new session.new (T.state tree.new) (seen_of (drawn_of (I.left result.input) (X.used engine.new)) (O.taken result.out) (E.taken err.new))
         (faults_of (I.faults result.input) (O.faults result.out) (E.faults err.new) (T.faults tree.new))) }
 {
-    eval_list(&branch.1, shell, session, tree, input, out, err)
+    eval_list(
+        &branch.1, shell, session, tree, input, out, err, gate, engine,
+    )
 }
 
 /// Evaluates a simple command.
 #[cycle(evaluation)]
-fn eval_simple<T: Tree, I: Source + Send, O: Sink + Send, E: Sink>(
+fn eval_simple<T: Tree, I: Source + Send, O: Sink + Send, E: Sink, G: Gate, X: Engine>(
     simple: &Simple,
     shell: &mut Shell,
     session: &mut Session,
@@ -682,13 +783,15 @@ fn eval_simple<T: Tree, I: Source + Send, O: Sink + Send, E: Sink>(
     input: I,
     out: O,
     err: &mut E,
+    gate: &G,
+    engine: &mut X,
 ) -> Played<I, O>
     requires sound { IsSound session.old (T.state tree.old) }
     ensures { Evaluates (λ expansions. simple_means expansions pages (simple_tree simple.now))
-        (point_of shell.old session.old (T.state tree.old) (seen_of (drawn_of (I.left input) None) (O.taken out) (E.taken err.old))
+        (point_of shell.old session.old (T.state tree.old) (seen_of (drawn_of (I.left input) (X.used engine.old)) (O.taken out) (E.taken err.old))
         (faults_of (I.faults input) (O.faults out) (E.faults err.old) (T.faults tree.old)))
         result.how
-        (point_of shell.new session.new (T.state tree.new) (seen_of (drawn_of (I.left result.input) None) (O.taken result.out) (E.taken err.new))
+        (point_of shell.new session.new (T.state tree.new) (seen_of (drawn_of (I.left result.input) (X.used engine.new)) (O.taken result.out) (E.taken err.new))
         (faults_of (I.faults result.input) (O.faults result.out) (E.faults err.new) (T.faults tree.new))) }
 {
     let alloc = session.alloc();
@@ -701,6 +804,8 @@ fn eval_simple<T: Tree, I: Source + Send, O: Sink + Send, E: Sink>(
         input,
         out,
         err,
+        gate,
+        engine,
     );
     if !goes_on(&how) {
         return Played { how, input, out };
@@ -716,12 +821,14 @@ fn eval_simple<T: Tree, I: Source + Send, O: Sink + Send, E: Sink>(
         input,
         out,
         err,
+        gate,
+        engine,
     )
 }
 
 /// Evaluates command substitutions, in text order.
 #[cycle(evaluation)]
-fn eval_subs<T: Tree, I: Source + Send, O: Sink + Send, E: Sink>(
+fn eval_subs<T: Tree, I: Source + Send, O: Sink + Send, E: Sink, G: Gate, X: Engine>(
     subs: &[List],
     shell: &mut Shell,
     session: &mut Session,
@@ -729,13 +836,15 @@ fn eval_subs<T: Tree, I: Source + Send, O: Sink + Send, E: Sink>(
     input: I,
     out: O,
     err: &mut E,
+    gate: &G,
+    engine: &mut X,
 ) -> Played<I, O>
     requires sound { IsSound session.old (T.state tree.old) }
     ensures { Evaluates (λ expansions. subs_mean expansions pages (subs_tree subs.now))
-        (point_of shell.old session.old (T.state tree.old) (seen_of (drawn_of (I.left input) None) (O.taken out) (E.taken err.old))
+        (point_of shell.old session.old (T.state tree.old) (seen_of (drawn_of (I.left input) (X.used engine.old)) (O.taken out) (E.taken err.old))
         (faults_of (I.faults input) (O.faults out) (E.faults err.old) (T.faults tree.old)))
         result.how
-        (point_of shell.new session.new (T.state tree.new) (seen_of (drawn_of (I.left result.input) None) (O.taken result.out) (E.taken err.new))
+        (point_of shell.new session.new (T.state tree.new) (seen_of (drawn_of (I.left result.input) (X.used engine.new)) (O.taken result.out) (E.taken err.new))
         (faults_of (I.faults result.input) (O.faults result.out) (E.faults err.new) (T.faults tree.new))) }
 {
     let mut input = input;
@@ -745,7 +854,7 @@ fn eval_subs<T: Tree, I: Source + Send, O: Sink + Send, E: Sink>(
             how,
             input: left,
             out: sent,
-        } = eval_substitution(list, shell, session, tree, input, out, err);
+        } = eval_substitution(list, shell, session, tree, input, out, err, gate, engine);
         input = left;
         out = sent;
         if !goes_on(&how) {
@@ -761,7 +870,7 @@ fn eval_subs<T: Tree, I: Source + Send, O: Sink + Send, E: Sink>(
 
 /// Evaluates a command substitution: its output is gathered in a pipe, and kept without the newlines at its end.
 #[cycle(evaluation)]
-fn eval_substitution<T: Tree, I: Source + Send, O: Sink + Send, E: Sink>(
+fn eval_substitution<T: Tree, I: Source + Send, O: Sink + Send, E: Sink, G: Gate, X: Engine>(
     list: &List,
     shell: &mut Shell,
     session: &mut Session,
@@ -769,13 +878,15 @@ fn eval_substitution<T: Tree, I: Source + Send, O: Sink + Send, E: Sink>(
     input: I,
     out: O,
     err: &mut E,
+    gate: &G,
+    engine: &mut X,
 ) -> Played<I, O>
     requires sound { IsSound session.old (T.state tree.old) }
     ensures { Evaluates (λ expansions. substitution (some_command (has_item (list_tree list.now)) (list_means expansions pages (list_tree list.now))))
-        (point_of shell.old session.old (T.state tree.old) (seen_of (drawn_of (I.left input) None) (O.taken out) (E.taken err.old))
+        (point_of shell.old session.old (T.state tree.old) (seen_of (drawn_of (I.left input) (X.used engine.old)) (O.taken out) (E.taken err.old))
         (faults_of (I.faults input) (O.faults out) (E.faults err.old) (T.faults tree.old)))
         result.how
-        (point_of shell.new session.new (T.state tree.new) (seen_of (drawn_of (I.left result.input) None) (O.taken result.out) (E.taken err.new))
+        (point_of shell.new session.new (T.state tree.new) (seen_of (drawn_of (I.left result.input) (X.used engine.new)) (O.taken result.out) (E.taken err.new))
         (faults_of (I.faults result.input) (O.faults result.out) (E.faults err.new) (T.faults tree.new))) }
 {
     let alloc = session.alloc();
@@ -794,7 +905,7 @@ fn eval_substitution<T: Tree, I: Source + Send, O: Sink + Send, E: Sink>(
         };
     };
     let Played { how, input, out } = eval_substituted(
-        list, &mut inner, session, tree, input, out, err,
+        list, &mut inner, session, tree, input, out, err, gate, engine,
     );
     let text = session.close_pipe(alloc, to);
     let Ok(()) = shell.keep_text(alloc, text.as_slice(), inner.status) else {
@@ -813,7 +924,7 @@ fn eval_substitution<T: Tree, I: Source + Send, O: Sink + Send, E: Sink>(
 
 /// Evaluates the list of a command substitution, in its shell: one without a command succeeds.
 #[cycle(evaluation)]
-fn eval_substituted<T: Tree, I: Source + Send, O: Sink + Send, E: Sink>(
+fn eval_substituted<T: Tree, I: Source + Send, O: Sink + Send, E: Sink, G: Gate, X: Engine>(
     list: &List,
     shell: &mut Shell,
     session: &mut Session,
@@ -821,13 +932,15 @@ fn eval_substituted<T: Tree, I: Source + Send, O: Sink + Send, E: Sink>(
     input: I,
     out: O,
     err: &mut E,
+    gate: &G,
+    engine: &mut X,
 ) -> Played<I, O>
     requires sound { IsSound session.old (T.state tree.old) }
     ensures { Evaluates (λ expansions. some_command (has_item (list_tree list.now)) (list_means expansions pages (list_tree list.now)))
-        (point_of shell.old session.old (T.state tree.old) (seen_of (drawn_of (I.left input) None) (O.taken out) (E.taken err.old))
+        (point_of shell.old session.old (T.state tree.old) (seen_of (drawn_of (I.left input) (X.used engine.old)) (O.taken out) (E.taken err.old))
         (faults_of (I.faults input) (O.faults out) (E.faults err.old) (T.faults tree.old)))
         result.how
-        (point_of shell.new session.new (T.state tree.new) (seen_of (drawn_of (I.left result.input) None) (O.taken result.out) (E.taken err.new))
+        (point_of shell.new session.new (T.state tree.new) (seen_of (drawn_of (I.left result.input) (X.used engine.new)) (O.taken result.out) (E.taken err.new))
         (faults_of (I.faults result.input) (O.faults result.out) (E.faults err.new) (T.faults tree.new))) }
 {
     if !has_command(list) {
@@ -838,12 +951,12 @@ fn eval_substituted<T: Tree, I: Source + Send, O: Sink + Send, E: Sink>(
             out,
         };
     }
-    eval_list(list, shell, session, tree, input, out, err)
+    eval_list(list, shell, session, tree, input, out, err, gate, engine)
 }
 
 /// Evaluates a `while` or an `until`.
 #[cycle(evaluation)]
-fn eval_while<T: Tree, I: Source + Send, O: Sink + Send, E: Sink>(
+fn eval_while<T: Tree, I: Source + Send, O: Sink + Send, E: Sink, G: Gate, X: Engine>(
     command: &Command,
     shell: &mut Shell,
     session: &mut Session,
@@ -851,13 +964,15 @@ fn eval_while<T: Tree, I: Source + Send, O: Sink + Send, E: Sink>(
     input: I,
     out: O,
     err: &mut E,
+    gate: &G,
+    engine: &mut X,
 ) -> Played<I, O>
     requires sound { IsSound session.old (T.state tree.old) }
     ensures { Evaluates (λ expansions. in_loop (all_turns (turn_means expansions pages (command_tree command.now))))
-        (point_of shell.old session.old (T.state tree.old) (seen_of (drawn_of (I.left input) None) (O.taken out) (E.taken err.old))
+        (point_of shell.old session.old (T.state tree.old) (seen_of (drawn_of (I.left input) (X.used engine.old)) (O.taken out) (E.taken err.old))
         (faults_of (I.faults input) (O.faults out) (E.faults err.old) (T.faults tree.old)))
         result.how
-        (point_of shell.new session.new (T.state tree.new) (seen_of (drawn_of (I.left result.input) None) (O.taken result.out) (E.taken err.new))
+        (point_of shell.new session.new (T.state tree.new) (seen_of (drawn_of (I.left result.input) (X.used engine.new)) (O.taken result.out) (E.taken err.new))
         (faults_of (I.faults result.input) (O.faults result.out) (E.faults err.new) (T.faults tree.new))) }
 {
     let Some(around) = shell.enter_loop() else {
@@ -867,14 +982,16 @@ fn eval_while<T: Tree, I: Source + Send, O: Sink + Send, E: Sink>(
             out,
         };
     };
-    let Played { how, input, out } = eval_turns(command, shell, session, tree, input, out, err);
+    let Played { how, input, out } = eval_turns(
+        command, shell, session, tree, input, out, err, gate, engine,
+    );
     shell.leave_loop(around);
     Played { how, input, out }
 }
 
 /// Evaluates the turns of a `while` or an `until`, until one of them ends it, or all turns of the run are used.
 #[cycle(evaluation)]
-fn eval_turns<T: Tree, I: Source + Send, O: Sink + Send, E: Sink>(
+fn eval_turns<T: Tree, I: Source + Send, O: Sink + Send, E: Sink, G: Gate, X: Engine>(
     command: &Command,
     shell: &mut Shell,
     session: &mut Session,
@@ -882,13 +999,15 @@ fn eval_turns<T: Tree, I: Source + Send, O: Sink + Send, E: Sink>(
     input: I,
     out: O,
     err: &mut E,
+    gate: &G,
+    engine: &mut X,
 ) -> Played<I, O>
     requires sound { IsSound session.old (T.state tree.old) }
     ensures { Evaluates (λ expansions. all_turns (turn_means expansions pages (command_tree command.now)))
-        (point_of shell.old session.old (T.state tree.old) (seen_of (drawn_of (I.left input) None) (O.taken out) (E.taken err.old))
+        (point_of shell.old session.old (T.state tree.old) (seen_of (drawn_of (I.left input) (X.used engine.old)) (O.taken out) (E.taken err.old))
         (faults_of (I.faults input) (O.faults out) (E.faults err.old) (T.faults tree.old)))
         result.how
-        (point_of shell.new session.new (T.state tree.new) (seen_of (drawn_of (I.left result.input) None) (O.taken result.out) (E.taken err.new))
+        (point_of shell.new session.new (T.state tree.new) (seen_of (drawn_of (I.left result.input) (X.used engine.new)) (O.taken result.out) (E.taken err.new))
         (faults_of (I.faults result.input) (O.faults result.out) (E.faults err.new) (T.faults tree.new))) }
 {
     let mut input = input;
@@ -899,7 +1018,7 @@ fn eval_turns<T: Tree, I: Source + Send, O: Sink + Send, E: Sink>(
             how,
             input: left,
             out: sent,
-        } = eval_turn(command, shell, session, tree, input, out, err);
+        } = eval_turn(command, shell, session, tree, input, out, err, gate, engine);
         input = left;
         out = sent;
         if !goes_round(&how) {
@@ -919,7 +1038,7 @@ fn eval_turns<T: Tree, I: Source + Send, O: Sink + Send, E: Sink>(
 
 /// Evaluates one turn of a `while` or an `until`.
 #[cycle(evaluation)]
-fn eval_turn<T: Tree, I: Source + Send, O: Sink + Send, E: Sink>(
+fn eval_turn<T: Tree, I: Source + Send, O: Sink + Send, E: Sink, G: Gate, X: Engine>(
     command: &Command,
     shell: &mut Shell,
     session: &mut Session,
@@ -927,21 +1046,23 @@ fn eval_turn<T: Tree, I: Source + Send, O: Sink + Send, E: Sink>(
     input: I,
     out: O,
     err: &mut E,
+    gate: &G,
+    engine: &mut X,
 ) -> Played<I, O>
     requires sound { IsSound session.old (T.state tree.old) }
     ensures { Evaluates (λ expansions. turn_means expansions pages (command_tree command.now))
-        (point_of shell.old session.old (T.state tree.old) (seen_of (drawn_of (I.left input) None) (O.taken out) (E.taken err.old))
+        (point_of shell.old session.old (T.state tree.old) (seen_of (drawn_of (I.left input) (X.used engine.old)) (O.taken out) (E.taken err.old))
         (faults_of (I.faults input) (O.faults out) (E.faults err.old) (T.faults tree.old)))
         result.how
-        (point_of shell.new session.new (T.state tree.new) (seen_of (drawn_of (I.left result.input) None) (O.taken result.out) (E.taken err.new))
+        (point_of shell.new session.new (T.state tree.new) (seen_of (drawn_of (I.left result.input) (X.used engine.new)) (O.taken result.out) (E.taken err.new))
         (faults_of (I.faults result.input) (O.faults result.out) (E.faults err.new) (T.faults tree.new))) }
 {
     match command {
         Command::While(_, _, _) => {
-            eval_while_turn(command, shell, session, tree, input, out, err)
+            eval_while_turn(command, shell, session, tree, input, out, err, gate, engine)
         }
         Command::Until(_, _, _) => {
-            eval_until_turn(command, shell, session, tree, input, out, err)
+            eval_until_turn(command, shell, session, tree, input, out, err, gate, engine)
         }
         _ => Played {
             how: How::Memory,
@@ -953,7 +1074,7 @@ fn eval_turn<T: Tree, I: Source + Send, O: Sink + Send, E: Sink>(
 
 /// Evaluates one turn of a `while`: its condition, and where that holds its body.
 #[cycle(evaluation)]
-fn eval_while_turn<T: Tree, I: Source + Send, O: Sink + Send, E: Sink>(
+fn eval_while_turn<T: Tree, I: Source + Send, O: Sink + Send, E: Sink, G: Gate, X: Engine>(
     command: &Command,
     shell: &mut Shell,
     session: &mut Session,
@@ -961,13 +1082,15 @@ fn eval_while_turn<T: Tree, I: Source + Send, O: Sink + Send, E: Sink>(
     input: I,
     out: O,
     err: &mut E,
+    gate: &G,
+    engine: &mut X,
 ) -> Played<I, O>
     requires sound { IsSound session.old (T.state tree.old) }
     ensures { Evaluates (λ expansions. turn_means expansions pages (command_tree command.now))
-        (point_of shell.old session.old (T.state tree.old) (seen_of (drawn_of (I.left input) None) (O.taken out) (E.taken err.old))
+        (point_of shell.old session.old (T.state tree.old) (seen_of (drawn_of (I.left input) (X.used engine.old)) (O.taken out) (E.taken err.old))
         (faults_of (I.faults input) (O.faults out) (E.faults err.old) (T.faults tree.old)))
         result.how
-        (point_of shell.new session.new (T.state tree.new) (seen_of (drawn_of (I.left result.input) None) (O.taken result.out) (E.taken err.new))
+        (point_of shell.new session.new (T.state tree.new) (seen_of (drawn_of (I.left result.input) (X.used engine.new)) (O.taken result.out) (E.taken err.new))
         (faults_of (I.faults result.input) (O.faults result.out) (E.faults err.new) (T.faults tree.new))) }
 {
     let Command::While(condition, body, _) = command else {
@@ -977,7 +1100,9 @@ fn eval_while_turn<T: Tree, I: Source + Send, O: Sink + Send, E: Sink>(
             out,
         };
     };
-    let Played { how, input, out } = eval_list(condition, shell, session, tree, input, out, err);
+    let Played { how, input, out } = eval_list(
+        condition, shell, session, tree, input, out, err, gate, engine,
+    );
     if !goes_on(&how) {
         leave_condition(&how, shell);
         return Played { how, input, out };
@@ -990,12 +1115,12 @@ fn eval_while_turn<T: Tree, I: Source + Send, O: Sink + Send, E: Sink>(
             out,
         };
     }
-    eval_loop_body(body, shell, session, tree, input, out, err)
+    eval_loop_body(body, shell, session, tree, input, out, err, gate, engine)
 }
 
 /// Evaluates one turn of an `until`: its condition, and where that fails its body.
 #[cycle(evaluation)]
-fn eval_until_turn<T: Tree, I: Source + Send, O: Sink + Send, E: Sink>(
+fn eval_until_turn<T: Tree, I: Source + Send, O: Sink + Send, E: Sink, G: Gate, X: Engine>(
     command: &Command,
     shell: &mut Shell,
     session: &mut Session,
@@ -1003,13 +1128,15 @@ fn eval_until_turn<T: Tree, I: Source + Send, O: Sink + Send, E: Sink>(
     input: I,
     out: O,
     err: &mut E,
+    gate: &G,
+    engine: &mut X,
 ) -> Played<I, O>
     requires sound { IsSound session.old (T.state tree.old) }
     ensures { Evaluates (λ expansions. turn_means expansions pages (command_tree command.now))
-        (point_of shell.old session.old (T.state tree.old) (seen_of (drawn_of (I.left input) None) (O.taken out) (E.taken err.old))
+        (point_of shell.old session.old (T.state tree.old) (seen_of (drawn_of (I.left input) (X.used engine.old)) (O.taken out) (E.taken err.old))
         (faults_of (I.faults input) (O.faults out) (E.faults err.old) (T.faults tree.old)))
         result.how
-        (point_of shell.new session.new (T.state tree.new) (seen_of (drawn_of (I.left result.input) None) (O.taken result.out) (E.taken err.new))
+        (point_of shell.new session.new (T.state tree.new) (seen_of (drawn_of (I.left result.input) (X.used engine.new)) (O.taken result.out) (E.taken err.new))
         (faults_of (I.faults result.input) (O.faults result.out) (E.faults err.new) (T.faults tree.new))) }
 {
     let Command::Until(condition, body, _) = command else {
@@ -1019,7 +1146,9 @@ fn eval_until_turn<T: Tree, I: Source + Send, O: Sink + Send, E: Sink>(
             out,
         };
     };
-    let Played { how, input, out } = eval_list(condition, shell, session, tree, input, out, err);
+    let Played { how, input, out } = eval_list(
+        condition, shell, session, tree, input, out, err, gate, engine,
+    );
     if !goes_on(&how) {
         leave_condition(&how, shell);
         return Played { how, input, out };
@@ -1032,12 +1161,12 @@ fn eval_until_turn<T: Tree, I: Source + Send, O: Sink + Send, E: Sink>(
             out,
         };
     }
-    eval_loop_body(body, shell, session, tree, input, out, err)
+    eval_loop_body(body, shell, session, tree, input, out, err, gate, engine)
 }
 
 /// Evaluates the body of a loop, whose status is kept.
 #[cycle(evaluation)]
-fn eval_loop_body<T: Tree, I: Source + Send, O: Sink + Send, E: Sink>(
+fn eval_loop_body<T: Tree, I: Source + Send, O: Sink + Send, E: Sink, G: Gate, X: Engine>(
     body: &List,
     shell: &mut Shell,
     session: &mut Session,
@@ -1045,23 +1174,27 @@ fn eval_loop_body<T: Tree, I: Source + Send, O: Sink + Send, E: Sink>(
     input: I,
     out: O,
     err: &mut E,
+    gate: &G,
+    engine: &mut X,
 ) -> Played<I, O>
     requires sound { IsSound session.old (T.state tree.old) }
     ensures { Evaluates (λ expansions state. noted (list_means expansions pages (list_tree body.now) state))
-        (point_of shell.old session.old (T.state tree.old) (seen_of (drawn_of (I.left input) None) (O.taken out) (E.taken err.old))
+        (point_of shell.old session.old (T.state tree.old) (seen_of (drawn_of (I.left input) (X.used engine.old)) (O.taken out) (E.taken err.old))
         (faults_of (I.faults input) (O.faults out) (E.faults err.old) (T.faults tree.old)))
         result.how
-        (point_of shell.new session.new (T.state tree.new) (seen_of (drawn_of (I.left result.input) None) (O.taken result.out) (E.taken err.new))
+        (point_of shell.new session.new (T.state tree.new) (seen_of (drawn_of (I.left result.input) (X.used engine.new)) (O.taken result.out) (E.taken err.new))
         (faults_of (I.faults result.input) (O.faults result.out) (E.faults err.new) (T.faults tree.new))) }
 {
-    let Played { how, input, out } = eval_list(body, shell, session, tree, input, out, err);
+    let Played { how, input, out } = eval_list(
+        body, shell, session, tree, input, out, err, gate, engine,
+    );
     note_body(&how, shell);
     Played { how, input, out }
 }
 
 /// Evaluates a `for`: over what its words mean, or over the arguments.
 #[cycle(evaluation)]
-fn eval_for<T: Tree, I: Source + Send, O: Sink + Send, E: Sink>(
+fn eval_for<T: Tree, I: Source + Send, O: Sink + Send, E: Sink, G: Gate, X: Engine>(
     command: &Command,
     shell: &mut Shell,
     session: &mut Session,
@@ -1069,13 +1202,15 @@ fn eval_for<T: Tree, I: Source + Send, O: Sink + Send, E: Sink>(
     input: I,
     out: O,
     err: &mut E,
+    gate: &G,
+    engine: &mut X,
 ) -> Played<I, O>
     requires sound { IsSound session.old (T.state tree.old) }
     ensures { Evaluates (λ expansions. body_means expansions pages (command_tree command.now))
-        (point_of shell.old session.old (T.state tree.old) (seen_of (drawn_of (I.left input) None) (O.taken out) (E.taken err.old))
+        (point_of shell.old session.old (T.state tree.old) (seen_of (drawn_of (I.left input) (X.used engine.old)) (O.taken out) (E.taken err.old))
         (faults_of (I.faults input) (O.faults out) (E.faults err.old) (T.faults tree.old)))
         result.how
-        (point_of shell.new session.new (T.state tree.new) (seen_of (drawn_of (I.left result.input) None) (O.taken result.out) (E.taken err.new))
+        (point_of shell.new session.new (T.state tree.new) (seen_of (drawn_of (I.left result.input) (X.used engine.new)) (O.taken result.out) (E.taken err.new))
         (faults_of (I.faults result.input) (O.faults result.out) (E.faults err.new) (T.faults tree.new))) }
 {
     let alloc = session.alloc();
@@ -1104,6 +1239,8 @@ fn eval_for<T: Tree, I: Source + Send, O: Sink + Send, E: Sink>(
                 input,
                 out,
                 err,
+                gate,
+                engine,
             )
         }
         Some(words) => {
@@ -1116,6 +1253,8 @@ fn eval_for<T: Tree, I: Source + Send, O: Sink + Send, E: Sink>(
                 input,
                 out,
                 err,
+                gate,
+                engine,
             );
             if !goes_on(&how) {
                 return Played { how, input, out };
@@ -1142,6 +1281,8 @@ fn eval_for<T: Tree, I: Source + Send, O: Sink + Send, E: Sink>(
                 input,
                 out,
                 err,
+                gate,
+                engine,
             )
         }
     }
@@ -1149,7 +1290,7 @@ fn eval_for<T: Tree, I: Source + Send, O: Sink + Send, E: Sink>(
 
 /// Evaluates a `for` over fields.
 #[cycle(evaluation)]
-fn eval_for_over<T: Tree, I: Source + Send, O: Sink + Send, E: Sink>(
+fn eval_for_over<T: Tree, I: Source + Send, O: Sink + Send, E: Sink, G: Gate, X: Engine>(
     command: &Command,
     fields: &[Vec<u8>],
     shell: &mut Shell,
@@ -1158,13 +1299,15 @@ fn eval_for_over<T: Tree, I: Source + Send, O: Sink + Send, E: Sink>(
     input: I,
     out: O,
     err: &mut E,
+    gate: &G,
+    engine: &mut X,
 ) -> Played<I, O>
     requires sound { IsSound session.old (T.state tree.old) }
     ensures { Evaluates (λ expansions. in_loop (rounds_mean expansions pages (command_tree command.now) (texts_of fields.now)))
-        (point_of shell.old session.old (T.state tree.old) (seen_of (drawn_of (I.left input) None) (O.taken out) (E.taken err.old))
+        (point_of shell.old session.old (T.state tree.old) (seen_of (drawn_of (I.left input) (X.used engine.old)) (O.taken out) (E.taken err.old))
         (faults_of (I.faults input) (O.faults out) (E.faults err.old) (T.faults tree.old)))
         result.how
-        (point_of shell.new session.new (T.state tree.new) (seen_of (drawn_of (I.left result.input) None) (O.taken result.out) (E.taken err.new))
+        (point_of shell.new session.new (T.state tree.new) (seen_of (drawn_of (I.left result.input) (X.used engine.new)) (O.taken result.out) (E.taken err.new))
         (faults_of (I.faults result.input) (O.faults result.out) (E.faults err.new) (T.faults tree.new))) }
 {
     let Some(around) = shell.enter_loop() else {
@@ -1175,7 +1318,7 @@ fn eval_for_over<T: Tree, I: Source + Send, O: Sink + Send, E: Sink>(
         };
     };
     let Played { how, input, out } = eval_rounds(
-        command, fields, shell, session, tree, input, out, err,
+        command, fields, shell, session, tree, input, out, err, gate, engine,
     );
     shell.leave_loop(around);
     Played { how, input, out }
@@ -1183,7 +1326,7 @@ fn eval_for_over<T: Tree, I: Source + Send, O: Sink + Send, E: Sink>(
 
 /// Evaluates the rounds of a `for`, one a field, until one of them ends it, or all turns of the run are used.
 #[cycle(evaluation)]
-fn eval_rounds<T: Tree, I: Source + Send, O: Sink + Send, E: Sink>(
+fn eval_rounds<T: Tree, I: Source + Send, O: Sink + Send, E: Sink, G: Gate, X: Engine>(
     command: &Command,
     fields: &[Vec<u8>],
     shell: &mut Shell,
@@ -1192,13 +1335,15 @@ fn eval_rounds<T: Tree, I: Source + Send, O: Sink + Send, E: Sink>(
     input: I,
     out: O,
     err: &mut E,
+    gate: &G,
+    engine: &mut X,
 ) -> Played<I, O>
     requires sound { IsSound session.old (T.state tree.old) }
     ensures { Evaluates (λ expansions. rounds_mean expansions pages (command_tree command.now) (texts_of fields.now))
-        (point_of shell.old session.old (T.state tree.old) (seen_of (drawn_of (I.left input) None) (O.taken out) (E.taken err.old))
+        (point_of shell.old session.old (T.state tree.old) (seen_of (drawn_of (I.left input) (X.used engine.old)) (O.taken out) (E.taken err.old))
         (faults_of (I.faults input) (O.faults out) (E.faults err.old) (T.faults tree.old)))
         result.how
-        (point_of shell.new session.new (T.state tree.new) (seen_of (drawn_of (I.left result.input) None) (O.taken result.out) (E.taken err.new))
+        (point_of shell.new session.new (T.state tree.new) (seen_of (drawn_of (I.left result.input) (X.used engine.new)) (O.taken result.out) (E.taken err.new))
         (faults_of (I.faults result.input) (O.faults result.out) (E.faults err.new) (T.faults tree.new))) }
 {
     let mut input = input;
@@ -1225,6 +1370,8 @@ fn eval_rounds<T: Tree, I: Source + Send, O: Sink + Send, E: Sink>(
             input,
             out,
             err,
+            gate,
+            engine,
         );
         input = left;
         out = sent;
@@ -1246,7 +1393,7 @@ fn eval_rounds<T: Tree, I: Source + Send, O: Sink + Send, E: Sink>(
 
 /// Evaluates one round of a `for`, in which its name has this text.
 #[cycle(evaluation)]
-fn eval_round<T: Tree, I: Source + Send, O: Sink + Send, E: Sink>(
+fn eval_round<T: Tree, I: Source + Send, O: Sink + Send, E: Sink, G: Gate, X: Engine>(
     command: &Command,
     field: &[u8],
     shell: &mut Shell,
@@ -1255,13 +1402,15 @@ fn eval_round<T: Tree, I: Source + Send, O: Sink + Send, E: Sink>(
     input: I,
     out: O,
     err: &mut E,
+    gate: &G,
+    engine: &mut X,
 ) -> Played<I, O>
     requires sound { IsSound session.old (T.state tree.old) }
     ensures { Evaluates (λ expansions. round_means expansions pages (command_tree command.now) field.now)
-        (point_of shell.old session.old (T.state tree.old) (seen_of (drawn_of (I.left input) None) (O.taken out) (E.taken err.old))
+        (point_of shell.old session.old (T.state tree.old) (seen_of (drawn_of (I.left input) (X.used engine.old)) (O.taken out) (E.taken err.old))
         (faults_of (I.faults input) (O.faults out) (E.faults err.old) (T.faults tree.old)))
         result.how
-        (point_of shell.new session.new (T.state tree.new) (seen_of (drawn_of (I.left result.input) None) (O.taken result.out) (E.taken err.new))
+        (point_of shell.new session.new (T.state tree.new) (seen_of (drawn_of (I.left result.input) (X.used engine.new)) (O.taken result.out) (E.taken err.new))
         (faults_of (I.faults result.input) (O.faults result.out) (E.faults err.new) (T.faults tree.new))) }
 {
     let alloc = session.alloc();
@@ -1279,12 +1428,12 @@ fn eval_round<T: Tree, I: Source + Send, O: Sink + Send, E: Sink>(
             out,
         };
     };
-    eval_loop_body(body, shell, session, tree, input, out, err)
+    eval_loop_body(body, shell, session, tree, input, out, err, gate, engine)
 }
 
 /// Evaluates a list in a subshell.
 #[cycle(evaluation)]
-fn eval_subshell<T: Tree, I: Source + Send, O: Sink + Send, E: Sink>(
+fn eval_subshell<T: Tree, I: Source + Send, O: Sink + Send, E: Sink, G: Gate, X: Engine>(
     list: &List,
     shell: &mut Shell,
     session: &mut Session,
@@ -1292,13 +1441,15 @@ fn eval_subshell<T: Tree, I: Source + Send, O: Sink + Send, E: Sink>(
     input: I,
     out: O,
     err: &mut E,
+    gate: &G,
+    engine: &mut X,
 ) -> Played<I, O>
     requires sound { IsSound session.old (T.state tree.old) }
     ensures { Evaluates (λ expansions. subshell (list_means expansions pages (list_tree list.now)))
-        (point_of shell.old session.old (T.state tree.old) (seen_of (drawn_of (I.left input) None) (O.taken out) (E.taken err.old))
+        (point_of shell.old session.old (T.state tree.old) (seen_of (drawn_of (I.left input) (X.used engine.old)) (O.taken out) (E.taken err.old))
         (faults_of (I.faults input) (O.faults out) (E.faults err.old) (T.faults tree.old)))
         result.how
-        (point_of shell.new session.new (T.state tree.new) (seen_of (drawn_of (I.left result.input) None) (O.taken result.out) (E.taken err.new))
+        (point_of shell.new session.new (T.state tree.new) (seen_of (drawn_of (I.left result.input) (X.used engine.new)) (O.taken result.out) (E.taken err.new))
         (faults_of (I.faults result.input) (O.faults result.out) (E.faults err.new) (T.faults tree.new))) }
 {
     let alloc = session.alloc();
@@ -1309,7 +1460,9 @@ fn eval_subshell<T: Tree, I: Source + Send, O: Sink + Send, E: Sink>(
             out,
         };
     };
-    let Played { how, input, out } = eval_list(list, &mut inner, session, tree, input, out, err);
+    let Played { how, input, out } = eval_list(
+        list, &mut inner, session, tree, input, out, err, gate, engine,
+    );
     shell.status = inner.status;
     Played {
         how: settled(how),

@@ -4,7 +4,7 @@ ghost use Rattle.sh_expand.specs.Outcomes.{Expansions};
 ghost use Rattle.sh_tree.specs.Views.{redir_tree};
 ghost use Rattle.sh_eval.specs.Contract.{Drawn, Evaluates, IsSound, Seen, faults_of, point_of, seen_of};
 ghost use Rattle.sh_eval.specs.Growth.{Adds};
-ghost use Rattle.sh_eval.specs.Inner.Opening.{FindsUses, IsBusy, Opens, Shuts, closed, freed, held_opened, how_of as how_of_lem, opened};
+ghost use Rattle.sh_eval.specs.Inner.Opening.{FindsUses, IsBusy, Opens, Shuts, closed, freed, held_opened, opened};
 ghost use Rattle.sh_eval.specs.Meaning.{held_in};
 ghost use Rattle.sh_eval.specs.Redirections.{first_busy as first_busy_lem, in_redirections, uses_of};
 ghost use Rattle.sh_eval.specs.States.{Means, State};
@@ -15,7 +15,7 @@ use crate::busy::{Use, add_targets, first_busy, hold};
 use crate::expanding::expand_targets;
 use crate::flows::Flow;
 use crate::leading::Before;
-use crate::outcomes::How;
+use crate::outcomes::{How, how_of};
 use crate::redirections::redirect_all;
 use crate::refusals::Refusal;
 use crate::session::Session;
@@ -23,7 +23,7 @@ use crate::shell::Shell;
 use crate::skipping::skip;
 use crate::targets::Target;
 use ps_lines::Text;
-use ps_world::{Sink, Tree, WorldErr};
+use ps_world::{Sink, Tree};
 use sh_tree::Redir;
 use std::alloc::Global;
 
@@ -163,16 +163,6 @@ fn look_up<T: Tree>(
     match first_busy(&session.streams.held, uses.as_slice()) {
         Some(text) => Err(refuse_busy(alloc, text)),
         None => Ok(()),
-    }
-}
-
-/// How a command is over at which the tree failed, or memory was refused.
-fn how_of(error: WorldErr) -> How
-    ensures { result ≡ how_of_lem error }
-{
-    match error {
-        WorldErr::Failed => How::TreeFault,
-        WorldErr::Memory => How::Memory,
     }
 }
 

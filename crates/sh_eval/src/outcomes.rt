@@ -4,10 +4,12 @@ ghost use Rattle.sh_tree.specs.declared.commands.Command.TheViews.{out-List};
 ghost use Rattle.sh_eval.specs.Commands.{goes_on_behind, goes_round as goes_round_lem, kept_by, left_by as left_by_lem, negated_status, position_at};
 ghost use Rattle.sh_eval.specs.Contract.{changed_by, goes_on as goes_on_lem, going, gone_by, settled_how};
 ghost use Rattle.sh_eval.specs.Inner.Loops.{condition_left};
+ghost use Rattle.sh_eval.specs.Inner.Opening.{how_of as how_of_lem};
 ghost use Rattle.sh_eval.specs.Shells.{with_status};
 
 use crate::flows::Flow;
 use crate::shell::Shell;
+use ps_world::WorldErr;
 use sh_tree::{Join, List};
 
 /// How the evaluation of a command came out.
@@ -59,6 +61,16 @@ pub(crate) fn goes_on(how: &How) -> bool
     ensures { result ≡ goes_on_lem how.now }
 {
     matches!(how, How::Gone(Flow::On))
+}
+
+/// How a command is over at which the tree failed, or memory was refused.
+pub(crate) fn how_of(error: WorldErr) -> How
+    ensures { result ≡ how_of_lem error }
+{
+    match error {
+        WorldErr::Failed => How::TreeFault,
+        WorldErr::Memory => How::Memory,
+    }
 }
 
 /// How the shell around goes on behind a subshell.

@@ -2,7 +2,9 @@
 ghost use Rattle.std.specs.Prelude.{◌≡◌, ◌≤◌, length, drop};
 
 use ps_lines::{Memory, cut_line};
+use std::alloc::Global;
 use std::marker::Model;
+use std::mem;
 
 /// What is left of a text that a shell reads. Contracts see the bytes that are left.
 #[derive(Debug, Drop)]
@@ -21,7 +23,7 @@ impl Model for Rest {
 }
 
 impl Rest {
-    ghost use Rattle.std.specs.Prelude.{◌++◌, IfOk, OnOk, OnErr};
+    ghost use Rattle.std.specs.Prelude.{◌++◌, [], IfOk, OnOk, OnErr};
     ghost use Rattle.ps_lines.specs.Lines.{has_newline};
     ghost use Rattle.sh_eval.specs.Builtins.{behind_line, line_in};
 
@@ -30,6 +32,25 @@ impl Rest {
         ensures { result ≡ text.items }
     {
         Rest { text, read: 0 }
+    }
+
+    /// Takes all that is left. Memory is wanted only where a part was read before; an error leaves all as it was.
+    pub(crate) fn take(&mut self, alloc: Global) -> Result<Vec<u8>, Memory>
+        ensures text { IfOk result (λ text. text.items ≡ self.old) }
+        ensures rest { OnOk result (self.new ≡ []) }
+        ensures err { OnErr result (self.new ≡ self.old) }
+    {
+        let Rest { text, read } = mem::replace(self, Rest::of(Vec::new(alloc)));
+        if read == 0 {
+            return Ok(text);
+        }
+        match Vec::from_slice(alloc, &text.as_slice()[read..]) {
+            Ok(left) => Ok(left),
+            Err(_refused) => {
+                *self = Rest { text, read };
+                Err(Memory)
+            }
+        }
     }
 
     /// Takes the first line that is left and puts it behind `line`, without its newline; answers whether a newline ended it (XCU read).

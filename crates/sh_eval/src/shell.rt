@@ -59,6 +59,13 @@ impl Shell {
         })
     }
 
+    /// `$?`.
+    pub fn status(&self) -> u8
+        ensures { result ≡ self.now.status }
+    {
+        self.status
+    }
+
     /// The shell of a subshell, a stage or a substitution: a copy, in which no loop encloses a command.
     pub(crate) fn inside(&self, alloc: Global) -> Result<Shell, Memory>
         ensures { IfOk result (λ shell. shell ≡ inside_lem self.now) }

@@ -1,33 +1,42 @@
 //! Simple commands, behind their substitutions.
-ghost use Rattle.std.specs.Prelude.{◌≡◌, ◌<◌, [], List, ℕ, length, map, true, Err, Result, None};
+ghost use Rattle.std.specs.Prelude.{◌≡◌, ◌<◌, List, ℕ, length, map, true, Err, Result, IfErr, IfOk, OnOk};
 ghost use Rattle.ps_lines.specs.Texts.{texts_of};
 ghost use Rattle.sh_tree.specs.Views.{redir_tree, word_tree};
-ghost use Rattle.ut_args.specs.Invocations.{command_of};
+ghost use Rattle.ut_args.specs.Built.{is_built_of};
+ghost use Rattle.ut_args.specs.Invocations.{command_of, words_of};
 ghost use Rattle.ut_args.specs.Reading.{invocation};
 ghost use Rattle.ut_args.specs.declared.commands.Command.{Command};
 ghost use Rattle.sh_eval.specs.Asking.{asked_as, asked_by, at_fault, does, is_special as is_special_lem};
 ghost use Rattle.sh_eval.specs.Contract.{Evaluates, IsSound, drawn_of, faults_of, point_of, seen_of};
 ghost use Rattle.sh_eval.specs.Expanding.{assigning};
 ghost use Rattle.sh_eval.specs.Inner.Bodies.{assign_tree};
-ghost use Rattle.sh_eval.specs.Inner.Doing.{asked_of, can_be_done, is_own, own_means, stays_of, way_of as way_of_lem};
-ghost use Rattle.sh_eval.specs.Inner.Opening.{opened};
+ghost use Rattle.sh_eval.specs.Inner.Doing.{asked_of, can_be_done, is_own, own_means, stays_of, uses_own, way_of as way_of_lem};
+ghost use Rattle.sh_eval.specs.Inner.Inputs.{called_by};
+ghost use Rattle.sh_eval.specs.Inner.Opening.{FindsUses, LooksInVain, opened};
 ghost use Rattle.sh_eval.specs.Simple.{assigned_for, checked, runs_simple};
 ghost use Rattle.sh_eval.specs.Table.{pages};
+ghost use Rattle.sh_eval.specs.Utilities.{uses_by_operands};
 
 use crate::builtins::{misuse, run_builtin};
+use crate::busy::{Use, add_operands};
 use crate::expanding::{assign_all, expand_targets, expand_words, restore};
 use crate::flows::Flow;
 use crate::opening::{close, open};
-use crate::outcomes::{How, Played};
+use crate::outcomes::{How, Played, how_of};
 use crate::refusals::Refusal;
 use crate::session::Session;
 use crate::shell::Shell;
 use crate::targets::Target;
+use crate::utilities::run_utility;
+use fl_core::Engine;
 use ps_lines::Text;
-use ps_world::{Sink, Source, Tree};
+use ps_world::{Gate, Sink, Source, Tree};
 use sh_tree::{Redir, Word};
 use std::alloc::Global;
-use ut_args::{ArgFault, Inv, read_inv};
+use ut_args::{ArgFault, Inv, is_built, read_inv};
+
+/// The most operands of a utility.
+const MAX_OPERANDS: usize = 256;
 
 /// What a command does once its assignments are done.
 #[derive(Clone, Copy)]
@@ -38,6 +47,8 @@ pub(crate) enum Doing<'name, 'inv> {
     Builtin(&'name [u8], &'inv Inv),
     /// The command of this name tells that its words can't be used.
     Misuse(&'name [u8]),
+    /// A utility, by its name.
+    Utility(&'name [u8], &'inv Inv),
 }
 
 /// Whether this is one of the shell's own commands.
@@ -92,6 +103,7 @@ fn stays(doing: Doing<'_, '_>) -> bool
                 | Inv::Unset(_)
         ),
         Doing::Misuse(name) => is_special_name(name),
+        Doing::Utility(_, _) => false,
     }
 }
 
@@ -111,7 +123,7 @@ fn way_of(doing: Doing<'_, '_>) -> Flow
     ensures { result ≡ way_of_lem (asked_of doing.entry) }
 {
     match doing {
-        Doing::Nothing => Flow::On,
+        Doing::Nothing | Doing::Utility(_, _) => Flow::On,
         Doing::Builtin(_, _) | Doing::Misuse(_) => {
             if stays(doing) { Flow::Exit } else { Flow::On }
         }
@@ -119,7 +131,7 @@ fn way_of(doing: Doing<'_, '_>) -> Flow
 }
 
 /// Runs a simple command.
-pub(crate) fn run_simple<T: Tree, I: Source + Send, O: Sink + Send, E: Sink>(
+pub(crate) fn run_simple<T: Tree, I: Source + Send, O: Sink + Send, E: Sink, G: Gate, X: Engine>(
     alloc: Global,
     assigns: &[(Text, Word)],
     words: &[Word],
@@ -130,13 +142,15 @@ pub(crate) fn run_simple<T: Tree, I: Source + Send, O: Sink + Send, E: Sink>(
     input: I,
     out: O,
     err: &mut E,
+    gate: &G,
+    engine: &mut X,
 ) -> Played<I, O>
     requires sound { IsSound session.old (T.state tree.old) }
     ensures { Evaluates (λ expansions. runs_simple expansions pages (map assign_tree assigns.now) (map word_tree words.now) (map redir_tree redirs.now))
-        (point_of shell.old session.old (T.state tree.old) (seen_of (drawn_of (I.left input) None) (O.taken out) (E.taken err.old))
+        (point_of shell.old session.old (T.state tree.old) (seen_of (drawn_of (I.left input) (X.used engine.old)) (O.taken out) (E.taken err.old))
         (faults_of (I.faults input) (O.faults out) (E.faults err.old) (T.faults tree.old)))
         result.how
-        (point_of shell.new session.new (T.state tree.new) (seen_of (drawn_of (I.left result.input) None) (O.taken result.out) (E.taken err.new))
+        (point_of shell.new session.new (T.state tree.new) (seen_of (drawn_of (I.left result.input) (X.used engine.new)) (O.taken result.out) (E.taken err.new))
         (faults_of (I.faults result.input) (O.faults result.out) (E.faults err.new) (T.faults tree.new))) }
 {
     let mut out = out;
@@ -159,11 +173,13 @@ pub(crate) fn run_simple<T: Tree, I: Source + Send, O: Sink + Send, E: Sink>(
         input,
         out,
         err,
+        gate,
+        engine,
     )
 }
 
 /// Runs what the fields of a command ask for.
-fn run_fields<T: Tree, I: Source + Send, O: Sink + Send, E: Sink>(
+fn run_fields<T: Tree, I: Source + Send, O: Sink + Send, E: Sink, G: Gate, X: Engine>(
     alloc: Global,
     assigns: &[(Text, Word)],
     targets: &[Target],
@@ -174,13 +190,15 @@ fn run_fields<T: Tree, I: Source + Send, O: Sink + Send, E: Sink>(
     input: I,
     out: O,
     err: &mut E,
+    gate: &G,
+    engine: &mut X,
 ) -> Played<I, O>
     requires sound { IsSound session.old (T.state tree.old) }
     ensures { Evaluates (λ expansions. checked expansions pages (map assign_tree assigns.now) targets.now (asked_by (texts_of fields.now)))
-        (point_of shell.old session.old (T.state tree.old) (seen_of (drawn_of (I.left input) None) (O.taken out) (E.taken err.old))
+        (point_of shell.old session.old (T.state tree.old) (seen_of (drawn_of (I.left input) (X.used engine.old)) (O.taken out) (E.taken err.old))
         (faults_of (I.faults input) (O.faults out) (E.faults err.old) (T.faults tree.old)))
         result.how
-        (point_of shell.new session.new (T.state tree.new) (seen_of (drawn_of (I.left result.input) None) (O.taken result.out) (E.taken err.new))
+        (point_of shell.new session.new (T.state tree.new) (seen_of (drawn_of (I.left result.input) (X.used engine.new)) (O.taken result.out) (E.taken err.new))
         (faults_of (I.faults result.input) (O.faults result.out) (E.faults err.new) (T.faults tree.new))) }
 {
     match fields {
@@ -195,6 +213,8 @@ fn run_fields<T: Tree, I: Source + Send, O: Sink + Send, E: Sink>(
             input,
             out,
             err,
+            gate,
+            engine,
         ),
         [name, ..] => run_named(
             alloc,
@@ -208,12 +228,14 @@ fn run_fields<T: Tree, I: Source + Send, O: Sink + Send, E: Sink>(
             input,
             out,
             err,
+            gate,
+            engine,
         ),
     }
 }
 
 /// Runs what the fields of a command ask for, of which this is the first.
-fn run_named<T: Tree, I: Source + Send, O: Sink + Send, E: Sink>(
+fn run_named<T: Tree, I: Source + Send, O: Sink + Send, E: Sink, G: Gate, X: Engine>(
     alloc: Global,
     assigns: &[(Text, Word)],
     targets: &[Target],
@@ -225,28 +247,31 @@ fn run_named<T: Tree, I: Source + Send, O: Sink + Send, E: Sink>(
     input: I,
     out: O,
     err: &mut E,
+    gate: &G,
+    engine: &mut X,
 ) -> Played<I, O>
     requires named { 0 < length fields.now }
     requires sound { IsSound session.old (T.state tree.old) }
     ensures { Evaluates (λ expansions. checked expansions pages (map assign_tree assigns.now) targets.now (asked_as name.now (texts_of fields.now) (invocation (texts_of fields.now))))
-        (point_of shell.old session.old (T.state tree.old) (seen_of (drawn_of (I.left input) None) (O.taken out) (E.taken err.old))
+        (point_of shell.old session.old (T.state tree.old) (seen_of (drawn_of (I.left input) (X.used engine.old)) (O.taken out) (E.taken err.old))
         (faults_of (I.faults input) (O.faults out) (E.faults err.old) (T.faults tree.old)))
         result.how
-        (point_of shell.new session.new (T.state tree.new) (seen_of (drawn_of (I.left result.input) None) (O.taken result.out) (E.taken err.new))
+        (point_of shell.new session.new (T.state tree.new) (seen_of (drawn_of (I.left result.input) (X.used engine.new)) (O.taken result.out) (E.taken err.new))
         (faults_of (I.faults result.input) (O.faults result.out) (E.faults err.new) (T.faults tree.new))) }
 {
     match read_inv(alloc, fields) {
         Ok(inv) => run_inv(
-            alloc, assigns, targets, name, &inv, shell, session, tree, input, out, err,
+            alloc, assigns, targets, name, &inv, shell, session, tree, input, out, err, gate,
+            engine,
         ),
         Err(fault) => run_fault(
-            alloc, assigns, targets, fault, shell, session, tree, input, out, err,
+            alloc, assigns, targets, fault, shell, session, tree, input, out, err, gate, engine,
         ),
     }
 }
 
-/// Runs an invocation in its redirections and behind its assignments. No utility is built.
-fn run_inv<T: Tree, I: Source + Send, O: Sink + Send, E: Sink>(
+/// Runs an invocation in its redirections and behind its assignments, where it is built and hasn't too many operands.
+fn run_inv<T: Tree, I: Source + Send, O: Sink + Send, E: Sink, G: Gate, X: Engine>(
     alloc: Global,
     assigns: &[(Text, Word)],
     targets: &[Target],
@@ -258,18 +283,43 @@ fn run_inv<T: Tree, I: Source + Send, O: Sink + Send, E: Sink>(
     input: I,
     out: O,
     err: &mut E,
+    gate: &G,
+    engine: &mut X,
 ) -> Played<I, O>
     requires sound { IsSound session.old (T.state tree.old) }
-    ensures { (words : List (List ℕ)) → Evaluates (λ expansions. checked expansions pages (map assign_tree assigns.now) targets.now (does name.now words (command_of inv.now)))
-        (point_of shell.old session.old (T.state tree.old) (seen_of (drawn_of (I.left input) None) (O.taken out) (E.taken err.old))
+    ensures { Evaluates (λ expansions. checked expansions pages (map assign_tree assigns.now) targets.now (does name.now (words_of inv.now) (command_of inv.now)))
+        (point_of shell.old session.old (T.state tree.old) (seen_of (drawn_of (I.left input) (X.used engine.old)) (O.taken out) (E.taken err.old))
         (faults_of (I.faults input) (O.faults out) (E.faults err.old) (T.faults tree.old)))
         result.how
-        (point_of shell.new session.new (T.state tree.new) (seen_of (drawn_of (I.left result.input) None) (O.taken result.out) (E.taken err.new))
+        (point_of shell.new session.new (T.state tree.new) (seen_of (drawn_of (I.left result.input) (X.used engine.new)) (O.taken result.out) (E.taken err.new))
         (faults_of (I.faults result.input) (O.faults result.out) (E.faults err.new) (T.faults tree.new))) }
 {
-    if !is_builtin(inv) {
+    if is_builtin(inv) {
+        return run_in_redirections(
+            alloc,
+            assigns,
+            targets,
+            Doing::Builtin(name, inv),
+            shell,
+            session,
+            tree,
+            input,
+            out,
+            err,
+            gate,
+            engine,
+        );
+    }
+    if !is_built(inv) {
         return Played {
             how: How::Gone(Flow::Refused(Refusal::NotBuilt)),
+            input,
+            out,
+        };
+    }
+    if MAX_OPERANDS < inv.operands().len() {
+        return Played {
+            how: How::Gone(Flow::Refused(Refusal::ArgsTooMany)),
             input,
             out,
         };
@@ -278,18 +328,20 @@ fn run_inv<T: Tree, I: Source + Send, O: Sink + Send, E: Sink>(
         alloc,
         assigns,
         targets,
-        Doing::Builtin(name, inv),
+        Doing::Utility(name, inv),
         shell,
         session,
         tree,
         input,
         out,
         err,
+        gate,
+        engine,
     )
 }
 
 /// Refuses what is no invocation; words that can't be used are told.
-fn run_fault<T: Tree, I: Source + Send, O: Sink + Send, E: Sink>(
+fn run_fault<T: Tree, I: Source + Send, O: Sink + Send, E: Sink, G: Gate, X: Engine>(
     alloc: Global,
     assigns: &[(Text, Word)],
     targets: &[Target],
@@ -300,14 +352,16 @@ fn run_fault<T: Tree, I: Source + Send, O: Sink + Send, E: Sink>(
     input: I,
     out: O,
     err: &mut E,
+    gate: &G,
+    engine: &mut X,
 ) -> Played<I, O>
     requires sound { IsSound session.old (T.state tree.old) }
     ensures { (name : List ℕ) (words : List (List ℕ)) (asked : Result Command ArgFault) → ((fault ≡ ArgFault.Memory → ⊥) → asked ≡ Err fault)
         → Evaluates (λ expansions. checked expansions pages (map assign_tree assigns.now) targets.now (asked_as name words asked))
-        (point_of shell.old session.old (T.state tree.old) (seen_of (drawn_of (I.left input) None) (O.taken out) (E.taken err.old))
+        (point_of shell.old session.old (T.state tree.old) (seen_of (drawn_of (I.left input) (X.used engine.old)) (O.taken out) (E.taken err.old))
         (faults_of (I.faults input) (O.faults out) (E.faults err.old) (T.faults tree.old)))
         result.how
-        (point_of shell.new session.new (T.state tree.new) (seen_of (drawn_of (I.left result.input) None) (O.taken result.out) (E.taken err.new))
+        (point_of shell.new session.new (T.state tree.new) (seen_of (drawn_of (I.left result.input) (X.used engine.new)) (O.taken result.out) (E.taken err.new))
         (faults_of (I.faults result.input) (O.faults result.out) (E.faults err.new) (T.faults tree.new))) }
 {
     match fault {
@@ -332,6 +386,8 @@ fn run_fault<T: Tree, I: Source + Send, O: Sink + Send, E: Sink>(
             input,
             out,
             err,
+            gate,
+            engine,
         ),
         ArgFault::Memory => Played {
             how: How::Memory,
@@ -342,7 +398,7 @@ fn run_fault<T: Tree, I: Source + Send, O: Sink + Send, E: Sink>(
 }
 
 /// Does something in its redirections, where no path of theirs is busy.
-fn run_in_redirections<T: Tree, I: Source + Send, O: Sink + Send, E: Sink>(
+fn run_in_redirections<T: Tree, I: Source + Send, O: Sink + Send, E: Sink, G: Gate, X: Engine>(
     alloc: Global,
     assigns: &[(Text, Word)],
     targets: &[Target],
@@ -353,42 +409,69 @@ fn run_in_redirections<T: Tree, I: Source + Send, O: Sink + Send, E: Sink>(
     input: I,
     out: O,
     err: &mut E,
+    gate: &G,
+    engine: &mut X,
 ) -> Played<I, O>
     requires own { can_be_done doing ≡ true }
     requires sound { IsSound session.old (T.state tree.old) }
-    ensures { Evaluates (λ expansions. opened (way_of_lem (asked_of doing.entry)) (λ state. []) targets.now
+    ensures { Evaluates (λ expansions. opened (way_of_lem (asked_of doing.entry)) (uses_own (asked_of doing.entry)) targets.now
         (assigned_for expansions (stays_of (asked_of doing.entry)) (map assign_tree assigns.now) (own_means (asked_of doing.entry))))
-        (point_of shell.old session.old (T.state tree.old) (seen_of (drawn_of (I.left input) None) (O.taken out) (E.taken err.old))
+        (point_of shell.old session.old (T.state tree.old) (seen_of (drawn_of (I.left input) (X.used engine.old)) (O.taken out) (E.taken err.old))
         (faults_of (I.faults input) (O.faults out) (E.faults err.old) (T.faults tree.old)))
         result.how
-        (point_of shell.new session.new (T.state tree.new) (seen_of (drawn_of (I.left result.input) None) (O.taken result.out) (E.taken err.new))
+        (point_of shell.new session.new (T.state tree.new) (seen_of (drawn_of (I.left result.input) (X.used engine.new)) (O.taken result.out) (E.taken err.new))
         (faults_of (I.faults result.input) (O.faults result.out) (E.faults err.new) (T.faults tree.new))) }
 {
     let way = way_of(doing);
+    let uses = match uses_of(alloc, doing, tree) {
+        Ok(uses) => uses,
+        Err(how) => return Played { how, input, out },
+    };
     let mut out = out;
     let before = match open(
-        alloc,
-        Vec::new(alloc),
-        targets,
-        way,
-        shell,
-        session,
-        tree,
-        &mut out,
-        err,
+        alloc, uses, targets, way, shell, session, tree, &mut out, err,
     ) {
         Ok(before) => before,
         Err(how) => return Played { how, input, out },
     };
     let Played { how, input, out } = run_doing(
-        alloc, assigns, doing, shell, session, tree, input, out, err,
+        alloc, assigns, doing, shell, session, tree, input, out, err, gate, engine,
     );
     close(before, session);
     Played { how, input, out }
 }
 
+/// Looks up the paths that a command uses as its operands.
+fn uses_of<T: Tree>(alloc: Global, doing: Doing<'_, '_>, tree: &mut T) -> Result<Vec<Use>, How>
+    requires own { can_be_done doing ≡ true }
+    ensures found { IfOk result (λ uses. FindsUses (T.state tree.old) uses.items (uses_own (asked_of doing.entry))) }
+    ensures state { T.state tree.new ≡ T.state tree.old }
+    ensures ok { OnOk result (T.faults tree.new ≡ T.faults tree.old) }
+    ensures err { IfErr result (λ how. LooksInVain how (T.state tree.old) (T.state tree.new) (T.faults tree.old) (T.faults tree.new)) }
+{
+    match doing {
+        Doing::Nothing | Doing::Builtin(_, _) | Doing::Misuse(_) => Ok(Vec::new(alloc)),
+        Doing::Utility(_, inv) => uses_of_operands(alloc, inv, tree),
+    }
+}
+
+/// Looks up the paths of a utility's operands.
+fn uses_of_operands<T: Tree>(alloc: Global, inv: &Inv, tree: &mut T) -> Result<Vec<Use>, How>
+    requires built { is_built_of inv.now ≡ true }
+    ensures found { IfOk result (λ uses. FindsUses (T.state tree.old) uses.items (uses_by_operands pages (called_by inv.now))) }
+    ensures state { T.state tree.new ≡ T.state tree.old }
+    ensures ok { OnOk result (T.faults tree.new ≡ T.faults tree.old) }
+    ensures err { IfErr result (λ how. LooksInVain how (T.state tree.old) (T.state tree.new) (T.faults tree.old) (T.faults tree.new)) }
+{
+    let mut uses = Vec::new(alloc);
+    match add_operands(alloc, inv.operands(), &mut uses, tree) {
+        Ok(()) => Ok(uses),
+        Err(error) => Err(how_of(error)),
+    }
+}
+
 /// Does something with the assignments before it, which stay or are undone behind it.
-fn run_doing<T: Tree, I: Source + Send, O: Sink + Send, E: Sink>(
+fn run_doing<T: Tree, I: Source + Send, O: Sink + Send, E: Sink, G: Gate, X: Engine>(
     alloc: Global,
     assigns: &[(Text, Word)],
     doing: Doing<'_, '_>,
@@ -398,21 +481,27 @@ fn run_doing<T: Tree, I: Source + Send, O: Sink + Send, E: Sink>(
     input: I,
     out: O,
     err: &mut E,
+    gate: &G,
+    engine: &mut X,
 ) -> Played<I, O>
     requires own { can_be_done doing ≡ true }
     requires sound { IsSound session.old (T.state tree.old) }
     ensures { Evaluates (λ expansions. assigned_for expansions (stays_of (asked_of doing.entry)) (map assign_tree assigns.now) (own_means (asked_of doing.entry)))
-        (point_of shell.old session.old (T.state tree.old) (seen_of (drawn_of (I.left input) None) (O.taken out) (E.taken err.old))
+        (point_of shell.old session.old (T.state tree.old) (seen_of (drawn_of (I.left input) (X.used engine.old)) (O.taken out) (E.taken err.old))
         (faults_of (I.faults input) (O.faults out) (E.faults err.old) (T.faults tree.old)))
         result.how
-        (point_of shell.new session.new (T.state tree.new) (seen_of (drawn_of (I.left result.input) None) (O.taken result.out) (E.taken err.new))
+        (point_of shell.new session.new (T.state tree.new) (seen_of (drawn_of (I.left result.input) (X.used engine.new)) (O.taken result.out) (E.taken err.new))
         (faults_of (I.faults result.input) (O.faults result.out) (E.faults err.new) (T.faults tree.new))) }
 {
     if stays(doing) {
-        return run_assigned(alloc, assigns, doing, shell, session, tree, input, out, err);
+        return run_assigned(
+            alloc, assigns, doing, shell, session, tree, input, out, err, gate, engine,
+        );
     }
     if let [] = assigns {
-        return run_assigned(alloc, assigns, doing, shell, session, tree, input, out, err);
+        return run_assigned(
+            alloc, assigns, doing, shell, session, tree, input, out, err, gate, engine,
+        );
     }
     let Ok(saved) = shell.variables.copy(alloc) else {
         return Played {
@@ -422,7 +511,7 @@ fn run_doing<T: Tree, I: Source + Send, O: Sink + Send, E: Sink>(
         };
     };
     let Played { how, input, out } = run_assigned(
-        alloc, assigns, doing, shell, session, tree, input, out, err,
+        alloc, assigns, doing, shell, session, tree, input, out, err, gate, engine,
     );
     let Ok(()) = restore(alloc, assigns, &saved, shell) else {
         return Played {
@@ -435,7 +524,7 @@ fn run_doing<T: Tree, I: Source + Send, O: Sink + Send, E: Sink>(
 }
 
 /// Does something behind its assignments.
-fn run_assigned<T: Tree, I: Source + Send, O: Sink + Send, E: Sink>(
+fn run_assigned<T: Tree, I: Source + Send, O: Sink + Send, E: Sink, G: Gate, X: Engine>(
     alloc: Global,
     assigns: &[(Text, Word)],
     doing: Doing<'_, '_>,
@@ -445,14 +534,16 @@ fn run_assigned<T: Tree, I: Source + Send, O: Sink + Send, E: Sink>(
     input: I,
     out: O,
     err: &mut E,
+    gate: &G,
+    engine: &mut X,
 ) -> Played<I, O>
     requires own { can_be_done doing ≡ true }
     requires sound { IsSound session.old (T.state tree.old) }
     ensures { Evaluates (λ expansions. assigning expansions (map assign_tree assigns.now) (own_means (asked_of doing.entry)))
-        (point_of shell.old session.old (T.state tree.old) (seen_of (drawn_of (I.left input) None) (O.taken out) (E.taken err.old))
+        (point_of shell.old session.old (T.state tree.old) (seen_of (drawn_of (I.left input) (X.used engine.old)) (O.taken out) (E.taken err.old))
         (faults_of (I.faults input) (O.faults out) (E.faults err.old) (T.faults tree.old)))
         result.how
-        (point_of shell.new session.new (T.state tree.new) (seen_of (drawn_of (I.left result.input) None) (O.taken result.out) (E.taken err.new))
+        (point_of shell.new session.new (T.state tree.new) (seen_of (drawn_of (I.left result.input) (X.used engine.new)) (O.taken result.out) (E.taken err.new))
         (faults_of (I.faults result.input) (O.faults result.out) (E.faults err.new) (T.faults tree.new))) }
 {
     let mut out = out;
@@ -477,5 +568,8 @@ fn run_assigned<T: Tree, I: Source + Send, O: Sink + Send, E: Sink>(
             let how = misuse(alloc, name, flow, shell, session, tree, &mut out, err);
             Played { how, input, out }
         }
+        Doing::Utility(name, inv) => run_utility(
+            alloc, name, inv, shell, session, tree, input, out, err, gate, engine,
+        ),
     }
 }

@@ -1,13 +1,16 @@
 //! Small scripts over objects in memory: what each writes and tells, and the status that it leaves.
 use super::*;
-use ps_fakes::{MemSink, MemSource, MemTree};
+use fl_core::InTurn;
+use ps_fakes::{MemSink, MemSource, MemTree, OpenGate};
 use ps_lines::Memory;
 use sh_lex::lex;
 use sh_parse::parse;
 use sh_tree::Script;
 use std::alloc::Global;
 use std::process::Abort;
+use std::sync::Wait;
 use std::test::Fail;
+use std::thread::Threads;
 
 /// What came of a script.
 #[derive(Drop)]
@@ -32,7 +35,12 @@ fn script_of(alloc: Global, text: &[u8]) -> Result<Option<Script>, Memory> {
 }
 
 /// Runs a script over an input, in a tree where `g` is a file, `d` a directory, and `f` missing.
-fn run(alloc: Global, text: &str, input: &str) -> Result<Option<Ran>, Memory> {
+fn run<H: Threads + Wait + Sync>(
+    _rt: &H,
+    alloc: Global,
+    text: &str,
+    input: &str,
+) -> Result<Option<Ran>, Memory> {
     let Some(script) = script_of(alloc, text.as_bytes())? else {
         return Ok(None);
     };
@@ -56,6 +64,8 @@ fn run(alloc: Global, text: &str, input: &str) -> Result<Option<Ran>, Memory> {
         MemSource::new(input, Vec::new(alloc)),
         MemSink::new(alloc, Vec::new(alloc)),
         &mut errors,
+        &OpenGate,
+        &mut InTurn::<H>::new(alloc),
     );
     let file = match tree.file(b"/w/f")? {
         Some(bytes) => Some(Vec::from_slice(alloc, bytes)?),
@@ -78,8 +88,8 @@ fn is_as(ran: &Ran, output: &str, errors: &str, status: u8) -> bool {
 }
 
 /// A script over an input writes and tells this, and leaves this status.
-fn expect(
-    rt: &impl Abort,
+fn expect<H: Abort + Threads + Wait + Sync>(
+    rt: &H,
     alloc: Global,
     text: &str,
     input: &str,
@@ -87,7 +97,7 @@ fn expect(
     errors: &str,
     status: u8,
 ) -> Result<(), Fail> {
-    let ran = run(alloc, text, input)?.expect(rt, text);
+    let ran = run(rt, alloc, text, input)?.expect(rt, text);
     let is_right = is_as(&ran, output, errors, status);
     assert!(rt;
         is_right,
@@ -318,7 +328,7 @@ fn redirections_are_done(rt: HostRuntime) -> Result<(), Fail> {
         ),
         ("test 1 2 2> f", "", "", 2, Some("test: bad usage\n")),
     ] {
-        let ran = run(rt.alloc(), text, "")?.expect(&rt, text);
+        let ran = run(&rt, rt.alloc(), text, "")?.expect(&rt, text);
         let is_right = is_as(&ran, output, errors, status);
         assert!(rt;
             is_right,
@@ -332,8 +342,59 @@ fn redirections_are_done(rt: HostRuntime) -> Result<(), Fail> {
 }
 
 #[test]
+fn utilities_are_run(rt: HostRuntime) -> Result<(), Fail> {
+    for (text, input, output, errors, status) in [
+        ("cat g", "", "1\n2\n", "", 0),
+        ("cat < g", "", "1\n2\n", "", 0),
+        ("echo b; cat - g -", "x\n", "b\nx\n1\n2\n", "", 0),
+        (
+            "cat g no g; echo $?",
+            "",
+            "1\n2\n1\n2\n1\n",
+            "cat: no: No such file or directory\n",
+            0,
+        ),
+        ("cat d", "", "", "cat: d: Is a directory\n", 1),
+        (
+            "sort g no; echo $?",
+            "",
+            "2\n",
+            "sort: no: No such file or directory\n",
+            0,
+        ),
+        ("cat g | tr 12 34 | sort -r", "", "4\n3\n", "", 0),
+        ("cut -c 1 g | wc -l", "", "2\n", "", 0),
+        ("tail -n +2 g > f; cat f", "", "2\n", "", 0),
+        ("x=$(cat g); echo \"$x\"", "", "1\n2\n", "", 0),
+        ("grep -F 2 g && echo yes", "", "2\nyes\n", "", 0),
+        ("grep -F x g; echo $?", "", "1\n", "", 0),
+        ("grep -F -s x no", "", "", "", 2),
+        ("read -r x; cat", "a\nb\nc\n", "b\nc\n", "", 0),
+        ("{ read -r x; cat; } < g", "", "2\n", "", 0),
+        ("cat; cat", "a\n", "a\n", "", 0),
+        ("echo a | cat g", "", "1\n2\n", "", 0),
+        ("cat > f; cat f f", "in\n", "in\nin\n", "", 0),
+        ("cat g >&2", "", "", "1\n2\n", 0),
+        (
+            "cat no g > /dev/null 2> f; cat f",
+            "",
+            "cat: no: No such file or directory\n",
+            "",
+            0,
+        ),
+        ("tr; echo $?", "", "2\n", "tr: bad usage\n", 0),
+    ] {
+        expect(&rt, rt.alloc(), text, input, output, errors, status)?;
+    }
+    Ok(())
+}
+
+#[test]
 fn busy_paths_are_refused(rt: HostRuntime) -> Result<(), Fail> {
     for text in [
+        "cat g > g",
+        "cat f > ./f",
+        "sort g - f >> f",
         "> f > f",
         "read -r x < g > g",
         "{ echo a > f; } > f",
@@ -341,7 +402,7 @@ fn busy_paths_are_refused(rt: HostRuntime) -> Result<(), Fail> {
         "while true; do echo a >> d/../f; done > f",
         "(echo a > f) 2> f",
     ] {
-        let ran = run(rt.alloc(), text, "")?.expect(&rt, text);
+        let ran = run(&rt, rt.alloc(), text, "")?.expect(&rt, text);
         assert!(rt;
             matches!(ran.how, How::Gone(Flow::Refused(Refusal::PathBusy(_)))),
             "{text}: {:?}",
@@ -356,11 +417,12 @@ fn busy_paths_are_refused(rt: HostRuntime) -> Result<(), Fail> {
 fn what_is_refused_ends_the_run(rt: HostRuntime) -> Result<(), Fail> {
     let texts = [
         "echo a; sleep 1; echo b",
-        "echo a; (cat f); echo b",
+        "echo a; (head g); echo b",
         "echo a; x=$(tr -Q a); echo b",
+        "echo a; i=0; x=; while test $i -lt 257; do x=\"$x g\"; i=$((i+1)); done; cat $x",
     ];
     for text in texts {
-        let ran = run(rt.alloc(), text, "")?.expect(&rt, text);
+        let ran = run(&rt, rt.alloc(), text, "")?.expect(&rt, text);
         assert_eq!(rt; ran.output.as_slice(), b"a\n".as_slice(), "{text}");
         assert!(rt; matches!(ran.how, How::Gone(Flow::Refused(_))), "{text}");
     }

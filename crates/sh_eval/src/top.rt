@@ -1,5 +1,5 @@
 //! The evaluation of a script.
-ghost use Rattle.std.specs.Prelude.{◌≡◌, Some, IfSome, None};
+ghost use Rattle.std.specs.Prelude.{◌≡◌, Some, IfSome};
 ghost use Rattle.ps_world.specs.Files.{NoWriterOut};
 ghost use Rattle.ps_world.specs.TreeState.{Balanced};
 ghost use Rattle.sh_tree.specs.Views.{script_tree};
@@ -14,7 +14,8 @@ use crate::lists::eval_list;
 use crate::outcomes::{How, Played};
 use crate::session::Session;
 use crate::shell::Shell;
-use ps_world::{Sink, Source, Tree};
+use fl_core::Engine;
+use ps_world::{Gate, Sink, Source, Tree};
 use sh_tree::Script;
 use std::alloc::Global;
 
@@ -25,7 +26,7 @@ use std::alloc::Global;
 /// fault is told only where the count of its object rose. The input and the output come back.
 ///
 /// No writer may be out as the call begins.
-pub fn run_script<T: Tree, I: Source + Send, O: Sink + Send, E: Sink>(
+pub fn run_script<T: Tree, I: Source + Send, O: Sink + Send, E: Sink, G: Gate, X: Engine>(
     alloc: Global,
     script: &Script,
     shell: &mut Shell,
@@ -33,10 +34,12 @@ pub fn run_script<T: Tree, I: Source + Send, O: Sink + Send, E: Sink>(
     input: I,
     out: O,
     err: &mut E,
+    gate: &G,
+    engine: &mut X,
 ) -> Played<I, O>
     requires whole { IfSome (T.state tree.old).held NoWriterOut }
     ensures meaning { (expansions : Expansions) → AreExpansions expansions → IfSome (T.state tree.old).held (λ files. IfSome (I.left input) (λ text.
-        Leaves (seen_of (drawn_of (I.left input) None) (O.taken out) (E.taken err.old)) result.how shell.new (T.state tree.new) (seen_of (drawn_of (I.left result.input) None) (O.taken result.out) (E.taken err.new))
+        Leaves (seen_of (drawn_of (I.left input) (X.used engine.old)) (O.taken out) (E.taken err.old)) result.how shell.new (T.state tree.new) (seen_of (drawn_of (I.left result.input) (X.used engine.new)) (O.taken result.out) (E.taken err.new))
         (script_means expansions pages (script_tree script.now) (begun shell.old (T.state tree.old).home files text)))) }
     ensures whole { IsGone result.how → IfSome (T.state tree.new).held NoWriterOut }
     ensures cause { HasCause result.how
@@ -46,7 +49,17 @@ pub fn run_script<T: Tree, I: Source + Send, O: Sink + Send, E: Sink>(
 {
     let mut session = Session::begun(alloc);
     match &script.body {
-        Some(list) => eval_list(list, shell, &mut session, tree, input, out, err),
+        Some(list) => eval_list(
+            list,
+            shell,
+            &mut session,
+            tree,
+            input,
+            out,
+            err,
+            gate,
+            engine,
+        ),
         None => Played {
             how: How::Gone(Flow::On),
             input,

@@ -16,7 +16,8 @@ use Rattle.sh_eval.specs.Targets.{Target}
 use Rattle.sh_eval.specs.Redirections.{Use, uses_of, where_free, in_redirections, holding}
 use Rattle.sh_eval.specs.Leading.{put_back}
 use Rattle.sh_eval.specs.Growth.{Adds}
-use Rattle.sh_eval.specs.Contract.{Point, point_of, Meaning, Evaluates}
+use Rattle.sh_eval.specs.declared.shell.Shell.{Shell}
+use Rattle.sh_eval.specs.Contract.{Seen, Point, point_of, faults_of, Meaning, Evaluates}
 
 -- what goes on where no path is busy that the operands of a command use, or its redirections
 abbrev pub freed : (State → List Use) → List Target → (State → Means) → Means
@@ -55,6 +56,12 @@ FindsUses tree uses found = (state : State) → tree.held ≡ Some state.world.f
 abbrev pub how_of : WorldErr → How
 how_of error.Failed = how.TreeFault
 how_of error.Memory = how.Memory
+
+-- it was over so before anything was done, whatever it was to do
+abbrev pub LooksInVain : How → TreeState → TreeState → ℕ → ℕ → Type 0
+LooksInVain came old new before now =
+    (means : Meaning) → ((expansions : Expansions) → Adds (means expansions)) → (shell : Shell) (session : Session) (seen : Seen) (input output errors : ℕ)
+    → Evaluates means (point_of shell session old seen (faults_of input output errors before)) came (point_of shell session new seen (faults_of input output errors now))
 
 -- the run is refused since this path is busy, where there is memory to say so
 pub data IsBusy (came : How) (text : List ℕ) : Type 0 where

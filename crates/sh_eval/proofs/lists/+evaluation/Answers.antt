@@ -17,6 +17,10 @@ use Rattle.sh_eval.proofs.ListSteps.{handed-back, read-back, items-followed, ite
 use Rattle.sh_eval.proofs.CommandSteps.{succeeds-so, fails-so, wanted-behind, subs-followed, subs-stopped, subs-done, substituted-empty, substituted-some, simple-followed, simple-stopped, if-stopped, if-taken, if-passed, if-else, if-none, if-body, compound-stopped, compound-opened, body-adds, while-body, until-body, while-turn, until-turn, turn-adds, turns-add, loop-adds, for-arguments, for-stopped, for-followed, for_behind, for-adds, for-fields, round-adds, rounds-add, round-of}
 use Rattle.sh_eval.proofs.LoopSteps.{over-here, left-here, again-here, done-here, in-loop, turns-over, turns-left, turns-again, turn-left, turn-held, turn-failed, body-noted}
 use Rattle.sh_eval.proofs.Steps.{failed-early, goes-gone, gone-so, no-fewer, wanted, sound-behind}
+use Rattle.sh_tree.specs.declared.commands.Command.TheShapes.{weighed-Command-If-0-at-2}
+use Rattle.sh_tree.specs.declared.commands.Command.TheViews.{size-Command, sized-If}
+use Rattle.sh_tree.proofs.commands.List.TheLaws.{the_size}
+use Rattle.sh_eval.proofs.MeasureLemmas.{element-falls, part-falls, second-weighs}
 use Rattle.sh_eval.proofs.lists.+evaluation.Goals as goal
 
 pub eval_items-loop-item-init : goal.eval_items-loop-item-init
@@ -191,11 +195,75 @@ eval_command-returns-in-Ok g t c =
 pub eval_command-returns-then-not-goes_on : goal.eval_command-returns-then-not-goes_on
 eval_command-returns-then-not-goes_on g t c = compound-stopped c.args.command.now _ c.in-Group.is _ _ _ (sym c.goes_on.ensures ∙ c.if-not-goes_on.true) c.eval_tail-how.ensures
 
-pub eval_if-eval_condition-how-requires-clause-sound : goal.eval_if-eval_condition-how-requires-clause-sound
-eval_if-eval_condition-how-requires-clause-sound g t c κs outlive = c.loop-branch.invariant.sound
+pub eval_if-eval_condition-how-requires : goal.eval_if-eval_condition-how-requires
+eval_if-eval_condition-how-requires g t c κs outlive = (
+  part-falls (λ branch. (weighed-Command-If-0-at-2).weight _ the_size branch)
+      c.as_slice-branch-items.result.now c.loop-branch.branch-index c.branch-item.result (size-Command c.args.command.now) t c.loop-branch-test.true c.branch-item.is
+      (let whole = ap size-Command c.in-If.is ∙ sized-If _ _ _ in rw (c.as_slice-branch-items.ensures.value, whole) (omega arith)) c.decreases,
+  (
+    outlive.0,
+    (
+      outlive.1.0,
+      (
+        outlive.1.1.0,
+        (
+          outlive.1.1.1.0,
+          (
+            outlive.1.1.1.1.0,
+            (
+              outlive.1.1.1.1.1.0,
+              (
+                outlive.1.1.1.1.1.1.0,
+                (
+                  outlive.1.1.1.1.1.1.1.0,
+                  (
+                    outlive.1.1.1.1.1.1.1.1,
+                    (search rules, (search rules, (search rules, (search rules, (search rules, (search rules, c.loop-branch.invariant.sound)))))),
+                  ),
+                ),
+              ),
+            ),
+          ),
+        ),
+      ),
+    ),
+  ),
+)
 
-pub eval_if-eval_branch-requires-clause-sound : goal.eval_if-eval_branch-requires-clause-sound
-eval_if-eval_branch-requires-clause-sound g t c κs outlive = sound-behind _ _ (c.eval_condition-how.ensures.keeps (goes-gone _ (sym c.goes_on.ensures ∙ c.if-not-goes_on.false))) c.loop-branch.invariant.sound
+pub eval_if-eval_branch-requires : goal.eval_if-eval_branch-requires
+eval_if-eval_branch-requires g t c κs outlive = (
+  part-falls (λ branch. (weighed-Command-If-0-at-2).weight _ the_size branch)
+      c.as_slice-branch-items.result.now c.loop-branch.branch-index c.branch-item.result (size-Command c.args.command.now) t c.loop-branch-test.true c.branch-item.is
+      (let whole = ap size-Command c.in-If.is ∙ sized-If _ _ _ in rw (c.as_slice-branch-items.ensures.value, whole) (omega arith)) c.decreases,
+  (
+    outlive.0,
+    (
+      outlive.1.0,
+      (
+        outlive.1.1.0,
+        (
+          outlive.1.1.1.0,
+          (
+            outlive.1.1.1.1.0,
+            (
+              outlive.1.1.1.1.1.0,
+              (
+                outlive.1.1.1.1.1.1.0,
+                (
+                  outlive.1.1.1.1.1.1.1.0,
+                  (
+                    outlive.1.1.1.1.1.1.1.1,
+                    (search rules, (search rules, (search rules, (search rules, (search rules, (search rules, sound-behind _ _ (c.eval_condition-how.ensures.keeps (goes-gone _ (sym c.goes_on.ensures ∙ c.if-not-goes_on.false))) c.loop-branch.invariant.sound)))))),
+                  ),
+                ),
+              ),
+            ),
+          ),
+        ),
+      ),
+    ),
+  ),
+)
 
 pub eval_if-eval_list-requires-clause-sound : goal.eval_if-eval_list-requires-clause-sound
 eval_if-eval_list-requires-clause-sound g t c κs outlive = c.loop-branch.invariant.sound
@@ -385,3 +453,36 @@ eval_rounds-loop-field-preserved g t c =
 
 pub eval_rounds-returns : goal.eval_rounds-returns
 eval_rounds-returns g t c = c.loop-field.invariant.rest _ _ (done-here (command_tree c.args.command.now) c.args.fields.now c.loop-field.field-index _ _ _ _ _ _ c.loop-field-test.false refl)
+
+pub eval_joined-eval_next-how-requires : goal.eval_joined-eval_next-how-requires
+eval_joined-eval_next-how-requires g t c κs outlive = (
+  element-falls _ c.args.rest.now c.loop-join.join-index c.loop-join-item.result _ t (second-weighs _ _ _) c.loop-join-test.true c.loop-join-item.is c.decreases,
+  (
+    outlive.0,
+    (
+      outlive.1.0,
+      (
+        outlive.1.1.0,
+        (
+          outlive.1.1.1.0,
+          (
+            outlive.1.1.1.1.0,
+            (
+              outlive.1.1.1.1.1.0,
+              (
+                outlive.1.1.1.1.1.1.0,
+                (
+                  outlive.1.1.1.1.1.1.1.0,
+                  (
+                    outlive.1.1.1.1.1.1.1.1,
+                    (search rules, (search rules, (search rules, (search rules, (search rules, (search rules, c.loop-join.invariant.sound)))))),
+                  ),
+                ),
+              ),
+            ),
+          ),
+        ),
+      ),
+    ),
+  ),
+)

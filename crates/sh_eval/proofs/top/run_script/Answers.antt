@@ -1,4 +1,3 @@
-use Rattle.std.proofs.Common.{None}
 use Rattle.sh_tree.specs.Views.{script_tree}
 use Rattle.sh_eval.specs.declared.flows.Flow.TheVariants as flow
 use Rattle.sh_eval.specs.declared.outcomes.How.TheVariants as how
@@ -22,5 +21,5 @@ returns-in-Some g c =
 
 pub returns-clause-meaning : goal.returns-clause-meaning
 returns-clause-meaning g c =
-    script-leaves (λ expansions. script_means expansions pages (script_tree c.args.script.now)) c.args.shell.now c.begun-session.result (g.T.Tree.state c.args.tree.now) (seen_of (drawn_of (g.I.Source.left c.args.input) None) (g.O.Sink.taken c.args.out) (g.E.Sink.taken c.args.err.now)) (faults_of (g.I.Source.faults c.args.input) (g.O.Sink.faults c.args.out) (g.E.Sink.faults c.args.err.now) (g.T.Tree.faults c.args.tree.now))
-    (how.Gone flow.On) (point_of c.args.shell.now c.begun-session.result (g.T.Tree.state c.args.tree.now) (seen_of (drawn_of (g.I.Source.left c.args.input) None) (g.O.Sink.taken c.args.out) (g.E.Sink.taken c.args.err.now)) (faults_of (g.I.Source.faults c.args.input) (g.O.Sink.faults c.args.out) (g.E.Sink.faults c.args.err.now) (g.T.Tree.faults c.args.tree.now))) c.begun-session.ensures (script-none c.args.script.now _ c.in-None.is)
+    script-leaves (λ expansions. script_means expansions pages (script_tree c.args.script.now)) c.args.shell.now c.begun-session.result (g.T.Tree.state c.args.tree.now) (seen_of (drawn_of (g.I.Source.left c.args.input) (g.X.Engine.used c.args.engine.now)) (g.O.Sink.taken c.args.out) (g.E.Sink.taken c.args.err.now)) (faults_of (g.I.Source.faults c.args.input) (g.O.Sink.faults c.args.out) (g.E.Sink.faults c.args.err.now) (g.T.Tree.faults c.args.tree.now))
+    (how.Gone flow.On) (point_of c.args.shell.now c.begun-session.result (g.T.Tree.state c.args.tree.now) (seen_of (drawn_of (g.I.Source.left c.args.input) (g.X.Engine.used c.args.engine.now)) (g.O.Sink.taken c.args.out) (g.E.Sink.taken c.args.err.now)) (faults_of (g.I.Source.faults c.args.input) (g.O.Sink.faults c.args.out) (g.E.Sink.faults c.args.err.now) (g.T.Tree.faults c.args.tree.now))) c.begun-session.ensures (script-none c.args.script.now _ c.in-None.is)

@@ -1,14 +1,4 @@
 pub mod LineLemmas
-pub mod FormLemmas
-pub mod StageLemmas
-pub mod CopyLemmas
-pub mod CatLemmas
+pub mod StartLemmas
 pub mod RunLemmas
-pub mod InvocationLemmas
-pub mod FirstNetLemmas
-pub mod FirstValidLemmas
-pub mod FirstFlowLemmas
-pub mod FirstGraphLemmas
-pub mod FirstMakingLemmas
-pub mod FirstEndsLemmas
-pub mod CountingLemmas
+pub mod TopLemmas

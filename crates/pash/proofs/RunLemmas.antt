@@ -1,166 +1,390 @@
--- Answers of one line.
-use Rattle.std.proofs.Common.{◌≡◌, ℕ, ◌+◌, ◌<◌, ◌≤◌, List, [], ◌++◌, length, Option, Some, None, Result, Ok, Err, OnErr, IfOk, MatchResult, sym, ap, refl, subst, ◌∙◌, arith, inl, inr}
-use Rattle.std.specs.Option.{IfSome}
-use Rattle.std.proofs.lemmas.Bool.{cases_lt}
-use Rattle.std.proofs.lemmas.List.{append-nil, length-append}
-use Rattle.ps_world.specs.Files.{Files, bytes_at}
+-- Runs of commands, from what their parts say.
+use Rattle.std.proofs.Common.{◌≡◌, ℕ, ◌++◌, List, [], Option, Some, None, Result, Ok, Err, OnOk, OnErr, IfOk}
+use Rattle.std.proofs.Common.{refl, sym, ap, subst, ◌∙◌, append-nil, arith, inl, inr}
+use Rattle.std.specs.Option.{IfSome, MatchOption}
+use Rattle.ps_world.specs.Files.{Files, NoWriterOut}
 use Rattle.ps_world.specs.Paths.{Components}
-use Rattle.ps_world.specs.TreeState.{TreeState, OnlyLent}
-use Rattle.ps_world.specs.Told.{then_bytes, GrewByPrefix, IsFront}
-use Rattle.ps_world.proofs.ToldLemmas.{then_bytes-nil, grew_by_nothing}
-use Rattle.sh_lex.specs.declared.lexing.TheConstants.{MAX_SCRIPT}
-use Rattle.sh_lex.specs.declared.refusals.Static.{Static}
-use Rattle.sh_lex.specs.declared.refusals.Static.TheVariants.{ScriptTooLong}
-use Rattle.sh_parse.specs.Outcomes.{AreOutcomes, Outcome as TextOutcome, HasOutcome, Readings, refused}
-use Rattle.sh_parse.specs.declared.scripts.ParseRefusal.{ParseRefusal}
-use Rattle.sh_parse.specs.declared.scripts.ParseRefusal.TheVariants.{Refused}
-use Rattle.pash.specs.Readings.{AreReadAlike, IsUnread}
-use Rattle.pash.proofs.CatLemmas.{moved}
-use Rattle.pash.specs.Meaning.{Reply, only_line, reply_of_text, reply_of_outcome}
+use Rattle.ps_world.specs.Told.{then_bytes, GrewByPrefix}
+use Rattle.ps_world.specs.TreeState.{TreeState, Balanced, OnlyLent}
+use Rattle.ps_world.proofs.ToldLemmas.{grew_by_front, grew_by_more, grew_by_nothing, grew_by_whole, then_bytes-append, then_bytes-nil}
+use Rattle.ps_world.proofs.TreeStateLemmas.{balanced-more, balanced-none, balanced-only_lent}
+use Rattle.sh_tree.specs.Views.{script_tree}
+use Rattle.sh_tree.specs.declared.commands.Script.{Script}
+use Rattle.sh_parse.specs.Outcomes.{AreOutcomes, Readings}
+use Rattle.sh_expand.specs.Outcomes.{AreExpansions, Expansions}
+use Rattle.sh_eval.specs.Contract.{Drawn, Faults, HasCause, IsGone, Seen, faults_of, seen_of, then_ran}
+use Rattle.sh_eval.specs.Meaning.{begun, script_means}
+use Rattle.sh_eval.specs.Scripts as scripts
+use Rattle.sh_eval.specs.Scripts.{Stopped}
+use Rattle.sh_eval.specs.States.{Ends}
+use Rattle.sh_eval.specs.Table.{pages}
+use Rattle.sh_eval.specs.declared.flows.Flow.{Flow}
+use Rattle.sh_eval.specs.declared.outcomes.How.{How}
+use Rattle.sh_eval.specs.declared.outcomes.How.TheVariants as how
+use Rattle.sh_eval.specs.declared.shell.Shell.{Shell}
+use Rattle.pash.specs.Answers.{IsOfRun, IsOfScript, IsWithoutScript, line_of, outcome_by, refusing}
+use Rattle.pash.specs.Meaning.{Meaning, outside_of, over, run_of, told}
+use Rattle.pash.specs.Runs.{Comes, DrawsNothing, Leaves, Means, OnlyTold, Point, RunsAs, Stops, TellsOnly, came_of, point_of}
+use Rattle.pash.specs.Starts.{EndsWith, IfAnswered, IsAnswered, IsOfCommand, RunsNothing, Start, answered, as_start, runs, start_of}
+use Rattle.pash.specs.Words.{RunCommand}
+use Rattle.pash.specs.declared.starts.Start.{Start as ReadStart}
+use Rattle.pash.specs.declared.starts.Start.TheVariants as read
 use Rattle.pash.specs.declared.answers.Outcome.{Outcome}
 use Rattle.pash.specs.declared.answers.Stop.{Stop}
-use Rattle.pash.specs.Runs.{GrewByPrefixes, Meets}
+use Rattle.pash.specs.declared.answers.Stop.TheVariants as stop
 use Rattle.pash.specs.declared.answers.Why.{Why}
+use Rattle.pash.specs.declared.answers.Why.TheVariants as why
 
--- a line was told, and nothing else
-pub meets_line : (out err err' : Option (List ℕ)) (line : List ℕ) (answer : Why) → err' ≡ then_bytes err line → Meets (only_line line answer) 2 answer out out err err'
-meets_line out err err' line answer grew = record { status = refl; answer = refl; grew = record { out = sym (then_bytes-nil out); err = grew } }
+-- what comes of one thing where files and input are told comes of another
+pub where_told : (First Next : Files → List ℕ → Type 0) (held : Option Files) (left : Option (List ℕ))
+    → ((files : Files) (text : List ℕ) → First files text → Next files text)
+    → IfSome held (λ files. IfSome left (λ text. First files text)) → IfSome held (λ files. IfSome left (λ text. Next files text))
+where_told First Next None left step is = tt
+where_told First Next (Some files) None step is = tt
+where_told First Next (Some files) (Some text) step is = step files text is
 
--- a line was cut short, and nothing else was told
-pub line_cut_short : (out err err' : Option (List ℕ)) (line : List ℕ) → GrewByPrefix err err' line → GrewByPrefixes out out err err' [] line
-line_cut_short out err err' line grew = record { out = grew_by_nothing out []; err = grew }
+-- it holds where they are told
+told_anyway : (Holds : Files → List ℕ → Type 0) (held : Option Files) (left : Option (List ℕ))
+    → ((files : Files) (text : List ℕ) → held ≡ Some files → left ≡ Some text → Holds files text)
+    → IfSome held (λ files. IfSome left (λ text. Holds files text))
+told_anyway Holds None left holds = tt
+told_anyway Holds (Some files) None holds = tt
+told_anyway Holds (Some files) (Some text) holds = holds files text refl refl
 
--- a line is told whatever the files are
-pub told_anyway : (result : Result Outcome Stop) (held : Option Files) (out err err' : Option (List ℕ)) (reply : Reply)
-    → IfOk result (λ outcome. (same : Option (List ℕ)) → Meets reply outcome.status outcome.why same same err err')
-    → IfOk result (λ outcome. IfSome held (λ files. Meets reply outcome.status outcome.why out out err err'))
-told_anyway (Ok outcome) None out err err' reply told = tt
-told_anyway (Ok outcome) (Some files) out err err' reply told = told out
-told_anyway (Err stopped) held out err err' reply told = tt
+ran-none : (used : Option (List (List (List ℕ)))) → used ≡ then_ran used []
+ran-none None = refl
+ran-none (Some used) = ap Some (sym (append-nil used))
 
-pub cut_anyway : (result : Result Outcome Stop) (held : Option Files) (out err err' : Option (List ℕ)) (line : List ℕ)
-    → OnErr result ((same : Option (List ℕ)) → GrewByPrefixes same same err err' [] line)
-    → OnErr result (IfSome held (λ files. GrewByPrefixes out out err err' [] line))
-cut_anyway (Ok outcome) held out err err' line cut = tt
-cut_anyway (Err stopped) None out err err' line cut = tt
-cut_anyway (Err stopped) (Some files) out err err' line cut = cut out
+-- nothing stops where there is an answer
+stops-not : (faults : Faults) (outcome : Outcome) → Stops faults faults (Ok outcome)
+stops-not faults outcome = record { ok = refl; read = λ never. cc; write = λ never. cc; tree = λ never. cc }
 
--- whatever texts are read as, a line is told
-pub told_unread : (result : Result Outcome Stop) (held : Option Files) (out err err' : Option (List ℕ)) (reply : Reply)
-    → IfOk result (λ outcome. (same : Option (List ℕ)) → Meets reply outcome.status outcome.why same same err err')
-    → IfOk result (λ outcome. (reads : Readings) → AreOutcomes reads → IfSome held (λ files. Meets reply outcome.status outcome.why out out err err'))
-told_unread (Ok outcome) held out err err' reply told = λ reads are. told_anyway (Ok outcome) held out err err' reply told
-told_unread (Err stopped) held out err err' reply told = tt
+-- NOTHING RUNS: the answer is left as it is
+pub run-answered : (answer : Why) (at : Point) → IfSome at.tree.held NoWriterOut → RunsAs (λ reads. run_of (answered answer)) at (Ok (refusing answer)) at
+run-answered answer at whole =
+    record {
+      comes = λ reads are expansions exps.
+          told_anyway (λ files text. Leaves (run_of (answered answer) expansions (outside_of at.tree.home files text))
+          (refusing answer) at.tree.held at.seen at.seen)
+          at.tree.held at.seen.drawn.left (λ files text held left.
+          record {
+            outcome_is = refl;
+            output = sym (then_bytes-nil at.seen.taken);
+            errors = sym (then_bytes-nil at.seen.errors);
+            files = held;
+            input = left;
+            used = ran-none at.seen.drawn.used;
+          });
+      whole = whole;
+      cause = stops-not at.faults (refusing answer);
+      lent = balanced-none at.tree;
+    }
 
-pub cut_unread : (result : Result Outcome Stop) (held : Option Files) (out err err' : Option (List ℕ)) (line : List ℕ)
-    → OnErr result ((same : Option (List ℕ)) → GrewByPrefixes same same err err' [] line)
-    → OnErr result ((reads : Readings) → AreOutcomes reads → IfSome held (λ files. GrewByPrefixes out out err err' [] line))
-cut_unread (Ok outcome) held out err err' line cut = tt
-cut_unread (Err stopped) held out err err' line cut = λ reads are. cut_anyway (Err stopped) held out err err' line cut
+-- A SCRIPT RUNS: what it leaves is its answer with the status, and the world
+module _ (old new : Point) (status : ℕ) (own : Shell) (same : status ≡ own.status) where
+  left-so : (came : Flow) (meant : Ends) → scripts.Left old.seen came own new.tree new.seen meant
+      → Leaves (over meant) (outcome_by came status) new.tree.held old.seen new.seen
+  left-so came meant left =
+      record {
+        outcome_is = ap (λ (flow : Flow). outcome_by flow status) left.flow ∙ ap (outcome_by meant.flow) (same ∙ ap (λ (it : Shell). it.status) left.shell);
+        output = left.output;
+        errors = left.errors;
+        files = left.files;
+        input = left.input;
+        used = left.used;
+      }
 
--- a text that is too long is told so
-too_long : (reads : Readings) → AreOutcomes reads → (text : List ℕ) → MAX_SCRIPT < length text → refused ScriptTooLong ≡ reads text
-too_long reads are text long = are.only text (refused ScriptTooLong) (inl long)
+  comes-so : (came : How) (meant : Ends) → scripts.Leaves old.seen came own new.tree new.seen meant
+      → Comes (over meant) (came_of came status) new.tree.held old.seen new.seen
+  comes-so (how.Gone flow) meant left = left-so flow meant left
+  comes-so how.ReadFault meant left = left
+  comes-so how.WriteFault meant left = left
+  comes-so how.TreeFault meant left = left
+  comes-so how.Memory meant left = left
 
-front_cases : (whole text rest : List ℕ) → whole ≡ text ++ rest → length text ≤ MAX_SCRIPT + 1 → (length text < MAX_SCRIPT + 1 → Some rest ≡ Some [])
-    → AreReadAlike text whole
-front_cases whole text rest is within ended =
-    elim (cases_lt (length text) (MAX_SCRIPT + 1)) [
-      | inl short ↦
-          let nothing : rest ≡ [] = (let end = ended short in cc) in
-          let same : text ≡ whole = sym (append-nil text) ∙ ap (λ (more : List ℕ). text ++ more) (sym nothing) ∙ sym is in
-          record { same = λ reads are. ap reads same }
-      | inr long ↦
-          let size : length whole ≡ length text + length rest = ap length is ∙ length-append text rest in
-          record { same = λ reads are. sym (too_long reads are text (omega arith)) ∙ too_long reads are whole (omega arith) }
-    ]
+  whole-so : (came : How) → (IsGone came → IfSome new.tree.held NoWriterOut) → OnOk (came_of came status) (IfSome new.tree.held NoWriterOut)
+  whole-so (how.Gone flow) whole = whole tt
+  whole-so how.ReadFault whole = tt
+  whole-so how.WriteFault whole = tt
+  whole-so how.TreeFault whole = tt
+  whole-so how.Memory whole = tt
 
-front_of : (whole : List ℕ) (left' : Option (List ℕ)) (text : List ℕ) → IsFront (Some whole) left' text (MAX_SCRIPT + 1) → AreReadAlike text whole
-front_of whole None text front = let never = front.before in cc
-front_of whole (Some rest) text front = front_cases whole text rest (let is = front.before in cc) front.within front.ended
+  stops-so : (came : How) → HasCause came old.faults new.faults → Stops old.faults new.faults (came_of came status)
+  stops-so (how.Gone flow) cause = record { ok = cause; read = λ never. cc; write = λ never. cc; tree = λ never. cc }
+  stops-so how.ReadFault cause = record { ok = tt; read = λ is. cause; write = λ is. cc; tree = λ is. cc }
+  stops-so how.WriteFault cause = record { ok = tt; read = λ is. cc; write = λ is. cause; tree = λ is. cc }
+  stops-so how.TreeFault cause = record { ok = tt; read = λ is. cc; write = λ is. cc; tree = λ is. cause }
+  stops-so how.Memory cause = record { ok = tt; read = λ is. cc; write = λ is. cc; tree = λ is. cc }
 
--- the front of a script that was loaded is read as the script is
-pub front_is_read_alike : (held : Option Files) (path : Components) (left left' : Option (List ℕ)) (text : List ℕ)
-    → IfSome held (λ files. left ≡ Some (bytes_at files path)) → IsFront left left' text (MAX_SCRIPT + 1)
-    → IfSome held (λ files. AreReadAlike text (bytes_at files path))
-front_is_read_alike None path left left' text is front = tt
-front_is_read_alike (Some files) path left left' text is front =
-    front_of (bytes_at files path) left' text (subst (λ (before : Option (List ℕ)). IsFront before left' text (MAX_SCRIPT + 1)) is front)
+  pub run-script : (start : ReadStart) (script : Script) (shell : Shell) → start ≡ read.Script script shell → (came : How) (result : Result Outcome Stop)
+      → result ≡ came_of came status
+      → ((expansions : Expansions) → AreExpansions expansions → IfSome old.tree.held (λ files. IfSome old.seen.drawn.left (λ text.
+      scripts.Leaves old.seen came own new.tree new.seen (script_means expansions pages (script_tree script) (begun shell old.tree.home files text)))))
+      → (IsGone came → IfSome new.tree.held NoWriterOut) → HasCause came old.faults new.faults → Balanced old.tree new.tree
+      → RunsAs (λ reads. run_of (as_start start)) old result new
+  run-script start script shell start_is came result is meaning whole cause lent =
+      subst (λ (it : ReadStart). RunsAs (λ reads. run_of (as_start it)) old result new) (sym start_is)
+      (subst (λ (it : Result Outcome Stop). RunsAs (λ reads. run_of (runs (script_tree script) shell)) old it new) (sym is) (record {
+        comes = λ reads are expansions exps.
+            where_told (λ files text. scripts.Leaves old.seen came own new.tree new.seen
+            (script_means expansions pages (script_tree script) (begun shell old.tree.home files text)))
+            (λ files text. Comes (run_of (runs (script_tree script) shell) expansions (outside_of old.tree.home files text))
+            (came_of came status) new.tree.held old.seen new.seen)
+            old.tree.held old.seen.drawn.left
+            (λ files text left. comes-so came (script_means expansions pages (script_tree script) (begun shell old.tree.home files text)) left)
+            (meaning expansions exps);
+        whole = whole-so came whole;
+        cause = stops-so came cause;
+        lent = lent;
+      }))
 
--- a text that wasn't read, and not for want of memory, is refused so
-pub has_refusal : (text : List ℕ) (unread : ParseRefusal) (cause : Static) → unread ≡ Refused cause → IsUnread text unread → HasOutcome text (refused cause)
-has_refusal text unread cause is has = subst (λ (one : ParseRefusal). IsUnread text one) is has
+-- THE LINE IS TOLD behind a run, and all is sent on
+module _ (means : Means) (old : Point) (outcome : Outcome) (tree : TreeState) (drawn : Drawn) (taken errors taken' errors' : Option (List ℕ))
+    (same : taken' ≡ taken) where
+  leaves-told : (meaning : Meaning) (other : Outcome) → other ≡ outcome → errors' ≡ then_bytes errors (line_of outcome.why)
+      → Leaves meaning outcome tree.held old.seen (seen_of drawn taken errors) → Leaves (told meaning) other tree.held old.seen (seen_of drawn taken' errors')
+  leaves-told meaning other is grew left =
+      record {
+        outcome_is = is ∙ left.outcome_is;
+        output = same ∙ left.output;
+        errors = grew ∙ ap (λ (told_so : Option (List ℕ)). then_bytes told_so (line_of outcome.why)) left.errors
+            ∙ then_bytes-append old.seen.errors meaning.world.errors (line_of outcome.why)
+            ∙ ap (λ (one : Outcome). then_bytes old.seen.errors (meaning.world.errors ++ line_of one.why)) left.outcome_is;
+        files = left.files;
+        input = left.input;
+        used = left.used;
+      }
 
--- what was told by the outcome of a text was told of the text
-module _ (out out' err err' : Option (List ℕ)) (text : List ℕ) (read : TextOutcome) (is : HasOutcome text read) (home : Components) where
-  pub ran_as_read : (result : Result Outcome Stop) (held : Option Files)
-      → IfOk result (λ outcome. IfSome held (λ files. Meets (reply_of_outcome files home read) outcome.status outcome.why out out' err err'))
-      → IfOk result (λ outcome. (reads : Readings) → AreOutcomes reads → IfSome held (λ files. Meets (reply_of_text reads files home text) outcome.status outcome.why out out' err err'))
-  ran_as_read (Ok outcome) None ran = λ reads are. tt
-  ran_as_read (Ok outcome) (Some files) ran =
-      λ reads are. subst (λ (one : TextOutcome). Meets (reply_of_outcome files home one) outcome.status outcome.why out out' err err') (are.only text read is) ran
-  ran_as_read (Err stopped) held ran = tt
+  stopped-telling : (meaning : Meaning) → GrewByPrefix errors errors' (line_of outcome.why)
+      → Leaves meaning outcome tree.held old.seen (seen_of drawn taken errors) → Stopped old.seen (seen_of drawn taken' errors') (told meaning).world
+  stopped-telling meaning grew left =
+      record {
+        output = grew_by_whole old.seen.taken taken' meaning.world.output (same ∙ left.output);
+        errors = grew_by_more old.seen.errors errors errors' meaning.world.errors (line_of meaning.outcome.why) left.errors
+            (subst (λ (one : Outcome). GrewByPrefix errors errors' (line_of one.why)) left.outcome_is grew);
+      }
 
-  pub cut_as_read : (result : Result Outcome Stop) (held : Option Files)
-      → OnErr result (IfSome held (λ files. GrewByPrefixes out out' err err' (reply_of_outcome files home read).output (reply_of_outcome files home read).errors))
-      → OnErr result ((reads : Readings) → AreOutcomes reads → IfSome held (λ files. GrewByPrefixes out out' err err' (reply_of_text reads files home text).output (reply_of_text reads files home text).errors))
-  cut_as_read (Ok outcome) held cut = tt
-  cut_as_read (Err stopped) None cut = λ reads are. tt
-  cut_as_read (Err stopped) (Some files) cut =
-      λ reads are. subst (λ (one : TextOutcome). GrewByPrefixes out out' err err' (reply_of_outcome files home one).output (reply_of_outcome files home one).errors) (are.only text read is) cut
+  comes-told : (meaning : Meaning) (result : Result Outcome Stop) → IfOk result (λ other. other ≡ outcome)
+      → OnOk result (errors' ≡ then_bytes errors (line_of outcome.why)) → OnErr result (GrewByPrefix errors errors' (line_of outcome.why))
+      → Leaves meaning outcome tree.held old.seen (seen_of drawn taken errors) → Comes (told meaning) result tree.held old.seen (seen_of drawn taken' errors')
+  comes-told meaning (Ok other) is grew part left = leaves-told meaning other is grew left
+  comes-told meaning (Err stopped) is grew part left = stopped-telling meaning part left
 
-module _ (out out' err err' : Option (List ℕ)) (text : List ℕ) (path : Components) where
-  ran_of : (result : Result Outcome Stop) (home : Components) (held : Option Files)
-      → IfSome held (λ files. AreReadAlike text (bytes_at files path))
-      → IfOk result (λ outcome. (reads : Readings) → AreOutcomes reads → IfSome held (λ files. Meets (reply_of_text reads files home text) outcome.status outcome.why out out' err err'))
-      → IfOk result (λ outcome. (reads : Readings) → AreOutcomes reads → IfSome held (λ files. Meets (reply_of_text reads files home (bytes_at files path)) outcome.status outcome.why out out' err err'))
-  ran_of (Ok outcome) home None alike ran = λ reads are. tt
-  ran_of (Ok outcome) home (Some files) alike ran =
-      λ reads are. subst (λ (one : TextOutcome). Meets (reply_of_outcome files home one) outcome.status outcome.why out out' err err') (alike.same reads are) (ran reads are)
-  ran_of (Err stopped) home held alike ran = tt
+  module _ (input tree_faults output said output' said' : ℕ) where
+    stops-told : (result : Result Outcome Stop) → faults_of input output said tree_faults ≡ old.faults
+        → Stops (faults_of 0 output said 0) (faults_of 0 output' said' 0) result → Stops old.faults (faults_of input output' said' tree_faults) result
+    stops-told result calm stops =
+        subst (λ (it : Faults). Stops it (faults_of input output' said' tree_faults) result) calm (by_result result stops)
+      where
+        by_result : (it : Result Outcome Stop) → Stops (faults_of 0 output said 0) (faults_of 0 output' said' 0) it
+            → Stops (faults_of input output said tree_faults) (faults_of input output' said' tree_faults) it
+        by_result (Ok other) them =
+            record {
+              ok = ap (λ (it : Faults). faults_of input it.output it.errors tree_faults) them.ok;
+              read = λ never. cc;
+              write = λ never. cc;
+              tree = λ never. cc;
+            }
+        by_result (Err stopped) them =
+            record {
+              ok = tt;
+              read = λ is. (let never = them.read is in omega arith);
+              write = them.write;
+              tree = λ is. (let never = them.tree is in omega arith);
+            }
 
-  cut_of : (result : Result Outcome Stop) (home : Components) (held : Option Files)
-      → IfSome held (λ files. AreReadAlike text (bytes_at files path))
-      → OnErr result ((reads : Readings) → AreOutcomes reads → IfSome held (λ files. GrewByPrefixes out out' err err' (reply_of_text reads files home text).output (reply_of_text reads files home text).errors))
-      → OnErr result ((reads : Readings) → AreOutcomes reads → IfSome held (λ files. GrewByPrefixes out out' err err' (reply_of_text reads files home (bytes_at files path)).output (reply_of_text reads files home (bytes_at files path)).errors))
-  cut_of (Ok outcome) home held alike cut = tt
-  cut_of (Err stopped) home None alike cut = λ reads are. tt
-  cut_of (Err stopped) home (Some files) alike cut =
-      λ reads are. subst (λ (one : TextOutcome). GrewByPrefixes out out' err err' (reply_of_outcome files home one).output (reply_of_outcome files home one).errors) (alike.same reads are) (cut reads are)
+    pub run-told : (came result : Result Outcome Stop) → came ≡ Ok outcome
+        → RunsAs means old came (point_of tree (seen_of drawn taken errors) (faults_of input output said tree_faults))
+        → IfOk result (λ other. other ≡ outcome) → OnOk result (errors' ≡ then_bytes errors (line_of outcome.why))
+        → OnErr result (GrewByPrefix errors errors' (line_of outcome.why)) → Stops (faults_of 0 output said 0) (faults_of 0 output' said' 0) result
+        → RunsAs (λ reads expansions outside. told (means reads expansions outside)) old result
+        (point_of tree (seen_of drawn taken' errors') (faults_of input output' said' tree_faults))
+    run-told came result came_is came_so is grew part stops =
+        let ran : RunsAs means old (Ok outcome) (point_of tree (seen_of drawn taken errors) (faults_of input output said tree_faults)) =
+        subst (λ (it : Result Outcome Stop). RunsAs means old it
+        (point_of tree (seen_of drawn taken errors) (faults_of input output said tree_faults))) came_is came_so in
+        record {
+          comes = λ reads are expansions exps.
+              where_told (λ files text. Leaves (means reads expansions (outside_of old.tree.home files text)) outcome tree.held old.seen
+              (seen_of drawn taken errors))
+              (λ files text. Comes (told (means reads expansions (outside_of old.tree.home files text))) result tree.held old.seen
+              (seen_of drawn taken' errors'))
+              old.tree.held old.seen.drawn.left
+              (λ files text left. comes-told (means reads expansions (outside_of old.tree.home files text)) result is grew part left)
+              (ran.comes reads are expansions exps);
+          whole = whole-told result ran.whole;
+          cause = stops-told result ran.cause.ok stops;
+          lent = ran.lent;
+        }
+      where
+        whole-told : (it : Result Outcome Stop) → IfSome tree.held NoWriterOut → OnOk it (IfSome tree.held NoWriterOut)
+        whole-told (Ok other) whole = whole
+        whole-told (Err stopped) whole = tt
 
-  ok_moved : (result : Result Outcome Stop) (P : Readings → Outcome → Files → Components → Type 0) (held held' : Option Files) (home home' : Components)
-      → held' ≡ held → home' ≡ home → IfOk result (λ outcome. (reads : Readings) → AreOutcomes reads → IfSome held' (λ files. P reads outcome files home'))
-      → IfOk result (λ outcome. (reads : Readings) → AreOutcomes reads → IfSome held (λ files. P reads outcome files home))
-  ok_moved (Ok outcome) P held held' home home' same_held same_home holds = λ reads are. moved (P reads outcome) held held' home home' same_held same_home (holds reads are)
-  ok_moved (Err stopped) P held held' home home' same_held same_home holds = tt
+-- a run that has stopped tells no line
+pub run-untold : (means : Means) (old new : Point) (stopped : Stop) (came : Result Outcome Stop) → came ≡ Err stopped → RunsAs means old came new
+    → RunsAs (λ reads expansions outside. told (means reads expansions outside)) old (Err stopped) new
+run-untold means old new stopped came came_is came_so =
+    let ran : RunsAs means old (Err stopped) new = subst (λ (it : Result Outcome Stop). RunsAs means old it new) came_is came_so in
+    record {
+      comes = λ reads are expansions exps.
+          where_told (λ files text. Stopped old.seen new.seen (means reads expansions (outside_of old.tree.home files text)).world)
+          (λ files text. Stopped old.seen new.seen (told (means reads expansions (outside_of old.tree.home files text))).world)
+          old.tree.held old.seen.drawn.left
+          (λ files text behind.
+          (let run = means reads expansions (outside_of old.tree.home files text) in
+          record { output = behind.output; errors = grew_by_front old.seen.errors new.seen.errors run.world.errors (line_of run.outcome.why) behind.errors }))
+          (ran.comes reads are expansions exps);
+      whole = tt;
+      cause = ran.cause;
+      lent = ran.lent;
+    }
 
-  err_moved : (result : Result Outcome Stop) (P : Readings → Files → Components → Type 0) (held held' : Option Files) (home home' : Components)
-      → held' ≡ held → home' ≡ home → OnErr result ((reads : Readings) → AreOutcomes reads → IfSome held' (λ files. P reads files home'))
-      → OnErr result ((reads : Readings) → AreOutcomes reads → IfSome held (λ files. P reads files home))
-  err_moved (Ok outcome) P held held' home home' same_held same_home holds = tt
-  err_moved (Err stopped) P held held' home home' same_held same_home holds = λ reads are. moved (P reads) held held' home home' same_held same_home (holds reads are)
+-- A COMMAND BEGINS: why its beginning stopped, or that no count rose
+module _ {Began : Type 0} (input output errors before now : ℕ) where
+  stops-tree : (result : Result Began Stop) → Stops (faults_of 0 0 0 before) (faults_of 0 0 0 now) result → Stops (faults_of input output errors before)
+      (faults_of input output errors now) result
+  stops-tree (Ok start) stops =
+      record {
+        ok = ap (λ (it : Faults). faults_of input output errors it.tree) stops.ok;
+        read = λ never. cc;
+        write = λ never. cc;
+        tree = λ never. cc;
+      }
+  stops-tree (Err stopped) stops =
+      record {
+        ok = tt;
+        read = λ is. (let never = stops.read is in omega arith);
+        write = λ is. (let none : ⊥ = (elim (stops.write is) [ inl never ↦ omega arith | inr never ↦ omega arith ]) in absurd none);
+        tree = stops.tree;
+      }
 
-  -- a script that was read and then run was run as it stands in its file
-  pub ran_from_file : (result : Result Outcome Stop) (state state' : TreeState) → OnlyLent state state'
-      → IfSome state.held (λ files. AreReadAlike text (bytes_at files path))
-      → IfOk result (λ outcome. (reads : Readings) → AreOutcomes reads → IfSome state'.held (λ files. Meets (reply_of_text reads files state'.home text) outcome.status outcome.why out out' err err'))
-      → IfOk result (λ outcome. (reads : Readings) → AreOutcomes reads → IfSome state.held (λ files. Meets (reply_of_text reads files state.home (bytes_at files path)) outcome.status outcome.why out out' err err'))
-  ran_from_file result state state' lent alike ran =
-      ran_of result state.home state.held alike
-      (ok_moved result (λ reads outcome files home. Meets (reply_of_text reads files home text) outcome.status outcome.why out out' err err') _ _ _ _ lent.held lent.home ran)
+-- what ran for the start ran for the words
+module _ (start_by : Readings → Files → Components → Start) (start : Start) (old tree : TreeState) (seen : Seen) (lent : OnlyLent old tree) where
+  with-start : (Holds : Start → Files → List ℕ → Type 0) (reads : Readings) (home : Components) (held : Option Files) (left : Option (List ℕ))
+      → IfSome held (λ files. start ≡ start_by reads files home)
+      → IfSome held (λ files. IfSome left (λ text. Holds start files text)) → IfSome held
+      (λ files. IfSome left (λ text. Holds (start_by reads files home) files text))
+  with-start Holds reads home None left is holds = tt
+  with-start Holds reads home (Some files) None is holds = tt
+  with-start Holds reads home (Some files) (Some text) is holds = subst (λ (it : Start). Holds it files text) is holds
 
-  pub cut_from_file : (result : Result Outcome Stop) (state state' : TreeState) → OnlyLent state state'
-      → IfSome state.held (λ files. AreReadAlike text (bytes_at files path))
-      → OnErr result ((reads : Readings) → AreOutcomes reads → IfSome state'.held (λ files. GrewByPrefixes out out' err err' (reply_of_text reads files state'.home text).output (reply_of_text reads files state'.home text).errors))
-      → OnErr result ((reads : Readings) → AreOutcomes reads → IfSome state.held (λ files. GrewByPrefixes out out' err err' (reply_of_text reads files state.home (bytes_at files path)).output (reply_of_text reads files state.home (bytes_at files path)).errors))
-  cut_from_file result state state' lent alike cut =
-      cut_of result state.home state.held alike
-      (err_moved result (λ reads files home. GrewByPrefixes out out' err err' (reply_of_text reads files home text).output (reply_of_text reads files home text).errors) _ _ _ _ lent.held lent.home cut)
+  comes-begun : (reads : Readings) (expansions : Expansions) (result : Result Outcome Stop) (new : Point)
+      → IfSome old.held (λ files. start ≡ start_by reads files old.home)
+      → IfSome tree.held (λ files. IfSome seen.drawn.left (λ text.
+      Comes (told (run_of start expansions (outside_of tree.home files text))) result new.tree.held seen new.seen))
+      → IfSome old.held (λ files. IfSome seen.drawn.left (λ text.
+      Comes (told (run_of (start_by reads files old.home) expansions (outside_of old.home files text))) result new.tree.held seen new.seen))
+  comes-begun reads expansions result new is ran =
+      with-start (λ it files text. Comes (told (run_of it expansions (outside_of old.home files text))) result new.tree.held seen new.seen)
+      reads old.home old.held seen.drawn.left is
+      (subst (λ (home : Components). IfSome old.held (λ files. IfSome seen.drawn.left (λ text.
+      Comes (told (run_of start expansions (outside_of home files text))) result new.tree.held seen new.seen))) lent.home
+      (subst (λ (held : Option Files). IfSome held (λ files. IfSome seen.drawn.left (λ text.
+      Comes (told (run_of start expansions (outside_of tree.home files text))) result new.tree.held seen new.seen))) lent.held ran))
 
--- a line is told, or cut short, here
-pub told_here : (result : Result Outcome Stop) (out err err' : Option (List ℕ)) (line : List ℕ) (answer : Why)
-    → IfOk result (λ outcome. (same : Option (List ℕ)) → Meets (only_line line answer) outcome.status outcome.why same same err err')
-    → OnErr result ((same : Option (List ℕ)) → GrewByPrefixes same same err err' [] line)
-    → MatchResult result (λ outcome. Meets (only_line line answer) outcome.status outcome.why out out err err') (λ _. GrewByPrefixes out out err err' [] line)
-told_here (Ok outcome) out err err' line answer told cut = told out
-told_here (Err stopped) out err err' line answer told cut = cut out
+  pub run-begun : (input output errors before now : ℕ) (result : Result Outcome Stop) (new : Point)
+      → faults_of 0 0 0 now ≡ faults_of 0 0 0 before
+      → ((reads : Readings) → AreOutcomes reads → IfSome old.held (λ files. start ≡ start_by reads files old.home))
+      → RunsAs (λ reads expansions outside. told (run_of start expansions outside)) (point_of tree seen (faults_of input output errors now)) result new
+      → RunsAs (λ reads expansions outside. told (run_of (start_by reads outside.files outside.home) expansions outside))
+      (point_of old seen (faults_of input output errors before)) result new
+  run-begun input output errors before now result new calm is ran =
+      record {
+        comes = λ reads are expansions exps. comes-begun reads expansions result new (is reads are) (ran.comes reads are expansions exps);
+        whole = ran.whole;
+        cause = subst (λ (it : Faults). Stops (faults_of input output errors it.tree) new.faults result) calm ran.cause;
+        lent = balanced-more old tree new.tree (balanced-only_lent old tree lent) ran.lent;
+      }
+
+-- nothing was run where the beginning stopped
+pub run-unbegun : (means : Means) (old tree : TreeState) (seen : Seen) (input output errors before now : ℕ) (stopped : Stop) → OnlyLent old tree
+    → {Began : Type 0} (result : Result Began Stop) → result ≡ Err stopped → Stops (faults_of 0 0 0 before) (faults_of 0 0 0 now) result
+    → RunsAs means (point_of old seen (faults_of input output errors before)) (Err stopped) (point_of tree seen (faults_of input output errors now))
+run-unbegun means old tree seen input output errors before now stopped lent {Began} result is stops =
+    let all : Stops (faults_of input output errors before)
+    (faults_of input output errors now) result = stops-tree input output errors before now result stops in
+    record {
+      comes = λ reads are expansions exps.
+          told_anyway (λ files text. Stopped seen seen (means reads expansions (outside_of old.home files text)).world)
+          old.held seen.drawn.left (λ files text held left.
+          record {
+            output = grew_by_nothing seen.taken (means reads expansions (outside_of old.home files text)).world.output;
+            errors = grew_by_nothing seen.errors (means reads expansions (outside_of old.home files text)).world.errors;
+          });
+      whole = tt;
+      cause = record {
+        ok = tt;
+        read = λ it. all.read (is ∙ (let same : stopped ≡ stop.Read = cc in ap (λ (one : Stop). Err one) same));
+        write = λ it. all.write (is ∙ (let same : stopped ≡ stop.Write = cc in ap (λ (one : Stop). Err one) same));
+        tree = λ it. all.tree (is ∙ (let same : stopped ≡ stop.Tree = cc in ap (λ (one : Stop). Err one) same));
+      };
+      lent = balanced-only_lent old tree lent;
+    }
+
+-- WHERE NOTHING RUNS, nothing but a line was told
+module _ (Same : Type 0) (old tree new : TreeState) (lent : OnlyLent old tree) (was now : Seen) where
+  stays : new ≡ tree → OnlyLent old new
+  stays same = subst (λ (it : TreeState). OnlyLent old it) (sym same) lent
+
+  no-script : (why : Why) → IsOfRun why → IsWithoutScript why → ⊥
+  no-script why.Finished run without = without
+  no-script (why.Refused cause) run without = without
+  no-script why.Usage run without = run
+  no-script (why.NoScript path) run without = run
+  no-script why.ReadFault run without = run
+  no-script why.WriteFault run without = run
+  no-script why.TreeFault run without = run
+  no-script why.Memory run without = run
+
+  pub without-script : (start : ReadStart) (result : Result Outcome Stop) → IfOk result (λ outcome. EndsWith start outcome.why)
+      → IfAnswered start (λ answer. Same × (new ≡ tree) × TellsOnly answer result was now)
+      → IfOk result (λ outcome. IsWithoutScript outcome.why → Same × OnlyLent old new × OnlyTold outcome.why outcome.status was now)
+  without-script (read.Answered answer) (Ok outcome) ends told_so =
+      λ without. (told_so.0, stays told_so.1, subst (λ (it : Why). OnlyTold it outcome.status was now) (sym ends) told_so.2)
+  without-script (read.Script script shell) (Ok outcome) ends told_so = λ without. absurd (no-script outcome.why ends without)
+  without-script start (Err stopped) ends told_so = tt
+
+  draws-nothing : (answer : Why) (result : Result Outcome Stop) → TellsOnly answer result was now → DrawsNothing was now
+  draws-nothing answer (Ok outcome) only = record { drawn = only.drawn; output = only.output }
+  draws-nothing answer (Err stopped) only = record { drawn = only.drawn; output = only.output }
+
+  answered-alone : (start : ReadStart) (result : Result Outcome Stop) → IsAnswered (as_start start)
+      → IfAnswered start (λ answer. Same × (new ≡ tree) × TellsOnly answer result was now) → Same × OnlyLent old new × DrawsNothing was now
+  answered-alone (read.Answered answer) result is told_so = (told_so.0, stays told_so.1, draws-nothing answer result told_so.2)
+  answered-alone (read.Script script shell) result is told_so = absurd is
+
+  is-answered : (reads : Readings) (start : ReadStart) (command : Option RunCommand) (held : Option Files)
+      → MatchOption command (start ≡ read.Answered why.Usage) (λ _. IsOfCommand start)
+      → IfSome held (λ files. as_start start ≡ start_of reads files old.home command)
+      → RunsNothing reads (record old { held = held }) command → IsAnswered (as_start start)
+  is-answered reads start None held usage is nothing = subst (λ (it : ReadStart). IsAnswered (as_start it)) (sym usage) tt
+  is-answered reads start (Some command) None usage is nothing = absurd nothing
+  is-answered reads start (Some command) (Some files) usage is nothing = subst IsAnswered (sym is) nothing
+
+  pub nothing-run : (start : ReadStart) (result : Result Outcome Stop) (command : Option RunCommand)
+      → MatchOption command (start ≡ read.Answered why.Usage) (λ _. IsOfCommand start)
+      → ((reads : Readings) → AreOutcomes reads → IfSome old.held (λ files. as_start start ≡ start_of reads files old.home command))
+      → IfAnswered start (λ answer. Same × (new ≡ tree) × TellsOnly answer result was now)
+      → (reads : Readings) → AreOutcomes reads → RunsNothing reads old command → Same × OnlyLent old new × DrawsNothing was now
+  nothing-run start result command usage is told_so reads are nothing =
+      answered-alone start result (is-answered reads start command old.held usage (is reads are) nothing) told_so
+
+-- a start of no command is that of usage, and so is its answer
+pub answer-of : (start : ReadStart) (command : Option RunCommand) (result : Result Outcome Stop) → IfOk result (λ outcome. EndsWith start outcome.why)
+    → MatchOption command (start ≡ read.Answered why.Usage) (λ _. IsOfCommand start)
+    → IfOk result (λ outcome. MatchOption command (outcome.why ≡ why.Usage) (λ _. IsOfScript outcome.why))
+answer-of start None (Ok outcome) ends usage = subst (λ (it : ReadStart). EndsWith it outcome.why) usage ends
+answer-of (read.Answered answer) (Some command) (Ok outcome) ends usage = subst IsOfScript (sym ends) usage
+answer-of (read.Script script shell) (Some command) (Ok outcome) ends usage = of_run outcome.why ends
+  where
+    of_run : (why : Why) → IsOfRun why → IsOfScript why
+    of_run why.Finished run = tt
+    of_run (why.Refused cause) run = tt
+    of_run why.Usage run = run
+    of_run (why.NoScript path) run = tt
+    of_run why.ReadFault run = run
+    of_run why.WriteFault run = run
+    of_run why.TreeFault run = run
+    of_run why.Memory run = run
+answer-of start command (Err stopped) ends usage = tt

@@ -1,34 +1,29 @@
 -- The answers of the top call, the lines that tell them, and the statuses (own).
-use Rattle.std.specs.Prelude.{◌≡◌, ℕ, List, ◌++◌, codes, decimal}
+use Rattle.std.specs.Prelude.{◌≡◌, ℕ, List, [], ◌∷◌, ◌++◌, codes, decimal}
 use Rattle.sh_lex.specs.declared.refusals.Static.{Static}
 use Rattle.sh_lex.specs.declared.refusals.Static.TheVariants as static
-use Rattle.pash.specs.declared.answers.Refusal.{Refusal}
-use Rattle.pash.specs.declared.answers.Refusal.TheVariants as refusal
+use Rattle.sh_eval.specs.Lines.{diagnostic, no_such_file}
+use Rattle.sh_eval.specs.declared.flows.Flow.{Flow}
+use Rattle.sh_eval.specs.declared.flows.Flow.TheVariants as flow
+use Rattle.sh_eval.specs.declared.refusals.Refusal.{Refusal}
+use Rattle.sh_eval.specs.declared.refusals.Refusal.TheVariants as refusal
+use Rattle.pash.specs.declared.answers.TheConstants.{REFUSED}
+use Rattle.pash.specs.declared.answers.Outcome.{Outcome}
 use Rattle.pash.specs.declared.answers.Why.{Why}
 use Rattle.pash.specs.declared.answers.Why.TheVariants as why
 use Rattle.pash.specs.declared.answers.Stop.{Stop}
 use Rattle.pash.specs.declared.answers.Stop.TheVariants as stop
 
--- a line that tells what stood in the way: who tells it, of what, and the reason
-abbrev pub diagnostic : List ℕ → List ℕ → List ℕ → List ℕ
-diagnostic name subject reason = name ++ codes ": " ++ subject ++ codes ": " ++ reason ++ codes "\n"
-
-abbrev pub no_such_file : List ℕ
-no_such_file = codes "No such file or directory"
-
-abbrev pub is_a_directory : List ℕ
-is_a_directory = codes "Is a directory"
-
-abbrev pub usage_line : List ℕ
-usage_line = codes "pash: usage\n"
-
--- the text with a number behind it
+-- the text, a space, and a number
 abbrev pub with_number : List ℕ → ℕ → List ℕ
 with_number text number = text ++ codes " " ++ decimal number
 
+-- the text, a space, and a letter
+abbrev pub with_letter : List ℕ → ℕ → List ℕ
+with_letter text letter = text ++ codes " " ++ letter ∷ []
+
 -- the name of a refusal and its details, each behind a space
 abbrev pub refusal_text : Refusal → List ℕ
-refusal_text refusal.NotBuilt = codes "NotBuilt"
 refusal_text (refusal.UnclosedQuote offset) = with_number (codes "UnclosedQuote") offset
 refusal_text (refusal.UnclosedBrace offset) = with_number (codes "UnclosedBrace") offset
 refusal_text (refusal.OutOfProfile spelling offset) = codes "OutOfProfile " ++ with_number spelling offset
@@ -37,12 +32,26 @@ refusal_text refusal.BadSyntax = codes "BadSyntax"
 refusal_text (refusal.TooDeep offset) = with_number (codes "TooDeep") offset
 refusal_text (refusal.SubstitutionMix offset) = with_number (codes "SubstitutionMix") offset
 refusal_text (refusal.ParameterForm offset) = with_number (codes "ParameterForm") offset
+refusal_text (refusal.UnknownCommand name) = codes "UnknownCommand " ++ name
+refusal_text (refusal.UnsupportedFlag name letter) = codes "UnsupportedFlag " ++ with_letter name letter
+refusal_text (refusal.PathBusy path) = codes "PathBusy " ++ path
+refusal_text refusal.TurnsOver = codes "TurnsOver"
+refusal_text refusal.ArgsTooMany = codes "ArgsTooMany"
+refusal_text (refusal.UnsupportedPattern pattern) = codes "UnsupportedPattern " ++ pattern
+refusal_text refusal.NotBuilt = codes "NotBuilt"
 
--- the line that tells a refusal
-abbrev pub refusal_line : Refusal → List ℕ
-refusal_line cause = codes "pash: refused: " ++ refusal_text cause ++ codes "\n"
+-- the line that tells an answer; none where the script ran to its end, and none begins after a fault or want of memory
+abbrev pub line_of : Why → List ℕ
+line_of why.Finished = []
+line_of (why.Refused cause) = codes "pash: refused: " ++ refusal_text cause ++ codes "\n"
+line_of why.Usage = codes "pash: usage\n"
+line_of (why.NoScript path) = diagnostic (codes "pash") path no_such_file
+line_of why.ReadFault = []
+line_of why.WriteFault = []
+line_of why.TreeFault = []
+line_of why.Memory = []
 
--- the answer where a script's text is refused so
+-- the refusal of a script whose text is refused so
 abbrev pub refusal_of : Static → Refusal
 refusal_of (static.UnclosedQuote offset) = refusal.UnclosedQuote offset
 refusal_of (static.UnclosedBrace offset) = refusal.UnclosedBrace offset
@@ -53,33 +62,71 @@ refusal_of (static.TooDeep offset) = refusal.TooDeep offset
 refusal_of (static.SubstitutionMix offset) = refusal.SubstitutionMix offset
 refusal_of (static.ParameterForm offset) = refusal.ParameterForm offset
 
+-- the answer where nothing runs, with its status
+abbrev pub refusing : Why → Outcome
+refusing answer = record { status = REFUSED; why = answer }
+
+-- a script that is over was refused in the middle, or it has ended, and then its status is `$?` (XCU 2.8.2)
+abbrev pub outcome_by : Flow → ℕ → Outcome
+outcome_by flow.On status = record { status = status; why = why.Finished }
+outcome_by (flow.Break count) status = record { status = status; why = why.Finished }
+outcome_by (flow.Continue count) status = record { status = status; why = why.Finished }
+outcome_by flow.Exit status = record { status = status; why = why.Finished }
+outcome_by (flow.Refused cause) status = refusing (why.Refused cause)
+
 -- the answers that tell a command's meaning: all but the faults and want of memory
 abbrev pub IsAnswer : Why → Type 0
 IsAnswer why.Finished = Unit {0}
-IsAnswer (why.Refused refusal) = Unit {0}
+IsAnswer (why.Refused cause) = Unit {0}
 IsAnswer why.Usage = Unit {0}
 IsAnswer (why.NoScript path) = Unit {0}
+IsAnswer why.ReadFault = ⊥
 IsAnswer why.WriteFault = ⊥
 IsAnswer why.TreeFault = ⊥
 IsAnswer why.Memory = ⊥
 
--- the answers that a script's run may have
+-- the answers of a script that has run
+abbrev pub IsOfRun : Why → Type 0
+IsOfRun why.Finished = Unit {0}
+IsOfRun (why.Refused cause) = Unit {0}
+IsOfRun why.Usage = ⊥
+IsOfRun (why.NoScript path) = ⊥
+IsOfRun why.ReadFault = ⊥
+IsOfRun why.WriteFault = ⊥
+IsOfRun why.TreeFault = ⊥
+IsOfRun why.Memory = ⊥
+
+-- the answers for a script: it ran, it was refused before it ran or in the middle, or it isn't there
 abbrev pub IsOfScript : Why → Type 0
 IsOfScript why.Finished = Unit {0}
-IsOfScript (why.Refused refusal) = Unit {0}
+IsOfScript (why.Refused cause) = Unit {0}
 IsOfScript why.Usage = ⊥
 IsOfScript (why.NoScript path) = Unit {0}
+IsOfScript why.ReadFault = ⊥
 IsOfScript why.WriteFault = ⊥
 IsOfScript why.TreeFault = ⊥
 IsOfScript why.Memory = ⊥
 
+-- the answers where there is no script
+abbrev pub IsWithoutScript : Why → Type 0
+IsWithoutScript why.Finished = ⊥
+IsWithoutScript (why.Refused cause) = ⊥
+IsWithoutScript why.Usage = Unit {0}
+IsWithoutScript (why.NoScript path) = Unit {0}
+IsWithoutScript why.ReadFault = ⊥
+IsWithoutScript why.WriteFault = ⊥
+IsWithoutScript why.TreeFault = ⊥
+IsWithoutScript why.Memory = ⊥
+
 -- the answer of a run that stopped, and its status
 abbrev pub fault_of : Stop → Why
+fault_of stop.Read = why.ReadFault
 fault_of stop.Write = why.WriteFault
 fault_of stop.Tree = why.TreeFault
 fault_of stop.Memory = why.Memory
 
 abbrev pub fault_status : Stop → ℕ
+fault_status stop.Read = 120
 fault_status stop.Write = 121
 fault_status stop.Tree = 122
 fault_status stop.Memory = 123
@@ -87,9 +134,10 @@ fault_status stop.Memory = 123
 -- the status of a fault and of want of memory
 abbrev pub HasFaultStatus : Why → ℕ → Type 0
 HasFaultStatus why.Finished status = Unit {0}
-HasFaultStatus (why.Refused refusal) status = Unit {0}
+HasFaultStatus (why.Refused cause) status = Unit {0}
 HasFaultStatus why.Usage status = Unit {0}
 HasFaultStatus (why.NoScript path) status = Unit {0}
+HasFaultStatus why.ReadFault status = status ≡ 120
 HasFaultStatus why.WriteFault status = status ≡ 121
 HasFaultStatus why.TreeFault status = status ≡ 122
 HasFaultStatus why.Memory status = status ≡ 123

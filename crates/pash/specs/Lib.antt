@@ -1,12 +1,6 @@
 pub mod Words
-pub mod CatForm
-pub mod Stages
-pub mod Forms
 pub mod Answers
-pub mod Cat
 pub mod Readings
+pub mod Starts
 pub mod Meaning
 pub mod Runs
-pub mod Pipeline
-pub mod FirstGraph
-pub mod FirstRuns

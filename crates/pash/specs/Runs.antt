@@ -1,11 +1,21 @@
 -- What a call on the way of a run says of the objects that it was handed.
-use Rattle.std.specs.Prelude.{◌≡◌, ℕ, ◌≤◌, ◌⊎◌, List, Option, Some, Result, OnOk, IsErrOf}
+use Rattle.std.specs.Prelude.{◌≡◌, ℕ, ◌⊎◌, Option, Some, Result, Ok, Err, OnOk, IsErrOf, IfSome}
 use Rattle.ps_world.specs.Counts.{Rose}
-use Rattle.ps_world.specs.Told.{then_bytes, bytes_then, GrewByPrefix}
+use Rattle.ps_world.specs.Told.{then_bytes, GrewByPrefix}
+use Rattle.ps_world.specs.Files.{Files, NoWriterOut}
+use Rattle.ps_world.specs.TreeState.{TreeState, Balanced}
 use Rattle.ps_world.specs.declared.WorldErr.{WorldErr}
 use Rattle.ps_world.specs.declared.WorldErr.TheVariants as world
-use Rattle.ps_world.specs.Files.{Files}
-use Rattle.pash.specs.Meaning.{Reply, Meaning}
+use Rattle.sh_parse.specs.Outcomes.{AreOutcomes, Readings}
+use Rattle.sh_expand.specs.Outcomes.{AreExpansions, Expansions}
+use Rattle.sh_eval.specs.Contract.{Faults, Seen, then_ran}
+use Rattle.sh_eval.specs.Scripts.{Stopped}
+use Rattle.sh_eval.specs.declared.outcomes.How.{How}
+use Rattle.sh_eval.specs.declared.outcomes.How.TheVariants as how
+use Rattle.pash.specs.Answers.{line_of, outcome_by}
+use Rattle.pash.specs.Meaning.{Meaning, Outside, outside_of}
+use Rattle.pash.specs.declared.answers.TheConstants.{REFUSED}
+use Rattle.pash.specs.declared.answers.Outcome.{Outcome}
 use Rattle.pash.specs.declared.answers.Stop.{Stop}
 use Rattle.pash.specs.declared.answers.Stop.TheVariants as stop
 use Rattle.pash.specs.declared.answers.Why.{Why}
@@ -19,57 +29,78 @@ abbrev pub stop_of_sink : WorldErr → Stop
 stop_of_sink world.Failed = stop.Write
 stop_of_sink world.Memory = stop.Memory
 
--- the counts of faults of the output, the errors and the tree
-pub record Faults : Type 0 where
-  pub out : ℕ
-  pub err : ℕ
-  pub tree : ℕ
-
--- no count is below the old one
-pub record NoFewer (old new : Faults) : Type 0 where
-  pub out : old.out ≤ new.out
-  pub err : old.err ≤ new.err
-  pub tree : old.tree ≤ new.tree
+-- the answer of an evaluation that is over, or why it stopped
+abbrev pub came_of : How → ℕ → Result Outcome Stop
+came_of (how.Gone flow) status = Ok (outcome_by flow status)
+came_of how.ReadFault status = Err stop.Read
+came_of how.WriteFault status = Err stop.Write
+came_of how.TreeFault status = Err stop.Tree
+came_of how.Memory status = Err stop.Memory
 
 -- a call stops only where a count rose, or for want of memory; where it doesn't stop, none rose
 pub record Stops {T : Type 0} (old new : Faults) (result : Result T Stop) : Type 0 where
-  pub later : NoFewer old new
   pub ok : OnOk result (new ≡ old)
-  pub write : IsErrOf result stop.Write → Rose old.out new.out ⊎ Rose old.err new.err
+  pub read : IsErrOf result stop.Read → Rose old.input new.input
+  pub write : IsErrOf result stop.Write → Rose old.output new.output ⊎ Rose old.errors new.errors
   pub tree : IsErrOf result stop.Tree → Rose old.tree new.tree
 
--- bytes went from a source to a sink
-pub record Copies (left_old left_new taken_old taken_new : Option (List ℕ)) : Type 0 where
-  pub part : List ℕ
-  pub from : left_old ≡ bytes_then part left_new
-  pub to : taken_new ≡ then_bytes taken_old part
+-- a command left its meaning: its answer and status are the meaning's, output and errors have grown by the meaning's, and so has what tells
+-- which utilities ran; the files are the meaning's, and so is what is left of the input
+pub record Leaves (meaning : Meaning) (outcome : Outcome) (held : Option Files) (old new : Seen) : Type 0 where
+  pub outcome_is : outcome ≡ meaning.outcome
+  pub output : new.taken ≡ then_bytes old.taken meaning.world.output
+  pub errors : new.errors ≡ then_bytes old.errors meaning.world.errors
+  pub files : held ≡ Some meaning.world.files
+  pub input : new.drawn.left ≡ Some meaning.world.input
+  pub used : new.drawn.used ≡ then_ran old.drawn.used meaning.world.ran
 
--- output and errors have grown by these texts
-pub record Grew (out_old out_new err_old err_new : Option (List ℕ)) (output errors : List ℕ) : Type 0 where
-  pub out : out_new ≡ then_bytes out_old output
-  pub err : err_new ≡ then_bytes err_old errors
+-- or it stopped, and output and errors have grown by prefixes of the meaning's
+abbrev pub Comes : Meaning → Result Outcome Stop → Option Files → Seen → Seen → Type 0
+Comes meaning (Ok outcome) held old new = Leaves meaning outcome held old new
+Comes meaning (Err stopped) held old new = Stopped old new meaning.world
 
--- output and errors have grown by prefixes of these texts
-pub record GrewByPrefixes (out_old out_new err_old err_new : Option (List ℕ)) (output errors : List ℕ) : Type 0 where
-  pub out : GrewByPrefix out_old out_new output
-  pub err : GrewByPrefix err_old err_new errors
+-- all that is seen of the objects at one moment
+pub record Point : Type 0 where
+  pub tree : TreeState
+  pub seen : Seen
+  pub faults : Faults
 
--- an answer with its status is the reply's, and output and errors have grown by the reply's
-pub record Meets (reply : Reply) (told_status : ℕ) (told : Why) (out_old out_new err_old err_new : Option (List ℕ)) : Type 0 where
-  pub status : told_status ≡ reply.status
-  pub answer : told ≡ reply.answer
-  pub grew : Grew out_old out_new err_old err_new reply.output reply.errors
+abbrev pub point_of : TreeState → Seen → Faults → Point
+point_of tree seen faults = record { tree = tree; seen = seen; faults = faults }
 
--- a command left its meaning: its reply was told, the files are the meaning's, and so is what is left of the input
-pub record Leaves (meaning : Meaning) (told_status : ℕ) (told : Why) (out_old out_new err_old err_new : Option (List ℕ)) (held : Option Files) (left : Option (List ℕ)) : Type 0 where
-  pub reply : Meets meaning.reply told_status told out_old out_new err_old err_new
-  pub files : held ≡ Some meaning.files
-  pub rest : left ≡ Some meaning.rest
+-- what a command means, by what texts are read as and what words expand to
+abbrev pub Means : Type 0
+Means = Readings → Expansions → Outside → Meaning
 
--- a copy stops only where the source's or the output's count rose, or for want of memory; where it doesn't stop, none rose
-pub record CopyStops {T : Type 0} (source_old source_new out_old out_new : ℕ) (result : Result T Stop) : Type 0 where
-  pub later : source_old ≤ source_new
-  pub out_later : out_old ≤ out_new
-  pub ok : OnOk result ((source_new ≡ source_old) × (out_new ≡ out_old))
-  pub write : IsErrOf result stop.Write → Rose out_old out_new
-  pub tree : IsErrOf result stop.Tree → Rose source_old source_new
+-- a command was run: it left its meaning, or stopped; and why
+pub record RunsAs (means : Means) (old : Point) (result : Result Outcome Stop) (new : Point) : Type 0 where
+  pub comes : (reads : Readings) → AreOutcomes reads → (expansions : Expansions) → AreExpansions expansions → IfSome old.tree.held
+      (λ files. IfSome old.seen.drawn.left (λ input.
+      Comes (means reads expansions (outside_of old.tree.home files input)) result new.tree.held old.seen new.seen))
+  -- no writer is out behind it
+  pub whole : OnOk result (IfSome new.tree.held NoWriterOut)
+  pub cause : Stops old.faults new.faults result
+  -- each reader and writer that was lent has come back
+  pub lent : Balanced old.tree new.tree
+
+-- nothing but the line of an answer was told
+pub record OnlyTold (answer : Why) (status : ℕ) (old new : Seen) : Type 0 where
+  pub status_is : status ≡ REFUSED
+  pub drawn : new.drawn ≡ old.drawn
+  pub output : new.taken ≡ old.taken
+  pub errors : new.errors ≡ then_bytes old.errors (line_of answer)
+
+-- or no more than a prefix of it
+pub record CutShort (answer : Why) (old new : Seen) : Type 0 where
+  pub drawn : new.drawn ≡ old.drawn
+  pub output : new.taken ≡ old.taken
+  pub errors : GrewByPrefix old.errors new.errors (line_of answer)
+
+abbrev pub TellsOnly : Why → Result Outcome Stop → Seen → Seen → Type 0
+TellsOnly answer (Ok outcome) old new = OnlyTold answer outcome.status old new
+TellsOnly answer (Err stopped) old new = CutShort answer old new
+
+-- nothing is drawn, and nothing is written to the output
+pub record DrawsNothing (old new : Seen) : Type 0 where
+  pub drawn : new.drawn ≡ old.drawn
+  pub output : new.taken ≡ old.taken

@@ -8,10 +8,11 @@ use Rattle.ps_lines.specs.Numbers.{number_of}
 use Rattle.pash.specs.declared.command.RunCommand.{RunCommand as ReadCommand}
 use Rattle.pash.specs.declared.command.TheConstants.{MOST_WIDTH}
 
--- a command to run a script, at a width
+-- a command to run a script with these arguments, at a width
 pub record RunCommand : Type 0 where
   pub width : ℕ
   pub script : List ℕ
+  pub arguments : List (List ℕ)
 
 -- the words' texts
 abbrev pub texts : List (String Global) → List (List ℕ)
@@ -32,7 +33,7 @@ width_of text = if begins_with_zero text then None else option_and_then as_width
 
 -- what a command that was read says
 abbrev pub as_run : ReadCommand → RunCommand
-as_run command = record { width = command.width; script = command.script.now }
+as_run command = record { width = command.width; script = command.script.now; arguments = texts command.arguments.now }
 
 -- what the words ask for; None where they are no command
 abbrev pub command_of : List (List ℕ) → Option RunCommand
@@ -40,4 +41,4 @@ command_of [] = None
 command_of (name ∷ []) = None
 command_of (name ∷ width ∷ []) = None
 command_of (name ∷ width ∷ script ∷ arguments) =
-    if bytes_eq name (codes "run") then option_map (λ number. record { width = number; script = script }) (width_of width) else None
+    if bytes_eq name (codes "run") then option_map (λ number. record { width = number; script = script; arguments = arguments }) (width_of width) else None

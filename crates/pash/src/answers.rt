@@ -1,37 +1,14 @@
 //! The answers of the top call, and why a run stops.
 ghost use Rattle.std.specs.Prelude.{◌≡◌};
-ghost use Rattle.pash.specs.Answers.{refusal_of as refusal_of_lem};
+ghost use Rattle.pash.specs.Answers.{outcome_by, refusal_of as refusal_of_lem, refusing};
 ghost use Rattle.pash.specs.Runs.{stop_of_tree, stop_of_sink};
 
 use ps_lines::Text;
 use ps_world::WorldErr;
+use sh_eval::{Flow, Refusal};
 use sh_lex::Static;
-use std::alloc::AllocError;
 
-/// Why a script is not run. Offsets are in bytes, from the script's first.
-#[derive(Debug, PartialEq, Eq, Drop)]
-pub enum Refusal {
-    /// The script is of a form that isn't built yet.
-    NotBuilt,
-    /// The quote at this offset isn't closed.
-    UnclosedQuote(u32),
-    /// The `${`, `$(` or `$((` at this offset isn't closed.
-    UnclosedBrace(u32),
-    /// This spelling, at this offset, isn't in the profile.
-    OutOfProfile(Text, u32),
-    /// The script has over 1,048,576 bytes.
-    ScriptTooLong,
-    /// The tokens are no script.
-    BadSyntax,
-    /// The 65th level of nesting opens at this offset.
-    TooDeep(u32),
-    /// The command at this offset has a command substitution beside an assigning expansion.
-    SubstitutionMix(u32),
-    /// The `${ }` at this offset has none of the forms of an expansion.
-    ParameterForm(u32),
-}
-
-/// The answer where a script's text is refused so.
+/// The refusal of a script whose text is refused so.
 pub fn refusal_of(cause: Static) -> Refusal
     ensures { result ≡ refusal_of_lem cause }
 {
@@ -52,12 +29,14 @@ pub fn refusal_of(cause: Static) -> Refusal
 pub enum Why {
     /// The script ran to its end; the status is its own.
     Finished,
-    /// The script is not run. Status 2.
+    /// The script is not run, or not run further. Status 2.
     Refused(Refusal),
     /// The words are no command. Status 2.
     Usage,
     /// The script's path, as it was given, names no file. Status 2.
     NoScript(Text),
+    /// The input failed in this call. Status 120.
+    ReadFault,
     /// The output or the errors failed in this call. Status 121.
     WriteFault,
     /// The tree failed in this call. Status 122.
@@ -75,6 +54,9 @@ pub struct End<I, O> {
     pub out: O,
 }
 
+/// The status of every answer but Finished, the faults and Memory.
+pub const REFUSED: u8 = 2;
+
 /// An answer with its status.
 #[derive(Drop)]
 pub struct Outcome {
@@ -82,9 +64,34 @@ pub struct Outcome {
     pub why: Why,
 }
 
+/// The answer where nothing runs.
+pub fn answered(why: Why) -> Outcome
+    ensures { result ≡ refusing why }
+{
+    Outcome {
+        status: REFUSED,
+        why,
+    }
+}
+
+/// The answer of a script that is over, where `status` is `$?`.
+pub fn ended(flow: Flow, status: u8) -> Outcome
+    ensures { result ≡ outcome_by flow status }
+{
+    match flow {
+        Flow::On | Flow::Break(_) | Flow::Continue(_) | Flow::Exit => Outcome {
+            status,
+            why: Why::Finished,
+        },
+        Flow::Refused(cause) => answered(Why::Refused(cause)),
+    }
+}
+
 /// Why a run stops before its end.
 #[derive(Clone, Copy, Debug, PartialEq, Eq)]
 pub enum Stop {
+    /// The input failed.
+    Read,
     /// The output or the errors failed.
     Write,
     /// The tree or one of its readers failed.
@@ -102,6 +109,7 @@ impl Stop {
         ensures { result ≡ fault_of self }
     {
         match self {
+            Stop::Read => Why::ReadFault,
             Stop::Write => Why::WriteFault,
             Stop::Tree => Why::TreeFault,
             Stop::Memory => Why::Memory,
@@ -113,6 +121,7 @@ impl Stop {
         ensures { result ≡ fault_status self }
     {
         match self {
+            Stop::Read => 120,
             Stop::Write => 121,
             Stop::Tree => 122,
             Stop::Memory => 123,
@@ -137,27 +146,5 @@ pub fn of_sink(error: WorldErr) -> Stop
     match error {
         WorldErr::Failed => Stop::Write,
         WorldErr::Memory => Stop::Memory,
-    }
-}
-
-impl From<AllocError> for Stop {
-    ghost use Rattle.std.specs.Prelude.{◌≡◌};
-    ghost use Rattle.pash.specs.declared.answers.Stop.TheVariants.{Memory};
-
-    ghost from_gives = { λ _ stop. stop ≡ Memory };
-
-    fn from(_refused: AllocError) -> Stop {
-        Stop::Memory
-    }
-}
-
-impl From<ps_lines::Memory> for Stop {
-    ghost use Rattle.std.specs.Prelude.{◌≡◌};
-    ghost use Rattle.pash.specs.declared.answers.Stop.TheVariants.{Memory};
-
-    ghost from_gives = { λ _ stop. stop ≡ Memory };
-
-    fn from(_refused: ps_lines::Memory) -> Stop {
-        Stop::Memory
     }
 }

@@ -5,12 +5,14 @@ ghost use Rattle.pash.specs.declared.command.TheConstants.{MOST_WIDTH};
 /// The largest width.
 pub const MOST_WIDTH: u32 = 16;
 
-/// A command to run a script at a width: `run W SCRIPT ARG*`. The arguments are accepted and not used so far.
+/// A command to run a script at a width: `run W SCRIPT ARG*`.
 #[derive(Drop)]
 pub struct RunCommand<'a> {
-    /// How many parts the work is spread to, 1 to 16.
+    /// How many parts the work is spread to, 1 to 16. No utility is spread so far.
     pub width: u32,
     /// The script's path, as it was given.
     pub script: &'a [u8],
+    /// The script's arguments, `$1` first.
+    pub arguments: &'a [String],
     ghost spread: { (1 ≤ width) × (width ≤ MOST_WIDTH) },
 }

@@ -1,62 +1,35 @@
-//! Lines of error.
-ghost use Rattle.std.specs.Prelude.{◌≡◌, ◌++◌, codes, IfOk, OnOk, OnErr};
-ghost use Rattle.ps_world.specs.Told.{then_bytes, GrewByPrefix};
-ghost use Rattle.pash.specs.Answers.{diagnostic as diagnostic_lem, refusal_line as refusal_line_lem, refusal_text, with_number};
-ghost use Rattle.pash.specs.Runs.{Stops};
+//! The lines that tell answers.
+ghost use Rattle.std.specs.Prelude.{◌≡◌, ◌++◌, codes, IfOk, OnOk};
+ghost use Rattle.sh_eval.specs.Lines.{diagnostic as diagnostic_lem};
+ghost use Rattle.pash.specs.Answers.{line_of, refusal_text, with_letter, with_number};
 
-use crate::answers::{Refusal, Stop, of_sink};
+use crate::answers::Why;
 use ps_lines::{Memory, decimal};
-use ps_world::{Sink, write_all};
-use std::alloc::{AllocError, Global};
+use sh_eval::Refusal;
+use std::alloc::Global;
+
+/// The program's name.
+const NAME: &[u8] = b"pash";
 
 /// Why a path that names nothing can't be read.
-pub const NO_SUCH_FILE: &[u8] = b"No such file or directory";
+const NO_SUCH_FILE: &[u8] = b"No such file or directory";
 
-/// Why a directory can't be read.
-pub const IS_A_DIRECTORY: &[u8] = b"Is a directory";
-
-/// Writes a line to the errors: who tells it, of what, and the reason.
-#[tactic(auto, using(ps_world::proofs::ToldLemmas::grew_by_nothing))]
-pub fn tell<E: Sink>(
-    alloc: Global,
-    err: &mut E,
-    name: &[u8],
-    subject: &[u8],
-    reason: &[u8],
-) -> Result<(), Stop>
-    ensures ok { OnOk result (E.taken err.new ≡ then_bytes (E.taken err.old) (diagnostic_lem name.now subject.now reason.now)) }
-    ensures part { OnErr result (GrewByPrefix (E.taken err.old) (E.taken err.new) (diagnostic_lem name.now subject.now reason.now)) }
-    ensures cause { Stops
-        (record { out = 0; err = E.faults err.old; tree = 0 })
-        (record { out = 0; err = E.faults err.new; tree = 0 }) result }
+/// The line that tells an answer: empty where the script ran to its end, and after a fault or want of memory.
+pub fn answer_line(alloc: Global, why: &Why) -> Result<Vec<u8>, Memory>
+    ensures { IfOk result (λ line. line.items ≡ line_of why.now) }
 {
-    match diagnostic(alloc, name, subject, reason) {
-        Ok(line) => say(err, line.as_slice()),
-        Err(_refused) => Err(Stop::Memory),
-    }
-}
-
-/// Writes a line, as it stands, to the errors.
-pub fn say<E: Sink>(err: &mut E, line: &[u8]) -> Result<(), Stop>
-    ensures ok { OnOk result (E.taken err.new ≡ then_bytes (E.taken err.old) line.now) }
-    ensures part { OnErr result (GrewByPrefix (E.taken err.old) (E.taken err.new) line.now) }
-    ensures cause { Stops
-        (record { out = 0; err = E.faults err.old; tree = 0 })
-        (record { out = 0; err = E.faults err.new; tree = 0 }) result }
-{
-    match write_all(err, line) {
-        Ok(()) => Ok(()),
-        Err(error) => Err(of_sink(error)),
+    match why {
+        Why::Refused(cause) => refusal_line(alloc, cause),
+        Why::Usage => Ok(Vec::from_slice(alloc, b"pash: usage\n")?),
+        Why::NoScript(path) => diagnostic(alloc, NAME, path.as_slice(), NO_SUCH_FILE),
+        Why::Finished | Why::ReadFault | Why::WriteFault | Why::TreeFault | Why::Memory => {
+            Ok(Vec::new(alloc))
+        }
     }
 }
 
 /// The line `NAME: SUBJECT: REASON`.
-pub fn diagnostic(
-    alloc: Global,
-    name: &[u8],
-    subject: &[u8],
-    reason: &[u8],
-) -> Result<Vec<u8>, AllocError>
+fn diagnostic(alloc: Global, name: &[u8], subject: &[u8], reason: &[u8]) -> Result<Vec<u8>, Memory>
     ensures { IfOk result (λ line. line.items ≡ diagnostic_lem name.now subject.now reason.now) }
 {
     let mut line = Vec::from_slice(alloc, name)?;
@@ -68,9 +41,9 @@ pub fn diagnostic(
     Ok(line)
 }
 
-/// The line that tells why a script isn't run: `pash: refused: `, the refusal's name and its details.
-pub fn refusal_line(alloc: Global, cause: &Refusal) -> Result<Vec<u8>, Memory>
-    ensures { IfOk result (λ line. line.items ≡ refusal_line_lem cause.now) }
+/// The line `pash: refused: `, the refusal's name and its details.
+fn refusal_line(alloc: Global, cause: &Refusal) -> Result<Vec<u8>, Memory>
+    ensures { IfOk result (λ line. line.items ≡ codes "pash: refused: " ++ refusal_text cause.now ++ codes "\n") }
 {
     let mut line = Vec::from_slice(alloc, b"pash: refused: ")?;
     add_refusal(&mut line, cause)?;
@@ -83,7 +56,6 @@ fn add_refusal(line: &mut Vec<u8>, cause: &Refusal) -> Result<(), Memory>
     ensures { OnOk result (line.new.items ≡ line.old.items ++ refusal_text cause.now) }
 {
     match cause {
-        Refusal::NotBuilt => add(line, b"NotBuilt"),
         Refusal::UnclosedQuote(offset) => add_with_number(line, b"UnclosedQuote", *offset),
         Refusal::UnclosedBrace(offset) => add_with_number(line, b"UnclosedBrace", *offset),
         Refusal::OutOfProfile(spelling, offset) => {
@@ -94,6 +66,17 @@ fn add_refusal(line: &mut Vec<u8>, cause: &Refusal) -> Result<(), Memory>
         Refusal::TooDeep(offset) => add_with_number(line, b"TooDeep", *offset),
         Refusal::SubstitutionMix(offset) => add_with_number(line, b"SubstitutionMix", *offset),
         Refusal::ParameterForm(offset) => add_with_number(line, b"ParameterForm", *offset),
+        Refusal::UnknownCommand(name) => add_both(line, b"UnknownCommand ", name.as_slice()),
+        Refusal::UnsupportedFlag(name, letter) => {
+            add_unsupported_flag(line, name.as_slice(), *letter)
+        }
+        Refusal::PathBusy(path) => add_both(line, b"PathBusy ", path.as_slice()),
+        Refusal::TurnsOver => add(line, b"TurnsOver"),
+        Refusal::ArgsTooMany => add(line, b"ArgsTooMany"),
+        Refusal::UnsupportedPattern(pattern) => {
+            add_both(line, b"UnsupportedPattern ", pattern.as_slice())
+        }
+        Refusal::NotBuilt => add(line, b"NotBuilt"),
     }
 }
 
@@ -104,10 +87,26 @@ fn add_out_of_profile(line: &mut Vec<u8>, spelling: &[u8], offset: u32) -> Resul
     add_with_number(line, spelling, offset)
 }
 
+fn add_unsupported_flag(line: &mut Vec<u8>, name: &[u8], letter: u8) -> Result<(), Memory>
+    ensures { OnOk result (line.new.items ≡ line.old.items ++ (codes "UnsupportedFlag " ++ with_letter name.now letter)) }
+{
+    add(line, b"UnsupportedFlag ")?;
+    add_with_letter(line, name, letter)
+}
+
 fn add(line: &mut Vec<u8>, text: &[u8]) -> Result<(), Memory>
     ensures { OnOk result (line.new.items ≡ line.old.items ++ text.now) }
 {
     line.extend_from_slice(text)?;
+    Ok(())
+}
+
+/// Appends one text, and behind it another.
+fn add_both(line: &mut Vec<u8>, front: &[u8], back: &[u8]) -> Result<(), Memory>
+    ensures { OnOk result (line.new.items ≡ line.old.items ++ (front.now ++ back.now)) }
+{
+    line.extend_from_slice(front)?;
+    line.extend_from_slice(back)?;
     Ok(())
 }
 
@@ -118,4 +117,14 @@ fn add_with_number(line: &mut Vec<u8>, text: &[u8], number: u32) -> Result<(), M
     line.extend_from_slice(text)?;
     line.extend_from_slice(b" ")?;
     decimal(u64::from(number), line)
+}
+
+/// Appends a text, a space, and a letter.
+fn add_with_letter(line: &mut Vec<u8>, text: &[u8], letter: u8) -> Result<(), Memory>
+    ensures { OnOk result (line.new.items ≡ line.old.items ++ with_letter text.now letter) }
+{
+    line.extend_from_slice(text)?;
+    line.extend_from_slice(b" ")?;
+    line.push(letter)?;
+    Ok(())
 }

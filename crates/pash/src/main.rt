@@ -1,30 +1,22 @@
-//! `pash` runs a shell script, whose pipelines are dataflow graphs, and leaves what the script means, byte for byte.
+//! `pash` runs a shell script, whose utilities are dataflow graphs, and leaves what the script means, byte for byte.
 //!
-//! Two forms of script run so far, on one thread. `top::pash` is the call that this program makes, over the machine's files and
-//! streams, and its contract says what every run leaves: `specs/Meaning.antt` is the meaning of a command,
-//! `sh_parse/specs/Outcomes.antt` what each text is read as, and `specs/Runs.antt` how output, errors, files and answer are tied to
-//! the meaning.
+//! Each graph runs on one thread so far. `top::pash` is the call that this program makes, over the machine's files and streams, and its
+//! contract says what every run leaves: `specs/Starts.antt` is what the words of the command line come to, `specs/Meaning.antt` the meaning
+//! of a command, by that of a script (`sh_eval/specs/Meaning.antt`), and `specs/Runs.antt` how output, errors, files and answer are tied to it.
 #![tactic(auto)]
 
 mod answers;
-mod cat;
-mod cat_form;
 mod command;
-mod copying;
-mod count;
-mod counting;
-mod counting_graphs;
-mod first_graph;
-mod forms;
 mod lines;
 mod reading;
 mod run;
-mod stages;
+mod starts;
 #[cfg(test)]
 mod tests;
 mod top;
 mod words;
 
+use fl_core::InTurn;
 use ps_fakes::OpenGate;
 use ps_real::{RealError, RealInput, RealOutput, RealTree};
 use ps_world::Path;
@@ -42,6 +34,7 @@ fn main(rt: HostRuntime) -> io::Result<ExitCode> {
     let mut err = RealError::new(&rt);
     let alloc = rt.alloc();
     let mut tree = RealTree::new(rt, home);
+    let mut engine: InTurn<HostRuntime> = InTurn::new(alloc);
     let end = top::pash(
         alloc,
         words.as_slice(),
@@ -50,6 +43,7 @@ fn main(rt: HostRuntime) -> io::Result<ExitCode> {
         out,
         &mut err,
         &OpenGate,
+        &mut engine,
     );
     Ok(ExitCode::from(end.status))
 }

@@ -1,378 +1,224 @@
-//! A run of a script, from the words of the command line to its answer.
-ghost use Rattle.std.specs.Prelude.{◌≡◌, ◌≤◌, ℕ, List, [], Option, Some, None, map, IfOk, IfSome, IfNone, OnErr, MatchOption, MatchResult};
-ghost use Rattle.ps_world.specs.Files.{NoWriterOut, IsFileAt, bytes_at};
-ghost use Rattle.ps_world.specs.Places.{StandsIn};
+//! A run, from the words of the command line to the line of its answer.
+ghost use Rattle.std.specs.Prelude.{◌≡◌, IfOk, IfSome, MatchOption, Ok, OnErr, OnOk};
+ghost use Rattle.ps_world.specs.Files.{NoWriterOut};
+ghost use Rattle.ps_world.specs.Told.{then_bytes, GrewByPrefix};
 ghost use Rattle.ps_world.specs.TreeState.{OnlyLent};
-ghost use Rattle.pash.specs.Words.{command_of, texts};
-ghost use Rattle.pash.specs.declared.command.TheConstants.{MOST_WIDTH};
-ghost use Rattle.pash.specs.Answers.{IsOfScript};
 ghost use Rattle.sh_parse.specs.Outcomes.{AreOutcomes, Readings};
-ghost use Rattle.sh_tree.specs.Views.{script_tree};
-ghost use Rattle.pash.specs.Forms.{as_form, form_of};
-ghost use Rattle.pash.specs.Readings.{AreReadAlike};
-ghost use Rattle.pash.specs.Meaning.{only_line, usage as usage_lem, refusal_reply, no_script as no_script_lem, file_of, reply_of_form, reply_of_text, reply_of_file, reply_of_script, reply_of_command};
-ghost use Rattle.pash.specs.Runs.{Meets, GrewByPrefixes, Stops};
+ghost use Rattle.sh_eval.specs.Contract.{drawn_of, faults_of, seen_of};
+ghost use Rattle.pash.specs.Answers.{IsOfScript, IsWithoutScript, line_of, refusing};
+ghost use Rattle.pash.specs.Meaning.{meaning, run_of, told};
+ghost use Rattle.pash.specs.Runs.{DrawsNothing, OnlyTold, RunsAs, Stops, TellsOnly, came_of as came_of_lem, point_of};
+ghost use Rattle.pash.specs.Starts.{EndsWith, IfAnswered, RunsNothing, as_start};
+ghost use Rattle.pash.specs.Words.{command_of, texts};
 
-use crate::answers::{Outcome, Refusal, Stop, Why, of_tree, refusal_of};
-use crate::cat::cat;
-use crate::counting::run_count;
-use crate::forms::{Form, read_form};
-use crate::lines::{NO_SUCH_FILE, diagnostic, refusal_line, say};
-use crate::reading::read_script;
-use crate::words::read_command;
-use ps_lines::Text;
-use ps_world::{Path, Place, Sink, Tree, look, read_front};
-use sh_lex::MAX_SCRIPT;
-use sh_parse::ParseRefusal;
-use sh_tree::Script;
+use crate::answers::{Outcome, Stop, Why, answered, ended, of_sink};
+use crate::lines::answer_line;
+use crate::starts::{Start, begin};
+use fl_core::Engine;
+use ps_world::{Gate, Sink, Source, Tree, write_all};
+use sh_eval::{How, Played, run_script};
 use std::alloc::Global;
 
-/// The program's name.
-const NAME: &[u8] = b"pash";
-
-const USAGE: &[u8] = b"pash: usage\n";
-
-/// The status of every answer that is no run.
-const REFUSED: u8 = 2;
-
-/// Tells a line, and nothing else.
-fn answer_line<E: Sink>(err: &mut E, line: &[u8], why: Why) -> Result<Outcome, Stop>
-    ensures why { IfOk result (λ outcome. outcome.why ≡ why) }
-    ensures answer { IfOk result (λ outcome. (out : Option (List ℕ)) →
-        Meets (only_line line.now why) outcome.status outcome.why out out (E.taken err.old) (E.taken err.new)) }
-    ensures part { OnErr result ((out : Option (List ℕ)) →
-        GrewByPrefixes out out (E.taken err.old) (E.taken err.new) [] line.now) }
-    ensures cause { Stops
-        (record { out = 0; err = E.faults err.old; tree = 0 })
-        (record { out = 0; err = E.faults err.new; tree = 0 }) result }
-{
-    match say(err, line) {
-        Ok(()) => Ok(Outcome {
-            status: REFUSED,
-            why,
-        }),
-        Err(stop) => Err(stop),
-    }
+/// How a run came out, with the input and the output that it was handed.
+pub struct Ran<I, O> {
+    pub outcome: Result<Outcome, Stop>,
+    pub input: I,
+    pub out: O,
 }
 
-/// The words are no command.
-fn usage<E: Sink>(err: &mut E) -> Result<Outcome, Stop>
-    ensures why { IfOk result (λ outcome. outcome.why ≡ Why.Usage) }
-    ensures answer { IfOk result (λ outcome. (out : Option (List ℕ)) →
-        Meets usage_lem outcome.status outcome.why out out (E.taken err.old) (E.taken err.new)) }
-    ensures part { OnErr result ((out : Option (List ℕ)) →
-        GrewByPrefixes out out (E.taken err.old) (E.taken err.new) [] usage_lem.errors) }
-    ensures cause { Stops
-        (record { out = 0; err = E.faults err.old; tree = 0 })
-        (record { out = 0; err = E.faults err.new; tree = 0 }) result }
-{
-    answer_line(err, USAGE, Why::Usage)
-}
-
-/// The script isn't run, for this cause.
-fn refuse<E: Sink>(alloc: Global, err: &mut E, cause: Refusal) -> Result<Outcome, Stop>
-    ensures why { IfOk result (λ outcome. IsOfScript outcome.why) }
-    ensures answer { IfOk result (λ outcome. (out : Option (List ℕ)) →
-        Meets (refusal_reply cause) outcome.status outcome.why out out (E.taken err.old) (E.taken err.new)) }
-    ensures part { OnErr result ((out : Option (List ℕ)) →
-        GrewByPrefixes out out (E.taken err.old) (E.taken err.new) [] (refusal_reply cause).errors) }
-    ensures cause { Stops
-        (record { out = 0; err = E.faults err.old; tree = 0 })
-        (record { out = 0; err = E.faults err.new; tree = 0 }) result }
-{
-    match refusal_line(alloc, &cause) {
-        Ok(line) => answer_line(err, line.as_slice(), Why::Refused(cause)),
-        Err(_refused) => Err(Stop::Memory),
-    }
-}
-
-/// The script's path names no file.
-fn no_script<E: Sink>(alloc: Global, err: &mut E, script: &[u8]) -> Result<Outcome, Stop>
-    ensures why { IfOk result (λ outcome. IsOfScript outcome.why) }
-    ensures answer { IfOk result (λ outcome. (out : Option (List ℕ)) →
-        Meets (no_script_lem script.now) outcome.status outcome.why out out (E.taken err.old) (E.taken err.new)) }
-    ensures part { OnErr result ((out : Option (List ℕ)) →
-        GrewByPrefixes out out (E.taken err.old) (E.taken err.new) [] (no_script_lem script.now).errors) }
-    ensures cause { Stops
-        (record { out = 0; err = E.faults err.old; tree = 0 })
-        (record { out = 0; err = E.faults err.new; tree = 0 }) result }
-{
-    match no_script_answer(alloc, script) {
-        Ok((line, why)) => answer_line(err, line.as_slice(), why),
-        Err(_refused) => Err(Stop::Memory),
-    }
-}
-
-/// The line and the answer for a script that isn't there.
-fn no_script_answer(alloc: Global, script: &[u8]) -> Result<(Vec<u8>, Why), ps_lines::Memory>
-    ensures { IfOk result (λ told. (told.0.items ≡ (no_script_lem script.now).errors) × (told.1 ≡ (no_script_lem script.now).answer)) }
-{
-    let line = diagnostic(alloc, NAME, script, NO_SUCH_FILE)?;
-    let path = Text::copy_of(alloc, script)?;
-    Ok((line, Why::NoScript(path)))
-}
-
-/// Runs a script's text, where it is a script.
-#[tactic(auto, using(ps_world::proofs::ToldLemmas::grew_by_nothing))]
-fn run_text<T: Tree, O: Sink, E: Sink>(
+/// Does what the words ask for, tells the line of the answer, and sends on all that was written.
+pub fn run_words<T: Tree, I: Source + Send, O: Sink + Send, E: Sink, G: Gate, X: Engine>(
     alloc: Global,
-    tree: &mut T,
-    out: &mut O,
-    err: &mut E,
-    width: u32,
-    text: &[u8],
-) -> Result<Outcome, Stop>
-    requires spread { (1 ≤ width) × (width ≤ MOST_WIDTH) }
-    requires whole { IfSome (T.state tree.old).held NoWriterOut }
-    ensures why { IfOk result (λ outcome. IsOfScript outcome.why) }
-    ensures answer { IfOk result (λ outcome. (reads : Readings) → AreOutcomes reads → IfSome (T.state tree.old).held (λ files.
-        Meets (reply_of_text reads files (T.state tree.old).home text.now) outcome.status outcome.why
-        (O.taken out.old) (O.taken out.new) (E.taken err.old) (E.taken err.new))) }
-    ensures part { OnErr result ((reads : Readings) → AreOutcomes reads → IfSome (T.state tree.old).held (λ files.
-        GrewByPrefixes (O.taken out.old) (O.taken out.new) (E.taken err.old) (E.taken err.new)
-        (reply_of_text reads files (T.state tree.old).home text.now).output (reply_of_text reads files (T.state tree.old).home text.now).errors)) }
-    ensures lent { OnlyLent (T.state tree.old) (T.state tree.new) }
-    ensures cause { Stops
-        (record { out = O.faults out.old; err = E.faults err.old; tree = T.faults tree.old })
-        (record { out = O.faults out.new; err = E.faults err.new; tree = T.faults tree.new }) result }
-{
-    match read_script(alloc, text) {
-        Ok(script) => run_read(alloc, tree, out, err, width, &script),
-        Err(ParseRefusal::Refused(cause)) => refuse(alloc, err, refusal_of(cause)),
-        Err(ParseRefusal::Memory) => Err(Stop::Memory),
-    }
-}
-
-/// Runs a script that was read, where its form is built.
-#[tactic(auto, using(ps_world::proofs::ToldLemmas::grew_by_nothing))]
-fn run_read<T: Tree, O: Sink, E: Sink>(
-    alloc: Global,
-    tree: &mut T,
-    out: &mut O,
-    err: &mut E,
-    width: u32,
-    script: &Script,
-) -> Result<Outcome, Stop>
-    requires spread { (1 ≤ width) × (width ≤ MOST_WIDTH) }
-    requires whole { IfSome (T.state tree.old).held NoWriterOut }
-    ensures why { IfOk result (λ outcome. IsOfScript outcome.why) }
-    ensures answer { IfOk result (λ outcome. IfSome (T.state tree.old).held (λ files.
-        Meets (reply_of_form files (T.state tree.old).home (form_of (script_tree script.now))) outcome.status outcome.why
-        (O.taken out.old) (O.taken out.new) (E.taken err.old) (E.taken err.new))) }
-    ensures part { OnErr result (IfSome (T.state tree.old).held (λ files.
-        GrewByPrefixes (O.taken out.old) (O.taken out.new) (E.taken err.old) (E.taken err.new)
-        (reply_of_form files (T.state tree.old).home (form_of (script_tree script.now))).output
-        (reply_of_form files (T.state tree.old).home (form_of (script_tree script.now))).errors)) }
-    ensures lent { OnlyLent (T.state tree.old) (T.state tree.new) }
-    ensures cause { Stops
-        (record { out = O.faults out.old; err = E.faults err.old; tree = T.faults tree.old })
-        (record { out = O.faults out.new; err = E.faults err.new; tree = T.faults tree.new }) result }
-{
-    match read_form(alloc, script, width) {
-        Ok(Some(form)) => run_form(alloc, tree, out, err, &form),
-        Ok(None) => refuse(alloc, err, Refusal::NotBuilt),
-        Err(_refused) => Err(Stop::Memory),
-    }
-}
-
-/// Runs a script of a form that is built.
-#[tactic(auto, using(ps_world::proofs::ToldLemmas::grew_by_nothing))]
-fn run_form<T: Tree, O: Sink, E: Sink>(
-    alloc: Global,
-    tree: &mut T,
-    out: &mut O,
-    err: &mut E,
-    form: &Form<'_>,
-) -> Result<Outcome, Stop>
-    requires { IfSome (T.state tree.old).held NoWriterOut }
-    ensures why { IfOk result (λ outcome. IsOfScript outcome.why) }
-    ensures answer { IfOk result (λ outcome. IfSome (T.state tree.old).held (λ files.
-        Meets (reply_of_form files (T.state tree.old).home (Some (as_form form.now))) outcome.status outcome.why
-        (O.taken out.old) (O.taken out.new) (E.taken err.old) (E.taken err.new))) }
-    ensures part { OnErr result (IfSome (T.state tree.old).held (λ files.
-        GrewByPrefixes (O.taken out.old) (O.taken out.new) (E.taken err.old) (E.taken err.new)
-        (reply_of_form files (T.state tree.old).home (Some (as_form form.now))).output
-        (reply_of_form files (T.state tree.old).home (Some (as_form form.now))).errors)) }
-    ensures lent { OnlyLent (T.state tree.old) (T.state tree.new) }
-    ensures cause { Stops
-        (record { out = O.faults out.old; err = E.faults err.old; tree = T.faults tree.old })
-        (record { out = O.faults out.new; err = E.faults err.new; tree = T.faults tree.new }) result }
-{
-    match form {
-        Form::Cat(operands) => match cat(alloc, tree, out, err, operands.as_slice()) {
-            Ok(status) => Ok(Outcome {
-                status,
-                why: Why::Finished,
-            }),
-            Err(stop) => Err(stop),
-        },
-        Form::Count(count) => match run_count(alloc, tree, out, err, count) {
-            Ok(()) => Ok(Outcome {
-                status: 0,
-                why: Why::Finished,
-            }),
-            Err(stop) => Err(stop),
-        },
-    }
-}
-
-/// Runs the script in a file.
-#[tactic(auto, using(ps_world::proofs::ToldLemmas::grew_by_nothing))]
-fn run_file<T: Tree, O: Sink, E: Sink>(
-    alloc: Global,
-    tree: &mut T,
-    out: &mut O,
-    err: &mut E,
-    width: u32,
-    path: &Path,
-) -> Result<Outcome, Stop>
-    requires spread { (1 ≤ width) × (width ≤ MOST_WIDTH) }
-    requires whole { IfSome (T.state tree.old).held NoWriterOut }
-    requires file { IfSome (T.state tree.old).held (λ files. IsFileAt files path.now) }
-    ensures why { IfOk result (λ outcome. IsOfScript outcome.why) }
-    ensures answer { IfOk result (λ outcome. (reads : Readings) → AreOutcomes reads → IfSome (T.state tree.old).held (λ files.
-        Meets (reply_of_text reads files (T.state tree.old).home (bytes_at files path.now)) outcome.status outcome.why
-        (O.taken out.old) (O.taken out.new) (E.taken err.old) (E.taken err.new))) }
-    ensures part { OnErr result ((reads : Readings) → AreOutcomes reads → IfSome (T.state tree.old).held (λ files.
-        GrewByPrefixes (O.taken out.old) (O.taken out.new) (E.taken err.old) (E.taken err.new)
-        (reply_of_text reads files (T.state tree.old).home (bytes_at files path.now)).output
-        (reply_of_text reads files (T.state tree.old).home (bytes_at files path.now)).errors)) }
-    ensures lent { OnlyLent (T.state tree.old) (T.state tree.new) }
-    ensures cause { Stops
-        (record { out = O.faults out.old; err = E.faults err.old; tree = T.faults tree.old })
-        (record { out = O.faults out.new; err = E.faults err.new; tree = T.faults tree.new }) result }
-{
-    match load_script(alloc, tree, path) {
-        Ok(text) => run_text(alloc, tree, out, err, width, text.as_slice()),
-        Err(stop) => Err(stop),
-    }
-}
-
-/// Reads a script, as far as a script goes; answers its text, or the front of one that is too long.
-fn load_script<T: Tree>(alloc: Global, tree: &mut T, path: &Path) -> Result<Vec<u8>, Stop>
-    requires { IfSome (T.state tree.old).held (λ files. IsFileAt files path.now) }
-    ensures text { IfOk result (λ text. IfSome (T.state tree.old).held (λ files.
-        AreReadAlike text.items (bytes_at files path.now))) }
-    ensures lent { OnlyLent (T.state tree.old) (T.state tree.new) }
-    ensures cause { Stops
-        (record { out = 0; err = 0; tree = T.faults tree.old })
-        (record { out = 0; err = 0; tree = T.faults tree.new }) result }
-{
-    let mut reader = match tree.open(path) {
-        Ok(reader) => reader,
-        Err(error) => return Err(of_tree(error)),
-    };
-    let text = read_front(alloc, &mut reader, MAX_SCRIPT + 1);
-    tree.end_read(path, reader);
-    match text {
-        Ok(text) => Ok(text),
-        Err(error) => Err(of_tree(error)),
-    }
-}
-
-/// Runs the script at a place, if a file is there.
-#[tactic(auto, using(ps_world::proofs::ToldLemmas::grew_by_nothing))]
-fn run_place<T: Tree, O: Sink, E: Sink>(
-    alloc: Global,
-    tree: &mut T,
-    out: &mut O,
-    err: &mut E,
-    width: u32,
-    script: &[u8],
-    place: Place,
-) -> Result<Outcome, Stop>
-    requires spread { (1 ≤ width) × (width ≤ MOST_WIDTH) }
-    requires whole { IfSome (T.state tree.old).held NoWriterOut }
-    requires file { IfSome (T.state tree.old).held (λ files. StandsIn files place) }
-    ensures why { IfOk result (λ outcome. IsOfScript outcome.why) }
-    ensures answer { IfOk result (λ outcome. (reads : Readings) → AreOutcomes reads → IfSome (T.state tree.old).held (λ files.
-        Meets (reply_of_file reads files (T.state tree.old).home script.now (file_of place)) outcome.status outcome.why
-        (O.taken out.old) (O.taken out.new) (E.taken err.old) (E.taken err.new))) }
-    ensures part { OnErr result ((reads : Readings) → AreOutcomes reads → IfSome (T.state tree.old).held (λ files.
-        GrewByPrefixes (O.taken out.old) (O.taken out.new) (E.taken err.old) (E.taken err.new)
-        (reply_of_file reads files (T.state tree.old).home script.now (file_of place)).output
-        (reply_of_file reads files (T.state tree.old).home script.now (file_of place)).errors)) }
-    ensures lent { OnlyLent (T.state tree.old) (T.state tree.new) }
-    ensures cause { Stops
-        (record { out = O.faults out.old; err = E.faults err.old; tree = T.faults tree.old })
-        (record { out = O.faults out.new; err = E.faults err.new; tree = T.faults tree.new }) result }
-{
-    match script_path(place) {
-        Some(path) => run_file(alloc, tree, out, err, width, &path),
-        None => no_script(alloc, err, script),
-    }
-}
-
-/// The path of the file that a place names, where it names one.
-fn script_path(place: Place) -> Option<Path>
-    ensures { result ≡ file_of place }
-{
-    match place {
-        Place::File(path) => Some(path),
-        Place::Missing | Place::Makeable(_) | Place::Dir(_) | Place::Null => None,
-    }
-}
-
-/// Runs the script that a path names.
-#[tactic(auto, using(ps_world::proofs::ToldLemmas::grew_by_nothing))]
-fn run_script<T: Tree, O: Sink, E: Sink>(
-    alloc: Global,
-    tree: &mut T,
-    out: &mut O,
-    err: &mut E,
-    width: u32,
-    script: &[u8],
-) -> Result<Outcome, Stop>
-    requires spread { (1 ≤ width) × (width ≤ MOST_WIDTH) }
-    requires whole { IfSome (T.state tree.old).held NoWriterOut }
-    ensures why { IfOk result (λ outcome. IsOfScript outcome.why) }
-    ensures answer { IfOk result (λ outcome. (reads : Readings) → AreOutcomes reads → IfSome (T.state tree.old).held (λ files.
-        Meets (reply_of_script reads files (T.state tree.old).home script.now) outcome.status outcome.why
-        (O.taken out.old) (O.taken out.new) (E.taken err.old) (E.taken err.new))) }
-    ensures part { OnErr result ((reads : Readings) → AreOutcomes reads → IfSome (T.state tree.old).held (λ files.
-        GrewByPrefixes (O.taken out.old) (O.taken out.new) (E.taken err.old) (E.taken err.new)
-        (reply_of_script reads files (T.state tree.old).home script.now).output
-        (reply_of_script reads files (T.state tree.old).home script.now).errors)) }
-    ensures lent { OnlyLent (T.state tree.old) (T.state tree.new) }
-    ensures cause { Stops
-        (record { out = O.faults out.old; err = E.faults err.old; tree = T.faults tree.old })
-        (record { out = O.faults out.new; err = E.faults err.new; tree = T.faults tree.new }) result }
-{
-    match look(alloc, tree, script) {
-        Ok(place) => run_place(alloc, tree, out, err, width, script, place),
-        Err(error) => Err(of_tree(error)),
-    }
-}
-
-/// Does what the words ask for.
-#[tactic(auto, using(ps_world::proofs::ToldLemmas::grew_by_nothing))]
-pub fn run_command<T: Tree, O: Sink, E: Sink>(
-    alloc: Global,
-    tree: &mut T,
-    out: &mut O,
-    err: &mut E,
     words: &[String],
-) -> Result<Outcome, Stop>
+    tree: &mut T,
+    input: I,
+    out: O,
+    err: &mut E,
+    gate: &G,
+    engine: &mut X,
+) -> Ran<I, O>
     requires whole { IfSome (T.state tree.old).held NoWriterOut }
-    ensures why { IfOk result (λ outcome. MatchOption (command_of (texts words.now))
+    ensures runs { RunsAs (λ reads expansions. meaning reads expansions (texts words.now))
+        (point_of (T.state tree.old) (seen_of (drawn_of (I.left input) (X.used engine.old)) (O.taken out) (E.taken err.old))
+        (faults_of (I.faults input) (O.faults out) (E.faults err.old) (T.faults tree.old)))
+        result.outcome
+        (point_of (T.state tree.new) (seen_of (drawn_of (I.left result.input) (X.used engine.new)) (O.taken result.out) (E.taken err.new))
+        (faults_of (I.faults result.input) (O.faults result.out) (E.faults err.new) (T.faults tree.new))) }
+    ensures sent { OnOk result.outcome ((O.sent result.out ≡ O.taken result.out) × (E.sent err.new ≡ E.taken err.new)) }
+    ensures why { IfOk result.outcome (λ outcome. MatchOption (command_of (texts words.now))
         (outcome.why ≡ Why.Usage) (λ _. IsOfScript outcome.why)) }
-    ensures answer { IfOk result (λ outcome. (reads : Readings) → AreOutcomes reads → IfSome (T.state tree.old).held (λ files.
-        Meets (reply_of_command reads files (T.state tree.old).home (command_of (texts words.now))) outcome.status outcome.why
-        (O.taken out.old) (O.taken out.new) (E.taken err.old) (E.taken err.new))) }
-    ensures part { OnErr result ((reads : Readings) → AreOutcomes reads → IfSome (T.state tree.old).held (λ files.
-        GrewByPrefixes (O.taken out.old) (O.taken out.new) (E.taken err.old) (E.taken err.new)
-        (reply_of_command reads files (T.state tree.old).home (command_of (texts words.now))).output
-        (reply_of_command reads files (T.state tree.old).home (command_of (texts words.now))).errors)) }
-    ensures usage { IfNone (command_of (texts words.now)) (MatchResult result
-        (λ outcome. Meets usage_lem outcome.status outcome.why (O.taken out.old) (O.taken out.new) (E.taken err.old) (E.taken err.new))
-        (λ _. GrewByPrefixes (O.taken out.old) (O.taken out.new) (E.taken err.old) (E.taken err.new) [] usage_lem.errors)) }
-    ensures lent { OnlyLent (T.state tree.old) (T.state tree.new) }
-    ensures cause { Stops
-        (record { out = O.faults out.old; err = E.faults err.old; tree = T.faults tree.old })
-        (record { out = O.faults out.new; err = E.faults err.new; tree = T.faults tree.new }) result }
+    ensures without { IfOk result.outcome (λ outcome. IsWithoutScript outcome.why → (result.input ≡ input) × OnlyLent (T.state tree.old) (T.state tree.new)
+        × OnlyTold outcome.why outcome.status
+        (seen_of (drawn_of (I.left input) (X.used engine.old)) (O.taken out) (E.taken err.old))
+        (seen_of (drawn_of (I.left result.input) (X.used engine.new)) (O.taken result.out) (E.taken err.new))) }
+    ensures nothing { (reads : Readings) → AreOutcomes reads → RunsNothing reads (T.state tree.old) (command_of (texts words.now)) →
+        (result.input ≡ input) × OnlyLent (T.state tree.old) (T.state tree.new) × DrawsNothing
+        (seen_of (drawn_of (I.left input) (X.used engine.old)) (O.taken out) (E.taken err.old))
+        (seen_of (drawn_of (I.left result.input) (X.used engine.new)) (O.taken result.out) (E.taken err.new)) }
 {
-    match read_command(words) {
-        Some(command) => run_script(alloc, tree, out, err, command.width, command.script),
-        None => usage(err),
+    match begin(alloc, tree, words) {
+        Ok(start) => run_and_tell(alloc, start, tree, input, out, err, gate, engine),
+        Err(stop) => Ran {
+            outcome: Err(stop),
+            input,
+            out,
+        },
+    }
+}
+
+/// Runs what there is to run, tells the line of the answer, and sends on all that was written.
+fn run_and_tell<T: Tree, I: Source + Send, O: Sink + Send, E: Sink, G: Gate, X: Engine>(
+    alloc: Global,
+    start: Start,
+    tree: &mut T,
+    input: I,
+    out: O,
+    err: &mut E,
+    gate: &G,
+    engine: &mut X,
+) -> Ran<I, O>
+    requires whole { IfSome (T.state tree.old).held NoWriterOut }
+    ensures runs { RunsAs (λ reads expansions outside. told (run_of (as_start start) expansions outside))
+        (point_of (T.state tree.old) (seen_of (drawn_of (I.left input) (X.used engine.old)) (O.taken out) (E.taken err.old))
+        (faults_of (I.faults input) (O.faults out) (E.faults err.old) (T.faults tree.old)))
+        result.outcome
+        (point_of (T.state tree.new) (seen_of (drawn_of (I.left result.input) (X.used engine.new)) (O.taken result.out) (E.taken err.new))
+        (faults_of (I.faults result.input) (O.faults result.out) (E.faults err.new) (T.faults tree.new))) }
+    ensures sent { OnOk result.outcome ((O.sent result.out ≡ O.taken result.out) × (E.sent err.new ≡ E.taken err.new)) }
+    ensures ends { IfOk result.outcome (λ outcome. EndsWith start outcome.why) }
+    ensures answered { IfAnswered start (λ answer. (result.input ≡ input) × (T.state tree.new ≡ T.state tree.old) × TellsOnly answer result.outcome
+        (seen_of (drawn_of (I.left input) (X.used engine.old)) (O.taken out) (E.taken err.old))
+        (seen_of (drawn_of (I.left result.input) (X.used engine.new)) (O.taken result.out) (E.taken err.new))) }
+{
+    let Ran {
+        outcome,
+        input,
+        out,
+    } = run_start(alloc, start, tree, input, out, err, gate, engine);
+    match outcome {
+        Ok(outcome) => {
+            let mut out = out;
+            let outcome = tell(alloc, outcome, &mut out, err);
+            Ran {
+                outcome,
+                input,
+                out,
+            }
+        }
+        Err(stop) => Ran {
+            outcome: Err(stop),
+            input,
+            out,
+        },
+    }
+}
+
+/// Runs the script, where there is one to run.
+fn run_start<T: Tree, I: Source + Send, O: Sink + Send, E: Sink, G: Gate, X: Engine>(
+    alloc: Global,
+    start: Start,
+    tree: &mut T,
+    input: I,
+    out: O,
+    err: &mut E,
+    gate: &G,
+    engine: &mut X,
+) -> Ran<I, O>
+    requires whole { IfSome (T.state tree.old).held NoWriterOut }
+    ensures runs { RunsAs (λ reads. run_of (as_start start))
+        (point_of (T.state tree.old) (seen_of (drawn_of (I.left input) (X.used engine.old)) (O.taken out) (E.taken err.old))
+        (faults_of (I.faults input) (O.faults out) (E.faults err.old) (T.faults tree.old)))
+        result.outcome
+        (point_of (T.state tree.new) (seen_of (drawn_of (I.left result.input) (X.used engine.new)) (O.taken result.out) (E.taken err.new))
+        (faults_of (I.faults result.input) (O.faults result.out) (E.faults err.new) (T.faults tree.new))) }
+    ensures ends { IfOk result.outcome (λ outcome. EndsWith start outcome.why) }
+    ensures answered { IfAnswered start (λ answer. (result.input ≡ input) × (T.state tree.new ≡ T.state tree.old) × (result.outcome ≡ Ok (refusing answer))
+        × (seen_of (drawn_of (I.left result.input) (X.used engine.new)) (O.taken result.out) (E.taken err.new)
+        ≡ seen_of (drawn_of (I.left input) (X.used engine.old)) (O.taken out) (E.taken err.old))) }
+{
+    match start {
+        Start::Answered(why) => Ran {
+            outcome: Ok(answered(why)),
+            input,
+            out,
+        },
+        Start::Script(script, shell) => {
+            let mut shell = shell;
+            let Played { how, input, out } = run_script(
+                alloc, &script, &mut shell, tree, input, out, err, gate, engine,
+            );
+            Ran {
+                outcome: came_of(how, shell.status()),
+                input,
+                out,
+            }
+        }
+    }
+}
+
+/// The answer of an evaluation that is over, where `status` is `$?`; or why it stopped.
+fn came_of(how: How, status: u8) -> Result<Outcome, Stop>
+    ensures { result ≡ came_of_lem how status }
+{
+    match how {
+        How::Gone(flow) => Ok(ended(flow, status)),
+        How::ReadFault => Err(Stop::Read),
+        How::WriteFault => Err(Stop::Write),
+        How::TreeFault => Err(Stop::Tree),
+        How::Memory => Err(Stop::Memory),
+    }
+}
+
+/// Tells the line of an answer, and sends on all that was written.
+#[tactic(auto, using(ps_world::proofs::ToldLemmas::grew_by_nothing))]
+fn tell<O: Sink, E: Sink>(
+    alloc: Global,
+    outcome: Outcome,
+    out: &mut O,
+    err: &mut E,
+) -> Result<Outcome, Stop>
+    ensures outcome { IfOk result (λ same. same ≡ outcome) }
+    ensures out { O.taken out.new ≡ O.taken out.old }
+    ensures ok { OnOk result (E.taken err.new ≡ then_bytes (E.taken err.old) (line_of outcome.why)) }
+    ensures part { OnErr result (GrewByPrefix (E.taken err.old) (E.taken err.new) (line_of outcome.why)) }
+    ensures sent { OnOk result ((O.sent out.new ≡ O.taken out.new) × (E.sent err.new ≡ E.taken err.new)) }
+    ensures cause { Stops (faults_of 0 (O.faults out.old) (E.faults err.old) 0) (faults_of 0 (O.faults out.new) (E.faults err.new) 0) result }
+{
+    match answer_line(alloc, &outcome.why) {
+        Ok(line) => match send(line.as_slice(), out, err) {
+            Ok(()) => Ok(outcome),
+            Err(stop) => Err(stop),
+        },
+        Err(_refused) => Err(Stop::Memory),
+    }
+}
+
+/// Writes a line to the errors, and sends on all that was written.
+#[tactic(auto, using(ps_world::proofs::ToldLemmas::grew_by_whole))]
+fn send<O: Sink, E: Sink>(line: &[u8], out: &mut O, err: &mut E) -> Result<(), Stop>
+    ensures out { O.taken out.new ≡ O.taken out.old }
+    ensures ok { OnOk result (E.taken err.new ≡ then_bytes (E.taken err.old) line.now) }
+    ensures part { OnErr result (GrewByPrefix (E.taken err.old) (E.taken err.new) line.now) }
+    ensures sent { OnOk result ((O.sent out.new ≡ O.taken out.new) × (E.sent err.new ≡ E.taken err.new)) }
+    ensures cause { Stops (faults_of 0 (O.faults out.old) (E.faults err.old) 0) (faults_of 0 (O.faults out.new) (E.faults err.new) 0) result }
+{
+    match write_all(err, line) {
+        Ok(()) => flush(out, err),
+        Err(error) => Err(of_sink(error)),
+    }
+}
+
+/// Sends on all that was written.
+fn flush<O: Sink, E: Sink>(out: &mut O, err: &mut E) -> Result<(), Stop>
+    ensures taken { (O.taken out.new ≡ O.taken out.old) × (E.taken err.new ≡ E.taken err.old) }
+    ensures sent { OnOk result ((O.sent out.new ≡ O.taken out.new) × (E.sent err.new ≡ E.taken err.new)) }
+    ensures cause { Stops (faults_of 0 (O.faults out.old) (E.faults err.old) 0) (faults_of 0 (O.faults out.new) (E.faults err.new) 0) result }
+{
+    if let Err(error) = out.flush() {
+        return Err(of_sink(error));
+    }
+    match err.flush() {
+        Ok(()) => Ok(()),
+        Err(error) => Err(of_sink(error)),
     }
 }

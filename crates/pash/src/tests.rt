@@ -3,18 +3,21 @@ ghost use Rattle.std.specs.Prelude.{IfSome};
 ghost use Rattle.ps_world.specs.Files.{NoWriterOut};
 
 mod faults;
-mod first;
 mod refusals;
 mod rows;
 mod whole;
 
-use crate::answers::{Refusal, Why};
+use crate::answers::Why;
 use crate::top::pash;
+use fl_core::{Engine, InTurn};
 use ps_fakes::{MemSink, MemSource, MemTree, OpenGate};
 use ps_world::{Source, Tree};
+use sh_eval::Refusal;
 use std::alloc::{AllocError, Global};
 use std::process::Abort;
+use std::sync::Wait;
 use std::test::Fail;
+use std::thread::Threads;
 
 /// A path of the tree, and a file's bytes.
 type Entry<'a> = (&'a [u8], Option<&'a [u8]>);
@@ -28,23 +31,23 @@ struct Reply<'a> {
     why: Why,
 }
 
-/// What a script tells that runs to its end with status 0 and no line of error.
-fn finished(output: &[u8]) -> Reply<'_> {
+/// What a script tells that runs to its end with this status.
+fn finished<'a>(output: &'a [u8], errors: &'a [u8], status: u8) -> Reply<'a> {
     Reply {
         output,
-        errors: b"",
-        status: 0,
+        errors,
+        status,
         why: Why::Finished,
     }
 }
 
-/// What a script tells that runs to its end with status 1 and these errors.
-fn complained<'a>(output: &'a [u8], errors: &'a [u8]) -> Reply<'a> {
+/// What a script tells that is refused, behind this output.
+fn refused<'a>(output: &'a [u8], line: &'a [u8], cause: Refusal) -> Reply<'a> {
     Reply {
         output,
-        errors,
-        status: 1,
-        why: Why::Finished,
+        errors: line,
+        status: 2,
+        why: Why::Refused(cause),
     }
 }
 
@@ -53,6 +56,7 @@ fn complained<'a>(output: &'a [u8], errors: &'a [u8]) -> Reply<'a> {
 enum Failing {
     Nothing,
     Tree(u64),
+    Input(u64),
     Output(u64),
     Errors(u64),
 }
@@ -62,6 +66,14 @@ impl Failing {
     fn of_tree(self, alloc: Global) -> Result<Vec<u64>, AllocError> {
         match self {
             Failing::Tree(call) => Vec::from_slice(alloc, &[call]),
+            _ => Ok(Vec::new(alloc)),
+        }
+    }
+
+    /// The calls of the input that fail.
+    fn of_input(self, alloc: Global) -> Result<Vec<u64>, AllocError> {
+        match self {
+            Failing::Input(call) => Vec::from_slice(alloc, &[call]),
             _ => Ok(Vec::new(alloc)),
         }
     }
@@ -81,21 +93,6 @@ impl Failing {
             _ => Ok(Vec::new(alloc)),
         }
     }
-}
-
-/// What a script tells that isn't run.
-fn refused(line: &[u8], cause: Refusal) -> Reply<'_> {
-    Reply {
-        output: b"",
-        errors: line,
-        status: 2,
-        why: Why::Refused(cause),
-    }
-}
-
-/// What a script tells of a form that isn't built.
-fn not_built() -> Reply<'static> {
-    refused(b"pash: refused: NotBuilt\n", Refusal::NotBuilt)
 }
 
 /// The input of every run.
@@ -125,15 +122,11 @@ impl Ran {
         reply.output.starts_with(self.out.taken()) && reply.errors.starts_with(self.err.taken())
     }
 
-    /// Whether all of the input is left, and the tree lent nothing but one reader, which came back.
-    fn has_only_read_the_script(&mut self) -> bool {
+    /// Whether this is left of the input.
+    fn has_left(&mut self, text: &[u8]) -> bool {
         let mut bytes = [0; 8];
         match self.input.read(&mut bytes) {
-            Ok(count) => {
-                count == INPUT.len()
-                    && bytes.starts_with(INPUT)
-                    && (self.tree.lent(), self.tree.back()) == (1, 1)
-            }
+            Ok(count) => count == text.len() && bytes.starts_with(text),
             Err(_) => false,
         }
     }
@@ -145,7 +138,10 @@ impl Ran {
 
     /// Whether a call failed, or a reader came back of which one had.
     fn has_fault(&self) -> bool {
-        self.tree.faults() > 0 || self.out.faults() > 0 || self.err.faults() > 0
+        self.tree.faults() > 0
+            || self.input.faults() > 0
+            || self.out.faults() > 0
+            || self.err.faults() > 0
     }
 }
 
@@ -162,17 +158,23 @@ fn owned_words(alloc: Global, words: &[&str]) -> Result<Vec<String>, AllocError>
     Ok(owned)
 }
 
-/// Does what the words ask for over a tree, with an output and errors of which calls may fail.
-fn run_over(
+/// An engine that has run nothing, for the host that a test has.
+fn in_turn<H: Threads + Wait + Sync>(_rt: &H, alloc: Global) -> InTurn<H> {
+    InTurn::new(alloc)
+}
+
+/// Does what the words ask for over a tree, with objects of which calls may fail, on an engine.
+fn run_on<X: Engine>(
     alloc: Global,
     words: &[&str],
     tree: MemTree,
     failing: Failing,
+    engine: &mut X,
 ) -> Result<Ran, AllocError>
     requires whole { IfSome (⟦<MemTree as Tree>⟧.state tree).held NoWriterOut }
 {
     let words = owned_words(alloc, words)?;
-    let input = MemSource::new(Vec::from_slice(alloc, INPUT)?, Vec::new(alloc));
+    let input = MemSource::new(Vec::from_slice(alloc, INPUT)?, failing.of_input(alloc)?);
     let out = MemSink::new(alloc, failing.of_output(alloc)?);
     let mut err = MemSink::new(alloc, failing.of_errors(alloc)?);
     let mut tree = tree;
@@ -184,6 +186,7 @@ fn run_over(
         out,
         &mut err,
         &OpenGate,
+        engine,
     );
     Ok(Ran {
         tree,
@@ -196,7 +199,7 @@ fn run_over(
 }
 
 /// Does what the words ask for in the working directory `/w`, over a tree with these entries.
-fn run<R: Abort + AllocGlobal>(
+fn run<R: Abort + AllocGlobal + Threads + Wait + Sync>(
     rt: &R,
     words: &[&str],
     entries: &[Entry],
@@ -205,7 +208,7 @@ fn run<R: Abort + AllocGlobal>(
     let alloc = rt.alloc();
     let tree = MemTree::of_table(alloc, b"/w", entries, failing.of_tree(alloc)?)?;
     let tree = tree.expect(rt, "the entries make a tree");
-    Ok(run_over(alloc, words, tree, failing)?)
+    Ok(run_on(alloc, words, tree, failing, &mut in_turn(rt, alloc))?)
 }
 
 /// A text so often.

@@ -1,68 +1,91 @@
 //! The top call.
-ghost use Rattle.std.specs.Prelude.{◌≡◌, ◌^◌, ◌-◌, ◌<◌, ◌⊎◌, [], IfOk, IfSome, IfNone, None, OnOk, OnErr, MatchOption, MatchResult};
+ghost use Rattle.std.specs.Prelude.{◌≡◌, ◌^◌, ◌-◌, ◌<◌, ◌⊎◌, IfSome, IfNone, None};
 ghost use Rattle.ps_world.specs.Counts.{Rose};
 ghost use Rattle.ps_world.specs.Files.{NoWriterOut};
-ghost use Rattle.ps_world.specs.TreeState.{OnlyLent};
-ghost use Rattle.pash.specs.Words.{command_of, texts};
-ghost use Rattle.pash.specs.Answers.{IsAnswer, IsOfScript, HasFaultStatus};
+ghost use Rattle.ps_world.specs.TreeState.{Balanced, OnlyLent};
 ghost use Rattle.sh_parse.specs.Outcomes.{AreOutcomes, Readings};
-ghost use Rattle.pash.specs.Meaning.{meaning, usage as usage_lem, reply_of_command};
-ghost use Rattle.pash.specs.Runs.{Meets, Leaves, GrewByPrefixes, Stops};
+ghost use Rattle.sh_expand.specs.Outcomes.{AreExpansions, Expansions};
+ghost use Rattle.sh_eval.specs.Contract.{drawn_of, faults_of, seen_of};
+ghost use Rattle.sh_eval.specs.Scripts.{Stopped};
+ghost use Rattle.pash.specs.Answers.{HasFaultStatus, IsAnswer, IsWithoutScript};
+ghost use Rattle.pash.specs.Meaning.{meaning, outside_of};
+ghost use Rattle.pash.specs.Runs.{DrawsNothing, Leaves, OnlyTold};
+ghost use Rattle.pash.specs.Starts.{RunsNothing};
+ghost use Rattle.pash.specs.Words.{command_of, texts};
 
-use crate::answers::{End, Outcome, Stop, Why, of_sink};
-use crate::run::run_command;
+use crate::answers::{End, Outcome, Why};
+use crate::run::{Ran, run_words};
+use fl_core::Engine;
 use ps_world::{Gate, Sink, Source, Tree};
 use std::alloc::Global;
 
 /// Does what the words of the command line ask for, over the objects that are handed in; `words` are those after the program's name.
 ///
-/// `run W SCRIPT ARG*` runs a script: what it leaves is the script's meaning, byte for byte, at every width W. The input and the
-/// output are given back. The gate is there for running nodes, and isn't called so far.
+/// `run W SCRIPT ARG*` runs a script: what it leaves is the script's meaning, byte for byte, at every width W. `$0` is SCRIPT, `$1` and on
+/// are the ARGs. The graphs of its utilities run on the engine, whose nodes pass the gate. The input and the output are given back.
 ///
-/// `reads` is what each text is, one script or one refusal. A script that isn't run, for its text or for its form, is told by one line
-/// of error: nothing of the output, the tree or the input changes then.
+/// `reads` is what each text is, one script or one refusal, and `expansions` is what words expand to. A script that isn't run, for its text,
+/// is told by one line of error: nothing of the output, the tree or the input changes then. One that is refused in the middle is told so too,
+/// and what it did stays.
 ///
-/// After every answer but the faults and Memory, output and errors have grown by exactly the meaning's and were flushed. WriteFault comes only
-/// where the count of the output or the errors rose in this call, TreeFault only where the tree's did; after these and Memory, output and
-/// errors have grown by prefixes of the meaning's.
-pub fn pash<T: Tree, I: Source + Send, O: Sink + Send, E: Sink, G: Gate>(
+/// After every answer but the faults and Memory, output and errors have grown by exactly the meaning's and were flushed. ReadFault comes only
+/// where the count of the input rose in this call, WriteFault only where that of the output or the errors rose, TreeFault only where the
+/// tree's did; after these and Memory, output and errors have grown by prefixes of the meaning's.
+pub fn pash<T: Tree, I: Source + Send, O: Sink + Send, E: Sink, G: Gate, X: Engine>(
     alloc: Global,
     words: &[String],
     tree: &mut T,
     input: I,
     out: O,
     err: &mut E,
-    _gate: &G,
+    gate: &G,
+    engine: &mut X,
 ) -> End<I, O>
     requires whole { IfSome (T.state tree.old).held NoWriterOut }
 
     // What the command leaves.
-    ensures meaning { (reads : Readings) → AreOutcomes reads → IsAnswer result.why → IfSome (T.state tree.old).held (λ files. IfSome (I.left input) (λ text.
-        Leaves (meaning reads (texts words.now) (record { files = files; home = (T.state tree.old).home; input = text }))
-        result.status result.why (O.taken out) (O.taken result.out) (E.taken err.old) (E.taken err.new)
-        (T.state tree.new).held (I.left result.input))) }
-    ensures prefixes { (reads : Readings) → AreOutcomes reads → IfSome (T.state tree.old).held (λ files. IfSome (I.left input) (λ text.
-        let m = meaning reads (texts words.now) (record { files = files; home = (T.state tree.old).home; input = text }) in
-        GrewByPrefixes (O.taken out) (O.taken result.out) (E.taken err.old) (E.taken err.new) m.reply.output m.reply.errors)) }
+    ensures meaning { (reads : Readings) → AreOutcomes reads → (expansions : Expansions) → AreExpansions expansions → IsAnswer result.why →
+        IfSome (T.state tree.old).held (λ files. IfSome (I.left input) (λ text.
+        Leaves (meaning reads expansions (texts words.now) (outside_of (T.state tree.old).home files text))
+        (record { status = result.status; why = result.why }) (T.state tree.new).held
+        (seen_of (drawn_of (I.left input) (X.used engine.old)) (O.taken out) (E.taken err.old))
+        (seen_of (drawn_of (I.left result.input) (X.used engine.new)) (O.taken result.out) (E.taken err.new)))) }
+    ensures prefixes { (reads : Readings) → AreOutcomes reads → (expansions : Expansions) → AreExpansions expansions →
+        IfSome (T.state tree.old).held (λ files. IfSome (I.left input) (λ text. Stopped
+        (seen_of (drawn_of (I.left input) (X.used engine.old)) (O.taken out) (E.taken err.old))
+        (seen_of (drawn_of (I.left result.input) (X.used engine.new)) (O.taken result.out) (E.taken err.new))
+        (meaning reads expansions (texts words.now) (outside_of (T.state tree.old).home files text)).world)) }
     ensures usage_only { result.why ≡ Why.Usage → command_of (texts words.now) ≡ None }
-    ensures usage { IsAnswer result.why → IfNone (command_of (texts words.now))
-        (Meets usage_lem result.status result.why (O.taken out) (O.taken result.out) (E.taken err.old) (E.taken err.new)) }
+    ensures usage { IsAnswer result.why → IfNone (command_of (texts words.now)) (result.why ≡ Why.Usage) }
+    ensures without_script { IsWithoutScript result.why → (result.input ≡ input) × OnlyLent (T.state tree.old) (T.state tree.new)
+        × OnlyTold result.why result.status
+        (seen_of (drawn_of (I.left input) (X.used engine.old)) (O.taken out) (E.taken err.old))
+        (seen_of (drawn_of (I.left result.input) (X.used engine.new)) (O.taken result.out) (E.taken err.new)) }
+    ensures nothing_run { (reads : Readings) → AreOutcomes reads → RunsNothing reads (T.state tree.old) (command_of (texts words.now)) →
+        (result.input ≡ input) × OnlyLent (T.state tree.old) (T.state tree.new) × DrawsNothing
+        (seen_of (drawn_of (I.left input) (X.used engine.old)) (O.taken out) (E.taken err.old))
+        (seen_of (drawn_of (I.left result.input) (X.used engine.new)) (O.taken result.out) (E.taken err.new)) }
     ensures sent { IsAnswer result.why → (O.sent result.out ≡ O.taken result.out) × (E.sent err.new ≡ E.taken err.new) }
-    ensures input { result.input ≡ input }
-    ensures lent { OnlyLent (T.state tree.old) (T.state tree.new) }
+    ensures whole { IsAnswer result.why → IfSome (T.state tree.new).held NoWriterOut }
+    ensures lent { Balanced (T.state tree.old) (T.state tree.new) }
 
     // When each answer comes.
-    ensures calm { IsAnswer result.why →
-        (O.faults result.out ≡ O.faults out) × (E.faults err.new ≡ E.faults err.old) × (T.faults tree.new ≡ T.faults tree.old) }
+    ensures calm { IsAnswer result.why → faults_of (I.faults result.input) (O.faults result.out) (E.faults err.new) (T.faults tree.new)
+        ≡ faults_of (I.faults input) (O.faults out) (E.faults err.old) (T.faults tree.old) }
+    ensures read_fault { result.why ≡ Why.ReadFault → Rose (I.faults input) (I.faults result.input) }
     ensures write_fault { result.why ≡ Why.WriteFault → Rose (O.faults out) (O.faults result.out) ⊎ Rose (E.faults err.old) (E.faults err.new) }
     ensures tree_fault { result.why ≡ Why.TreeFault → Rose (T.faults tree.old) (T.faults tree.new) }
     ensures status { HasFaultStatus result.why result.status }
-    ensures complete { O.faults result.out ≡ O.faults out → E.faults err.new ≡ E.faults err.old → T.faults tree.new ≡ T.faults tree.old
-        → O.faults out < 2 ^ 64 - 1 → E.faults err.old < 2 ^ 64 - 1 → T.faults tree.old < 2 ^ 64 - 1
-        → IsAnswer result.why ⊎ (result.why ≡ Why.Memory) }
+    ensures complete { I.faults result.input ≡ I.faults input → O.faults result.out ≡ O.faults out → E.faults err.new ≡ E.faults err.old
+        → T.faults tree.new ≡ T.faults tree.old → I.faults input < 2 ^ 64 - 1 → O.faults out < 2 ^ 64 - 1 → E.faults err.old < 2 ^ 64 - 1
+        → T.faults tree.old < 2 ^ 64 - 1 → IsAnswer result.why ⊎ (result.why ≡ Why.Memory) }
 {
-    let mut out = out;
-    match run_flushed(alloc, words, tree, &mut out, err) {
+    let Ran {
+        outcome,
+        input,
+        out,
+    } = run_words(alloc, words, tree, input, out, err, gate, engine);
+    match outcome {
         Ok(Outcome { status, why }) => End {
             status,
             why,
@@ -75,58 +98,5 @@ pub fn pash<T: Tree, I: Source + Send, O: Sink + Send, E: Sink, G: Gate>(
             input,
             out,
         },
-    }
-}
-
-/// Does what the words ask for, and flushes what was written.
-fn run_flushed<T: Tree, O: Sink, E: Sink>(
-    alloc: Global,
-    words: &[String],
-    tree: &mut T,
-    out: &mut O,
-    err: &mut E,
-) -> Result<Outcome, Stop>
-    requires { IfSome (T.state tree.old).held NoWriterOut }
-    ensures answer { IfOk result (λ outcome. (reads : Readings) → AreOutcomes reads → IfSome (T.state tree.old).held (λ files.
-        Meets (reply_of_command reads files (T.state tree.old).home (command_of (texts words.now))) outcome.status outcome.why
-        (O.taken out.old) (O.taken out.new) (E.taken err.old) (E.taken err.new))) }
-    ensures part { OnErr result ((reads : Readings) → AreOutcomes reads → IfSome (T.state tree.old).held (λ files.
-        GrewByPrefixes (O.taken out.old) (O.taken out.new) (E.taken err.old) (E.taken err.new)
-        (reply_of_command reads files (T.state tree.old).home (command_of (texts words.now))).output
-        (reply_of_command reads files (T.state tree.old).home (command_of (texts words.now))).errors)) }
-    ensures usage { IfNone (command_of (texts words.now)) (MatchResult result
-        (λ outcome. Meets usage_lem outcome.status outcome.why (O.taken out.old) (O.taken out.new) (E.taken err.old) (E.taken err.new))
-        (λ _. GrewByPrefixes (O.taken out.old) (O.taken out.new) (E.taken err.old) (E.taken err.new) [] usage_lem.errors)) }
-    ensures sent { OnOk result ((O.sent out.new ≡ O.taken out.new) × (E.sent err.new ≡ E.taken err.new)) }
-    ensures lent { OnlyLent (T.state tree.old) (T.state tree.new) }
-    ensures cause { Stops
-        (record { out = O.faults out.old; err = E.faults err.old; tree = T.faults tree.old })
-        (record { out = O.faults out.new; err = E.faults err.new; tree = T.faults tree.new }) result }
-    ensures why { IfOk result (λ outcome. MatchOption (command_of (texts words.now))
-        (outcome.why ≡ Why.Usage) (λ _. IsOfScript outcome.why)) }
-{
-    match run_command(alloc, tree, out, err, words) {
-        Ok(outcome) => match flush(out, err) {
-            Ok(()) => Ok(outcome),
-            Err(stop) => Err(stop),
-        },
-        Err(stop) => Err(stop),
-    }
-}
-
-/// Sends on all that was written.
-fn flush<O: Sink, E: Sink>(out: &mut O, err: &mut E) -> Result<(), Stop>
-    ensures taken { (O.taken out.new ≡ O.taken out.old) × (E.taken err.new ≡ E.taken err.old) }
-    ensures sent { OnOk result ((O.sent out.new ≡ O.taken out.new) × (E.sent err.new ≡ E.taken err.new)) }
-    ensures cause { Stops
-        (record { out = O.faults out.old; err = E.faults err.old; tree = 0 })
-        (record { out = O.faults out.new; err = E.faults err.new; tree = 0 }) result }
-{
-    if let Err(error) = out.flush() {
-        return Err(of_sink(error));
-    }
-    match err.flush() {
-        Ok(()) => Ok(()),
-        Err(error) => Err(of_sink(error)),
     }
 }

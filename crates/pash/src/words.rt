@@ -15,11 +15,12 @@ pub fn read_command(words: &[String]) -> Option<RunCommand<'_>>
     ensures { option_map as_run result ≡ command_of (texts words.now) }
 {
     match words {
-        [name, width, script, ..] if name.as_bytes() == RUN => {
+        [name, width, script, arguments @ ..] if name.as_bytes() == RUN => {
             let width = read_width(width.as_bytes())?;
             Some(RunCommand {
                 width,
                 script: script.as_bytes(),
+                arguments,
             })
         }
         _ => None,

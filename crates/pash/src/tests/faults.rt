@@ -1,14 +1,16 @@
 //! What is told where a call of an object fails.
 ghost use Rattle.std.specs.Prelude.{◌≤◌};
 
-use super::{Entry, Failing, complained, finished, repeated, run, run_over};
+use super::{Entry, Failing, finished, in_turn, repeated, run, run_on};
 use crate::answers::Why;
 use ps_fakes::MemTree;
 use std::process::Abort;
+use std::sync::Wait;
 use std::test::Fail;
+use std::thread::Threads;
 
 /// Runs a script over a file whose reader gives at most `most` bytes a read, and fails at the read `fail_at`, counted from 0.
-fn stops_at_a_failed_read<R: Abort + AllocGlobal>(
+fn stops_at_a_failed_read<R: Abort + AllocGlobal + Threads + Wait + Sync>(
     rt: &R,
     script: &[u8],
     most: usize,
@@ -26,21 +28,24 @@ fn stops_at_a_failed_read<R: Abort + AllocGlobal>(
     let tree = MemTree::of_table(alloc, b"/w", &entries, Vec::new(alloc))?;
     let mut tree = tree.expect(rt, "the entries make a tree");
     tree.plan(b"/w/a", most, Some(fail_at))?;
-    let ran = run_over(alloc, &["run", "2", "s"], tree, Failing::Nothing)?;
+    let mut engine = in_turn(rt, alloc);
+    let ran = run_on(
+        alloc,
+        &["run", "2", "s"],
+        tree,
+        Failing::Nothing,
+        &mut engine,
+    )?;
     assert!(rt;
         ran.ended_with(&Why::TreeFault, 122),
         "{:?} at {most}, {fail_at}",
         ran.why
     );
     assert!(rt;
-        ran.has_part_of(&finished(text.as_slice())),
+        ran.has_part_of(&finished(text.as_slice(), b"", 0)),
         "at {most}, {fail_at}"
     );
-    assert_eq!(rt;
-        (ran.tree.lent(), ran.tree.back()),
-        (2, 2),
-        "at {most}, {fail_at}"
-    );
+    assert_eq!(rt; ran.tree.lent(), ran.tree.back(), "at {most}, {fail_at}");
     Ok(())
 }
 
@@ -54,44 +59,32 @@ fn a_failed_read_is_no_end(rt: HostRuntime) -> Result<(), Fail> {
     }
     for fail_at in 0..2 {
         stops_at_a_failed_read(&rt, b"cat a | grep -F 7 | wc -l", 65_536, fail_at)?;
+        stops_at_a_failed_read(&rt, b"tr 0 1 < a", 65_536, fail_at)?;
     }
     Ok(())
 }
 
-/// Nothing is written of a count that can't be written.
-#[test]
-fn a_failed_write_of_a_count_is_told(rt: HostRuntime) -> Result<(), Fail> {
-    let entries: [Entry; 2] = [
-        (b"/w/s", Some(b"cat a | grep -F x | wc -l")),
-        (b"/w/a", Some(b"x1\ny\nx2")),
-    ];
-    for width in ["1", "2", "16"] {
-        let ran = run(&rt, &["run", width, "s"], &entries, Failing::Output(0))?;
-        assert!(rt;
-            ran.ended_with(&Why::WriteFault, 121),
-            "{:?} at {width}",
-            ran.why
-        );
-        assert!(rt; ran.has_part_of(&finished(b"2\n")), "at {width}");
-        assert_eq!(rt; ran.tree.lent(), ran.tree.back(), "at {width}");
-    }
-    Ok(())
-}
-
-/// Runs a script that writes to output and errors. Where the call that is to fail is made, the run ends with this fault, and else
-/// as if none were to fail; answers whether it was made.
-fn fails_or_tells_all<R: Abort + AllocGlobal>(
+/// Runs a script that reads its input and a file, and writes to output, errors and a file. Where the call that is to fail is made, the
+/// run ends with this fault, and else as if none were to fail; answers whether it was made.
+fn fails_or_tells_all<R: Abort + AllocGlobal + Threads + Wait + Sync>(
     rt: &R,
     failing: Failing,
     fault: &Why,
     status: u8,
 ) -> Result<bool, Fail> {
     let entries: [Entry; 3] = [
-        (b"/w/s", Some(b"cat a missing b")),
+        (
+            b"/w/s",
+            Some(b"echo a; cat a missing - b; sort b > f; echo b"),
+        ),
         (b"/w/a", Some(b"x1\n")),
-        (b"/w/b", Some(b"x2")),
+        (b"/w/b", Some(b"x2\n")),
     ];
-    let plain = complained(b"x1\nx2", b"cat: missing: No such file or directory\n");
+    let plain = finished(
+        b"a\nx1\nin\nx2\nb\n",
+        b"cat: missing: No such file or directory\n",
+        0,
+    );
     let ran = run(rt, &["run", "2", "s"], &entries, failing)?;
     let has_fault = ran.has_fault();
     if has_fault {
@@ -113,9 +106,10 @@ fn fails_or_tells_all<R: Abort + AllocGlobal>(
 fn a_failed_call_is_told(rt: HostRuntime) -> Result<(), Fail> {
     for call in 0..12 {
         let of_tree = fails_or_tells_all(&rt, Failing::Tree(call), &Why::TreeFault, 122)?;
+        let of_input = fails_or_tells_all(&rt, Failing::Input(call), &Why::ReadFault, 120)?;
         let of_output = fails_or_tells_all(&rt, Failing::Output(call), &Why::WriteFault, 121)?;
         let of_errors = fails_or_tells_all(&rt, Failing::Errors(call), &Why::WriteFault, 121)?;
-        assert!(rt; call > 0 || of_tree && of_output && of_errors);
+        assert!(rt; call > 0 || of_tree && of_input && of_output && of_errors);
     }
     Ok(())
 }

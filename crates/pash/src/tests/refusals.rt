@@ -1,16 +1,23 @@
-//! What is told of a script that isn't run.
-use super::{Failing, Reply, not_built, refused, repeated, run};
-use crate::answers::Refusal;
+//! What is told of a script that isn't run, or not run further.
+use super::{Entry, Failing, INPUT, Reply, finished, refused, repeated, run};
 use ps_lines::Text;
+use sh_eval::Refusal;
 use std::process::Abort;
+use std::sync::Wait;
 use std::test::Fail;
+use std::thread::Threads;
 
 /// The script isn't run: this is told, and nothing else is read or written.
-fn tells<R: Abort + AllocGlobal>(rt: &R, script: &[u8], reply: &Reply) -> Result<(), Fail> {
+fn tells<R: Abort + AllocGlobal + Threads + Wait + Sync>(
+    rt: &R,
+    script: &[u8],
+    reply: &Reply,
+) -> Result<(), Fail> {
     let entries = [(b"/w/s".as_slice(), Some(script))];
     let mut ran = run(rt, &["run", "2", "s"], &entries, Failing::Nothing)?;
     assert!(rt; ran.is(reply), "{script:?} ended with {:?}", ran.why);
-    assert!(rt; ran.has_only_read_the_script(), "{script:?}");
+    assert_eq!(rt; (ran.tree.lent(), ran.tree.back()), (1, 1), "{script:?}");
+    assert!(rt; ran.has_left(INPUT), "{script:?}");
     Ok(())
 }
 
@@ -22,6 +29,7 @@ fn tokens_are_refused(rt: HostRuntime) -> Result<(), Fail> {
         &rt,
         b"echo a; cat f &",
         &refused(
+            b"",
             b"pash: refused: OutOfProfile & 14\n",
             Refusal::OutOfProfile(and, 14),
         ),
@@ -30,6 +38,7 @@ fn tokens_are_refused(rt: HostRuntime) -> Result<(), Fail> {
         &rt,
         b"echo 'a",
         &refused(
+            b"",
             b"pash: refused: UnclosedQuote 5\n",
             Refusal::UnclosedQuote(5),
         ),
@@ -38,6 +47,7 @@ fn tokens_are_refused(rt: HostRuntime) -> Result<(), Fail> {
         &rt,
         b"echo ${x",
         &refused(
+            b"",
             b"pash: refused: UnclosedBrace 5\n",
             Refusal::UnclosedBrace(5),
         ),
@@ -49,12 +59,13 @@ fn what_the_tokens_are_is_refused(rt: HostRuntime) -> Result<(), Fail> {
     tells(
         &rt,
         b"a && ; b",
-        &refused(b"pash: refused: BadSyntax\n", Refusal::BadSyntax),
+        &refused(b"", b"pash: refused: BadSyntax\n", Refusal::BadSyntax),
     )?;
     tells(
         &rt,
         b"echo ${x:=1} $(echo 2)",
         &refused(
+            b"",
             b"pash: refused: SubstitutionMix 0\n",
             Refusal::SubstitutionMix(0),
         ),
@@ -63,6 +74,7 @@ fn what_the_tokens_are_is_refused(rt: HostRuntime) -> Result<(), Fail> {
         &rt,
         b"echo ${x!}",
         &refused(
+            b"",
             b"pash: refused: ParameterForm 5\n",
             Refusal::ParameterForm(5),
         ),
@@ -70,7 +82,7 @@ fn what_the_tokens_are_is_refused(rt: HostRuntime) -> Result<(), Fail> {
 }
 
 /// `true` inside so many subshells, one in the other.
-fn tells_of_levels<R: Abort + AllocGlobal>(
+fn tells_of_levels<R: Abort + AllocGlobal + Threads + Wait + Sync>(
     rt: &R,
     levels: usize,
     reply: &Reply,
@@ -84,13 +96,13 @@ fn tells_of_levels<R: Abort + AllocGlobal>(
 
 #[test]
 fn a_script_has_at_most_64_levels(rt: HostRuntime) -> Result<(), Fail> {
-    tells_of_levels(&rt, 64, &not_built())?;
-    let too_deep = refused(b"pash: refused: TooDeep 128\n", Refusal::TooDeep(128));
+    tells_of_levels(&rt, 64, &finished(b"", b"", 0))?;
+    let too_deep = refused(b"", b"pash: refused: TooDeep 128\n", Refusal::TooDeep(128));
     tells_of_levels(&rt, 65, &too_deep)
 }
 
 /// A comment of so many bytes and the `#` before them.
-fn tells_of_comment<R: Abort + AllocGlobal>(
+fn tells_of_comment<R: Abort + AllocGlobal + Threads + Wait + Sync>(
     rt: &R,
     length: usize,
     reply: &Reply,
@@ -103,31 +115,68 @@ fn tells_of_comment<R: Abort + AllocGlobal>(
 
 #[test]
 fn a_comment_counts_to_the_length_of_a_script(rt: HostRuntime) -> Result<(), Fail> {
-    tells_of_comment(&rt, 1_048_575, &not_built())?;
-    let too_long = refused(b"pash: refused: ScriptTooLong\n", Refusal::ScriptTooLong);
+    tells_of_comment(&rt, 1_048_575, &finished(b"", b"", 0))?;
+    let too_long = refused(
+        b"",
+        b"pash: refused: ScriptTooLong\n",
+        Refusal::ScriptTooLong,
+    );
     tells_of_comment(&rt, 1_048_576, &too_long)
 }
 
-/// A script that is read is refused where its form isn't built.
+/// The script is refused in the middle: what it did before stays.
+fn tells_behind<R: Abort + AllocGlobal + Threads + Wait + Sync>(
+    rt: &R,
+    script: &[u8],
+    reply: &Reply,
+) -> Result<(), Fail> {
+    let entries: [Entry; 2] = [(b"/w/s", Some(script)), (b"/w/f", Some(b"k\n"))];
+    let ran = run(rt, &["run", "2", "s"], &entries, Failing::Nothing)?;
+    assert!(rt; ran.is(reply), "{script:?} ended with {:?}", ran.why);
+    assert_eq!(rt; ran.tree.lent(), ran.tree.back(), "{script:?}");
+    Ok(())
+}
+
 #[test]
-fn other_forms_are_not_built(rt: HostRuntime) -> Result<(), Fail> {
-    tells(
+fn commands_are_refused_in_the_middle(rt: HostRuntime) -> Result<(), Fail> {
+    let sleep = Text::copy_of(rt.alloc(), b"sleep")?;
+    tells_behind(
         &rt,
-        b"if false; then echo a; elif ! true; then echo b; else echo c; fi && echo d || echo e",
-        &not_built(),
+        b"echo a; sleep 1; echo b",
+        &refused(
+            b"a\n",
+            b"pash: refused: UnknownCommand sleep\n",
+            Refusal::UnknownCommand(sleep),
+        ),
     )?;
-    tells(&rt, b"", &not_built())?;
-    tells(&rt, b"cat", &not_built())?;
-    tells(&rt, b"cat 'a'", &not_built())?;
-    tells(&rt, b"cat a'b'", &not_built())?;
-    tells(&rt, b"cat $x", &not_built())?;
-    tells(&rt, b"cat a >b", &not_built())?;
-    tells(&rt, b"x=1 cat a", &not_built())?;
-    tells(&rt, b"! cat a", &not_built())?;
-    tells(&rt, b"cat a; cat b", &not_built())?;
-    tells(&rt, b"cat a && cat b", &not_built())?;
-    tells(&rt, b"{ cat a; }", &not_built())?;
-    tells(&rt, b"cat a | wc -l", &not_built())?;
-    tells(&rt, b"cat a | grep -F 'w' | wc -l", &not_built())?;
-    tells(&rt, b"cat a | grep -F w | wc -l | cat", &not_built())
+    let sort = Text::copy_of(rt.alloc(), b"sort")?;
+    tells_behind(
+        &rt,
+        b"sort -c f",
+        &refused(
+            b"",
+            b"pash: refused: UnsupportedFlag sort c\n",
+            Refusal::UnsupportedFlag(sort, b'c'),
+        ),
+    )?;
+    tells_behind(
+        &rt,
+        b"echo a; cat f | tee g; echo b",
+        &refused(b"a\n", b"pash: refused: NotBuilt\n", Refusal::NotBuilt),
+    )
+}
+
+/// A file that is written and read at once stays as it is, or as the redirection around has left it.
+#[test]
+fn a_busy_path_is_refused(rt: HostRuntime) -> Result<(), Fail> {
+    let rows: [(&[u8], &[u8]); 2] = [(b"cat f > f", b"k\n"), (b"{ cat f; } > f", b"")];
+    for (script, left) in rows {
+        let entries: [Entry; 2] = [(b"/w/s", Some(script)), (b"/w/f", Some(b"k\n"))];
+        let ran = run(&rt, &["run", "2", "s"], &entries, Failing::Nothing)?;
+        let busy = Text::copy_of(rt.alloc(), b"f")?;
+        let reply = refused(b"", b"pash: refused: PathBusy f\n", Refusal::PathBusy(busy));
+        assert!(rt; ran.is(&reply), "{script:?} ended with {:?}", ran.why);
+        assert!(rt; ran.tree.file(b"/w/f")? == Some(left), "{script:?}");
+    }
+    Ok(())
 }

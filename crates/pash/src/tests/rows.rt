@@ -1,20 +1,280 @@
 //! What scripts and words tell, where nothing fails.
-use super::{Entry, Failing, Reply, complained, finished, not_built, refused, repeated, run};
-use crate::answers::{Refusal, Why};
+use super::{Entry, Failing, INPUT, Reply, finished, in_turn, refused, repeated, run, run_on};
+use crate::answers::Why;
+use ps_fakes::MemTree;
 use ps_lines::Text;
+use sh_eval::Refusal;
 use std::process::Abort;
+use std::sync::Wait;
 use std::test::Fail;
+use std::thread::Threads;
 
-/// The widths, as words.
-static WIDTHS: [&str; 16] = [
-    "1", "2", "3", "4", "5", "6", "7", "8", "9", "10", "11", "12", "13", "14", "15", "16",
-];
+/// The widths at which a row is run, as words.
+static WIDTHS: [&str; 3] = ["1", "2", "4"];
 
-/// The most bytes of a script.
-const LONGEST: usize = 1_048_576;
+/// A script with the arguments `A` and `b c` tells this at every width, over a few files.
+fn tells_script<R: Abort + AllocGlobal + Threads + Wait + Sync>(
+    rt: &R,
+    script: &str,
+    reply: &Reply,
+) -> Result<(), Fail> {
+    let entries: [Entry; 12] = [
+        (b"/w/s", Some(script.as_bytes())),
+        (b"/w/a", Some(b"x1")),
+        (b"/w/b", Some(b"x2\ny\n")),
+        (b"/w/one", Some(b"1\n")),
+        (b"/w/lines", Some(b"a b\nc")),
+        (b"/w/words", Some(b"b a\nab\nc\nxa")),
+        (b"/w/pairs", Some(b"b:2\na:10\nc:1\n")),
+        (b"/w/numbers", Some(b"10\n9\n2\n")),
+        (b"/w/d", None),
+        (b"/w/x1.txt", Some(b"")),
+        (b"/w/x2.txt", Some(b"")),
+        (b"/w/.x3.txt", Some(b"")),
+    ];
+    for width in WIDTHS {
+        let ran = run(
+            rt,
+            &["run", width, "s", "A", "b c"],
+            &entries,
+            Failing::Nothing,
+        )?;
+        let is_right = ran.is(reply);
+        assert!(rt;
+            is_right,
+            "{script} at {width}: {:?} wrote {:?}, told {:?}, left {}",
+            ran.why,
+            ran.out.taken(),
+            ran.err.taken(),
+            ran.status
+        );
+        assert_eq!(rt; ran.tree.lent(), ran.tree.back(), "{script}");
+    }
+    Ok(())
+}
+
+/// A row: a script, its output, errors and status.
+type Row<'a> = (&'a str, &'a str, &'a str, u8);
+
+fn tells_rows<R: Abort + AllocGlobal + Threads + Wait + Sync>(
+    rt: &R,
+    rows: &[Row],
+) -> Result<(), Fail> {
+    for &(script, output, errors, status) in rows {
+        let reply = finished(output.as_bytes(), errors.as_bytes(), status);
+        tells_script(rt, script, &reply)?;
+    }
+    Ok(())
+}
+
+/// A last line without a newline stays so, and what can't be read is told.
+#[test]
+fn utilities_run(rt: HostRuntime) -> Result<(), Fail> {
+    tells_rows(
+        &rt,
+        &[
+            ("", "", "", 0),
+            ("cat a b", "x1x2\ny\n", "", 0),
+            ("\n# c\n  cat   a  b # x\n\n", "x1x2\ny\n", "", 0),
+            ("cat", "in\n", "", 0),
+            (
+                "cat missing",
+                "",
+                "cat: missing: No such file or directory\n",
+                1,
+            ),
+            ("cat /w /dev/null", "", "cat: /w: Is a directory\n", 1),
+            ("cat a b | grep -F x", "x1x2\n", "", 0),
+            (
+                "cat missing one | wc -l",
+                "1\n",
+                "cat: missing: No such file or directory\n",
+                0,
+            ),
+            ("cat words | grep -F a | wc -l\n", "3\n", "", 0),
+            ("cat words | \n grep -F a | wc -l\n", "3\n", "", 0),
+            (
+                "cat none | grep -F a | wc -l",
+                "0\n",
+                "cat: none: No such file or directory\n",
+                0,
+            ),
+            ("grep -F z b; echo $?", "1\n", "", 0),
+            ("cat d/../b | tr a-z A-Z", "X2\nY\n", "", 0),
+            ("cut -d : -f 2 pairs | sort -n", "1\n2\n10\n", "", 0),
+            ("sort -t : -k 2n pairs | cut -d : -f 1", "c\nb\na\n", "", 0),
+            (
+                "sort numbers; sort -n numbers | tail -n +3",
+                "10\n2\n9\n10\n",
+                "",
+                0,
+            ),
+            ("cat /dev/null | sort | wc -l", "0\n", "", 0),
+            ("cut b; echo $?", "2\n", "cut: bad usage\n", 0),
+        ],
+    )
+}
+
+#[test]
+fn lists_and_loops_run(rt: HostRuntime) -> Result<(), Fail> {
+    tells_rows(
+        &rt,
+        &[
+            (
+                "for i in 1 2 3; do echo $i; done | tail -n +3",
+                "3\n",
+                "",
+                0,
+            ),
+            (
+                "while read -r l; do echo \"<$l>\"; done < lines",
+                "<a b>\n",
+                "",
+                0,
+            ),
+            (
+                "if false; then echo a; elif ! true; then echo b; else echo c; fi && echo d || echo e",
+                "c\nd\n",
+                "",
+                0,
+            ),
+            (
+                "while true; do while true; do break 2; done; done; echo $?",
+                "0\n",
+                "",
+                0,
+            ),
+            ("false || echo x && ! cat a", "x\nx1", "", 1),
+            ("(exit 3); echo $?; exit 7; echo no", "3\n", "", 7),
+            (
+                "i=0; until [ $i = 3 ]; do i=$((i + 1)); done; echo $i | cat - one",
+                "3\n1\n",
+                "",
+                0,
+            ),
+        ],
+    )
+}
+
+#[test]
+fn words_are_expanded(rt: HostRuntime) -> Result<(), Fail> {
+    tells_rows(
+        &rt,
+        &[
+            ("x='a  b'; echo $x \"$x\"", "a b a  b\n", "", 0),
+            ("echo $0 $# $1 \"$2\"", "s 2 A b c\n", "", 0),
+            (
+                "set -- a 'b c'; for i in \"$@\"; do echo \"[$i]\"; done; shift; echo $#",
+                "[a]\n[b c]\n1\n",
+                "",
+                0,
+            ),
+            (
+                "echo *.txt; echo *.log; f=x1.txt; echo ${f%.*}",
+                "x1.txt x2.txt\n*.log\nx1\n",
+                "",
+                0,
+            ),
+            (
+                "IFS=:; x=a::b; for i in $x; do echo \"<$i>\"; done",
+                "<a>\n<>\n<b>\n",
+                "",
+                0,
+            ),
+            ("echo $((7 / 2 * 2)) $((x = 3)) $x", "6 3 3\n", "", 0),
+            (
+                "echo a; echo $((1 / 0)); echo b",
+                "a\n",
+                "pash: arithmetic: division by zero\n",
+                1,
+            ),
+            ("(echo ${x?none}); echo $?", "1\n", "pash: x: none\n", 0),
+            (
+                "x=$(echo a; echo); echo \"[$x]\"; unset x; echo \"[$x]\"; exit 3",
+                "[a]\n[]\n",
+                "",
+                3,
+            ),
+            ("x=$(sort pairs | wc -l); echo \"<$x>\"", "<3>\n", "", 0),
+        ],
+    )
+}
+
+#[test]
+fn redirections_are_done(rt: HostRuntime) -> Result<(), Fail> {
+    tells_rows(
+        &rt,
+        &[
+            (
+                "echo a > f; echo b >> f; cat missing 2>&1 | cat - f",
+                "cat: missing: No such file or directory\na\nb\n",
+                "",
+                0,
+            ),
+            ("cat missing 2>&1 >/dev/null | wc -l", "1\n", "", 0),
+            ("tr '\\n' ' ' < b", "x2 y ", "", 0),
+            (
+                "cat < missing; echo $?",
+                "1\n",
+                "pash: missing: No such file or directory\n",
+                0,
+            ),
+            ("sort pairs > f; cut -d : -f 1 f", "a\nb\nc\n", "", 0),
+        ],
+    )
+}
+
+/// What a script leaves in its files, and of its input.
+#[test]
+fn files_and_input_are_left(rt: HostRuntime) -> Result<(), Fail> {
+    let entries: [Entry; 2] = [
+        (b"/w/s", Some(b"sort b | tail -n +2 > f; cat b >> f")),
+        (b"/w/b", Some(b"y\nx\n")),
+    ];
+    let mut ran = run(&rt, &["run", "1", "s"], &entries, Failing::Nothing)?;
+    assert!(rt; ran.is(&finished(b"", b"", 0)), "{:?}", ran.why);
+    assert!(rt; ran.tree.file(b"/w/f")? == Some(b"y\ny\nx\n"));
+    assert!(rt; ran.tree.file(b"/w/b")? == Some(b"y\nx\n"));
+    assert!(rt; ran.has_left(INPUT));
+    let entries: [Entry; 1] = [(b"/w/s", Some(b"read -r x; echo \"<$x>\"; cat"))];
+    let mut ran = run(&rt, &["run", "1", "s"], &entries, Failing::Nothing)?;
+    assert!(rt; ran.is(&finished(b"<in>\n", b"", 0)), "{:?}", ran.why);
+    assert!(rt; ran.has_left(b""));
+    Ok(())
+}
+
+/// The utilities that the engine was asked for: `cat` hands on what it reads, and is none.
+#[test]
+fn the_engine_runs_the_utilities(rt: HostRuntime) -> Result<(), Fail> {
+    let alloc = rt.alloc();
+    let entries: [Entry; 2] = [
+        (b"/w/s", Some(b"echo a; cat b | sort | wc -l")),
+        (b"/w/b", Some(b"y\nx\n")),
+    ];
+    let tree = MemTree::of_table(alloc, b"/w", &entries, Vec::new(alloc))?;
+    let tree = tree.expect(&rt, "the entries make a tree");
+    let mut engine = in_turn(&rt, alloc);
+    let ran = run_on(
+        alloc,
+        &["run", "1", "s"],
+        tree,
+        Failing::Nothing,
+        &mut engine,
+    )?;
+    assert!(rt; ran.is(&finished(b"a\n2\n", b"", 0)), "{:?}", ran.why);
+    let mut told = Vec::new(alloc);
+    for words in engine.used() {
+        for word in words.as_slice() {
+            told.extend_from_slice(word.as_slice())?;
+            told.push(b' ')?;
+        }
+    }
+    assert_eq!(rt; told.as_slice(), b"sort wc -l ".as_slice());
+    Ok(())
+}
 
 /// The words ask for this.
-fn tells<R: Abort + AllocGlobal>(
+fn tells<R: Abort + AllocGlobal + Threads + Wait + Sync>(
     rt: &R,
     words: &[&str],
     entries: &[Entry],
@@ -26,65 +286,11 @@ fn tells<R: Abort + AllocGlobal>(
     Ok(())
 }
 
-/// The script `s` tells this, at every width.
-fn tells_at_every_width<R: Abort + AllocGlobal>(
-    rt: &R,
-    entries: &[Entry],
-    reply: &Reply,
-) -> Result<(), Fail> {
-    for width in WIDTHS {
-        tells(rt, &["run", width, "s"], entries, reply)?;
-    }
-    Ok(())
-}
-
-/// A last line without a newline stays so, and what can't be read is told.
-#[test]
-fn a_script_copies_files(rt: HostRuntime) -> Result<(), Fail> {
-    tells_at_every_width(
-        &rt,
-        &[(b"/w/s", Some(b"cat a")), (b"/w/a", Some(b"x1\n"))],
-        &finished(b"x1\n"),
-    )?;
-    tells_at_every_width(
-        &rt,
-        &[
-            (b"/w/s", Some(b"cat a b")),
-            (b"/w/a", Some(b"x1")),
-            (b"/w/b", Some(b"x2\ny\n")),
-        ],
-        &finished(b"x1x2\ny\n"),
-    )?;
-    tells_at_every_width(
-        &rt,
-        &[(b"/w/s", Some(b"cat missing"))],
-        &complained(b"", b"cat: missing: No such file or directory\n"),
-    )?;
-    tells_at_every_width(
-        &rt,
-        &[(b"/w/s", Some(b"cat /w /dev/null"))],
-        &complained(b"", b"cat: /w: Is a directory\n"),
-    )?;
-    tells_at_every_width(&rt, &[(b"/w/s", Some(b"echo a"))], &not_built())
-}
-
-#[test]
-fn a_failed_output_ends_the_run(rt: HostRuntime) -> Result<(), Fail> {
-    let entries: [Entry; 2] = [(b"/w/s", Some(b"cat a")), (b"/w/a", Some(b"x1"))];
-    for width in WIDTHS {
-        let ran = run(&rt, &["run", width, "s"], &entries, Failing::Output(0))?;
-        assert!(rt;
-            ran.ended_with(&Why::WriteFault, 121),
-            "{width}: {:?}",
-            ran.why
-        );
-        assert!(rt; ran.has_part_of(&finished(b"x1")), "at width {width}");
-    }
-    Ok(())
-}
-
 /// The words are no command.
-fn tells_usage<R: Abort + AllocGlobal>(rt: &R, words: &[&str]) -> Result<(), Fail> {
+fn tells_usage<R: Abort + AllocGlobal + Threads + Wait + Sync>(
+    rt: &R,
+    words: &[&str],
+) -> Result<(), Fail> {
     let reply = Reply {
         output: b"",
         errors: b"pash: usage\n",
@@ -115,7 +321,7 @@ fn a_script_that_is_not_there(rt: HostRuntime) -> Result<(), Fail> {
 }
 
 /// A script of so many operands, each the same file of one line.
-fn tells_of_operands<R: Abort + AllocGlobal>(
+fn tells_of_operands<R: Abort + AllocGlobal + Threads + Wait + Sync>(
     rt: &R,
     operands: usize,
     reply: &Reply,
@@ -124,90 +330,18 @@ fn tells_of_operands<R: Abort + AllocGlobal>(
     let mut script = Vec::from_slice(alloc, b"cat")?;
     script.extend_from_slice(repeated(alloc, b" a", operands)?.as_slice())?;
     let script = script.as_slice();
-    tells_at_every_width(
+    tells(
         rt,
+        &["run", "2", "s"],
         &[(b"/w/s", Some(script)), (b"/w/a", Some(b"x1\n"))],
         reply,
     )
 }
 
 #[test]
-fn a_script_has_at_most_256_operands(rt: HostRuntime) -> Result<(), Fail> {
+fn a_command_has_at_most_256_operands(rt: HostRuntime) -> Result<(), Fail> {
     let lines = repeated(rt.alloc(), b"x1\n", 256)?;
-    tells_of_operands(&rt, 256, &finished(lines.as_slice()))?;
-    tells_of_operands(&rt, 257, &not_built())
-}
-
-/// A script of one operand, which begins with so many slashes.
-fn tells_of_slashes<R: Abort + AllocGlobal>(
-    rt: &R,
-    slashes: usize,
-    reply: &Reply,
-) -> Result<(), Fail> {
-    let alloc = rt.alloc();
-    let mut script = Vec::from_slice(alloc, b"cat ")?;
-    script.extend_from_slice(vec![in alloc; b'/'; slashes]?.as_slice())?;
-    script.extend_from_slice(b"w/a\n")?;
-    let script = script.as_slice();
-    tells_at_every_width(
-        rt,
-        &[(b"/w/s", Some(script)), (b"/w/a", Some(b"x1\n"))],
-        reply,
-    )
-}
-
-/// The script has 8 bytes beside the slashes.
-#[test]
-fn a_script_has_at_most_1_048_576_bytes(rt: HostRuntime) -> Result<(), Fail> {
-    tells_of_slashes(&rt, LONGEST - 8, &finished(b"x1\n"))?;
-    let too_long = refused(b"pash: refused: ScriptTooLong\n", Refusal::ScriptTooLong);
-    tells_of_slashes(&rt, LONGEST - 7, &too_long)
-}
-
-/// The lines of the file that have the word are counted, however they are parted, and none of them where there is no file.
-#[test]
-fn a_pipeline_counts_lines(rt: HostRuntime) -> Result<(), Fail> {
-    tells_at_every_width(
-        &rt,
-        &[
-            (b"/w/s", Some(b"cat f | grep -F a | wc -l\n")),
-            (b"/w/f", Some(b"b a\nab\nc\nxa")),
-        ],
-        &finished(b"3\n"),
-    )?;
-    tells_at_every_width(
-        &rt,
-        &[
-            (b"/w/s", Some(b"cat none | grep -F a | wc -l")),
-            (b"/w/f", Some(b"b a\nab\nc\nxa")),
-        ],
-        &Reply {
-            output: b"0\n",
-            errors: b"cat: none: No such file or directory\n",
-            status: 0,
-            why: Why::Finished,
-        },
-    )
-}
-
-/// Blanks, comments and newlines around a form's words and operators make no difference.
-#[test]
-fn a_form_has_blanks_and_comments_around(rt: HostRuntime) -> Result<(), Fail> {
-    tells_at_every_width(
-        &rt,
-        &[
-            (b"/w/s", Some(b"\n# c\n  cat   a  b # x\n\n")),
-            (b"/w/a", Some(b"x1")),
-            (b"/w/b", Some(b"x2\n")),
-        ],
-        &finished(b"x1x2\n"),
-    )?;
-    tells_at_every_width(
-        &rt,
-        &[
-            (b"/w/s", Some(b"cat f | \n grep -F w | wc -l")),
-            (b"/w/f", Some(b"w\nv\nwv")),
-        ],
-        &finished(b"2\n"),
-    )
+    tells_of_operands(&rt, 256, &finished(lines.as_slice(), b"", 0))?;
+    let too_many = refused(b"", b"pash: refused: ArgsTooMany\n", Refusal::ArgsTooMany);
+    tells_of_operands(&rt, 257, &too_many)
 }

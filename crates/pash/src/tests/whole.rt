@@ -3,14 +3,18 @@ ghost use Rattle.std.specs.Prelude.{◌≡◌, ◌⊎◌, IfOk, IfSome};
 ghost use Rattle.ps_world.specs.Files.{NoWriterOut};
 ghost use Rattle.pash.specs.Answers.{IsAnswer};
 
-use super::{Entry, Reply, complained, finished, owned_words};
-use crate::answers::{Refusal, Why};
+use super::{Entry, Reply, finished, in_turn, owned_words, refused};
+use crate::answers::Why;
 use crate::top::pash;
+use fl_core::Engine;
 use ps_fakes::{NoFailSink, NoFailSource, NoFailTree, OpenGate};
 use ps_world::Tree;
+use sh_eval::Refusal;
 use std::alloc::{AllocError, Global};
 use std::process::Abort;
+use std::sync::Wait;
 use std::test::Fail;
+use std::thread::Threads;
 
 /// What a run answered, and where it wrote.
 #[derive(Drop)]
@@ -22,7 +26,12 @@ struct Ran {
 }
 
 /// Does what the words ask for over a tree. No fault is answered, since no count can rise.
-fn run_over(alloc: Global, words: &[&str], tree: NoFailTree) -> Result<Ran, AllocError>
+fn run_on<X: Engine>(
+    alloc: Global,
+    words: &[&str],
+    tree: NoFailTree,
+    engine: &mut X,
+) -> Result<Ran, AllocError>
     requires whole { IfSome (⟦<NoFailTree as Tree>⟧.state tree).held NoWriterOut }
     ensures { IfOk result (λ ran. IsAnswer ran.why ⊎ (ran.why ≡ Why.Memory)) }
 {
@@ -37,6 +46,7 @@ fn run_over(alloc: Global, words: &[&str], tree: NoFailTree) -> Result<Ran, Allo
         NoFailSink::new(alloc),
         &mut err,
         &OpenGate,
+        engine,
     );
     Ok(Ran {
         out: end.out,
@@ -47,11 +57,15 @@ fn run_over(alloc: Global, words: &[&str], tree: NoFailTree) -> Result<Ran, Allo
 }
 
 /// The script `s` tells this.
-fn tells<R: Abort + AllocGlobal>(rt: &R, entries: &[Entry], reply: &Reply) -> Result<(), Fail> {
+fn tells<R: Abort + AllocGlobal + Threads + Wait + Sync>(
+    rt: &R,
+    entries: &[Entry],
+    reply: &Reply,
+) -> Result<(), Fail> {
     let alloc = rt.alloc();
     let tree = NoFailTree::of_table(alloc, b"/w", entries)?;
     let tree = tree.expect(rt, "the entries make a tree");
-    let ran = run_over(alloc, &["run", "2", "s"], tree)?;
+    let ran = run_on(alloc, &["run", "2", "s"], tree, &mut in_turn(rt, alloc))?;
     assert!(rt; ran.out.sent() == reply.output, "{:?}", ran.why);
     assert!(rt; ran.err.sent() == reply.errors, "{:?}", ran.why);
     assert!(rt; ran.why == reply.why && ran.status == reply.status);
@@ -67,21 +81,20 @@ fn a_script_runs_over_objects_that_never_fail(rt: HostRuntime) -> Result<(), Fai
             (b"/w/a", Some(b"x1")),
             (b"/w/b", Some(b"x2\ny\n")),
         ],
-        &complained(b"x1x2\ny\n", b"cat: missing: No such file or directory\n"),
+        &finished(
+            b"x1x2\ny\n",
+            b"cat: missing: No such file or directory\n",
+            1,
+        ),
     )?;
     tells(
         &rt,
         &[(b"/w/s", Some(b"cat a")), (b"/w/a", Some(b"x1\n"))],
-        &finished(b"x1\n"),
+        &finished(b"x1\n", b"", 0),
     )?;
     tells(
         &rt,
-        &[(b"/w/s", Some(b"echo a"))],
-        &Reply {
-            output: b"",
-            errors: b"pash: refused: NotBuilt\n",
-            status: 2,
-            why: Why::Refused(Refusal::NotBuilt),
-        },
+        &[(b"/w/s", Some(b"echo a; tee f"))],
+        &refused(b"a\n", b"pash: refused: NotBuilt\n", Refusal::NotBuilt),
     )
 }

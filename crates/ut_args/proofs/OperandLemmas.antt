@@ -21,7 +21,7 @@ use Rattle.ut_options.specs.declared.scanning.Scanned.{Scanned}
 use Rattle.ut_options.specs.declared.usage.Usage.{Usage}
 use Rattle.ut_options.specs.declared.usage.Usage.TheVariants as usage
 use Rattle.ut_strings.specs.Strings.{first_of, second_of}
-use Rattle.ut_args.specs.Built.{changes_lines, has_none, is_built_by, is_fixed_syntax, is_from_start, is_of_lines, is_one_pattern}
+use Rattle.ut_args.specs.Built.{changes_lines, is_built_by, is_fixed_syntax, is_from_start, is_of_lines, is_one_pattern}
 use Rattle.ut_args.specs.Classes.{class_by, is_no_count, keeps_closed_by, report_class}
 use Rattle.ut_args.specs.Inputs.{counted, emptied, is_named, joined_inputs, operands_by, remaining, separate_inputs, with_operands}
 use Rattle.ut_args.specs.Keys.{keys_of, sort}
@@ -441,11 +441,6 @@ operands-within words asked read =
     omega arith
 
 -- what else is said of a command hangs on the number of its operands alone
-none-emptied : (flags : List Bool) (operands : List (List ℕ)) → has_none (emptied flags operands) ≡ has_none operands
-none-emptied flags [] = refl
-none-emptied [] (operand ∷ operands) = refl
-none-emptied (flag ∷ flags) (operand ∷ operands) = refl
-
 module _ (flags : List Bool) where
   pub operands-emptied : (asked : Command) → operands_by (with_operands (emptied flags (operands_by asked)) asked) ≡ emptied flags (operands_by asked)
   operands-emptied (command.Cat args) = refl
@@ -464,7 +459,8 @@ module _ (flags : List Bool) where
       ap (λ one. is_one_pattern args.patterns && (is_fixed_syntax args.syntax && (is_of_lines args.report && (not (changes_lines args) && one))))
       (at_most_one-emptied flags args.operands)
   built-emptied (command.Tail args) = ap (λ one. is_from_start args.part.origin && one) (at_most_one-emptied flags args.operands)
-  built-emptied (command.Wc args) = ap (λ none. args.lines && (not args.words && (not args.bytes && none))) (none-emptied flags args.operands)
+  built-emptied (command.Wc args) = at_most_one-emptied flags args.operands
+  built-emptied (command.Uniq args) = at_most_one-emptied flags args.operands
   built-emptied other = refl
 
   pub class-emptied : (asked : Command) → class_by (with_operands (emptied flags (operands_by asked)) asked) ≡ class_by asked

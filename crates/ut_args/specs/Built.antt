@@ -8,6 +8,7 @@ use Rattle.ut_args.specs.declared.commands.Command.{Command}
 use Rattle.ut_args.specs.declared.commands.Command.TheVariants as command
 use Rattle.ut_args.specs.declared.commands.GrepArgs.{GrepArgs}
 use Rattle.ut_args.specs.declared.commands.TailArgs.{TailArgs}
+use Rattle.ut_args.specs.declared.commands.UniqArgs.{UniqArgs}
 use Rattle.ut_args.specs.declared.commands.WcArgs.{WcArgs}
 use Rattle.ut_args.specs.declared.commands.Origin.{Origin}
 use Rattle.ut_args.specs.declared.commands.Origin.TheVariants as origin
@@ -41,13 +42,12 @@ abbrev pub is_built_grep : GrepArgs → Bool
 is_built_grep args = is_one_pattern args.patterns
     && (is_fixed_syntax args.syntax && (is_of_lines args.report && (not (changes_lines args) && has_at_most_one args.operands)))
 
--- wc: newlines alone, of standard input
-abbrev pub has_none : List (List ℕ) → Bool
-has_none [] = true
-has_none (operand ∷ operands) = false
-
+-- wc, of one input; uniq has one always
 abbrev pub is_built_wc : WcArgs → Bool
-is_built_wc args = args.lines && (not args.words && (not args.bytes && has_none args.operands))
+is_built_wc args = has_at_most_one args.operands
+
+abbrev pub is_built_uniq : UniqArgs → Bool
+is_built_uniq args = has_at_most_one args.operands
 
 -- tail: from some line or byte on, of one input
 abbrev pub is_from_start : Origin → Bool
@@ -65,6 +65,7 @@ is_built_by (command.Tr args) = not args.squeezes
 is_built_by (command.Cut args) = true
 is_built_by (command.Tail args) = is_built_tail args
 is_built_by (command.Wc args) = is_built_wc args
+is_built_by (command.Uniq args) = is_built_uniq args
 is_built_by (command.Sort args) = true
 is_built_by other = false
 

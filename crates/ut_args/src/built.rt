@@ -1,15 +1,15 @@
 //! The invocations that are built.
 ghost use Rattle.std.specs.Prelude.{◌≡◌};
 ghost use Rattle.ps_lines.specs.Texts.{texts_of};
-ghost use Rattle.ut_args.specs.Built.{changes_lines as changes_lines_lem, is_built_grep as is_built_grep_lem, is_built_of, is_built_tail as is_built_tail_lem, is_built_wc as is_built_wc_lem, is_from_start as is_from_start_lem, is_one_pattern as is_one_pattern_lem};
+ghost use Rattle.ut_args.specs.Built.{changes_lines as changes_lines_lem, is_built_grep as is_built_grep_lem, is_built_of, is_built_tail as is_built_tail_lem, is_from_start as is_from_start_lem, is_one_pattern as is_one_pattern_lem};
 
-use crate::commands::{GrepArgs, Origin, Report, Syntax, TailArgs, WcArgs};
+use crate::commands::{GrepArgs, Origin, Report, Syntax, TailArgs};
 use crate::invocations::Inv;
 use crate::utilities::has_at_most_one;
 use ps_lines::NEWLINE;
 
 /// Whether an invocation is built: whether its utility has a stream so far, as `cat`, `sort`, `grep -F PATTERN`, `tr` without `-s`, `cut`,
-/// `tail` with `+N` and `wc -l` have.
+/// `tail` with `+N`, `uniq`, and `wc` of one input have.
 pub fn is_built(inv: &Inv) -> bool
     ensures { result ≡ is_built_of inv.now }
 {
@@ -19,7 +19,8 @@ pub fn is_built(inv: &Inv) -> bool
         Inv::Tr(tr) => !tr.args.squeezes,
         Inv::Cut(_) => true,
         Inv::Tail(tail) => is_built_tail(&tail.args),
-        Inv::Wc(wc) => is_built_wc(&wc.args),
+        Inv::Wc(wc) => has_at_most_one(&wc.args.operands),
+        Inv::Uniq(uniq) => has_at_most_one(&uniq.args.operands),
         Inv::Sort(_) => true,
         _ => false,
     }
@@ -51,13 +52,6 @@ fn is_one_pattern(patterns: &[Vec<u8>]) -> bool
         [pattern] => !pattern.is_empty() && !pattern.contains(&NEWLINE),
         _ => false,
     }
-}
-
-/// Whether it is `wc -l` of standard input.
-fn is_built_wc(args: &WcArgs) -> bool
-    ensures { result ≡ is_built_wc_lem args.now }
-{
-    args.lines && !args.words && !args.bytes && args.operands.as_slice().is_empty()
 }
 
 /// Whether it is `tail` from some line or byte on, of one input.

@@ -74,7 +74,7 @@ fn next_field(separator: Option<u8>, line: &[u8]) -> &[u8]
 }
 
 /// Where the field behind `count` others begins: the line's end where there is none.
-pub(crate) fn behind_fields(separator: Option<u8>, count: u64, line: &[u8]) -> &[u8]
+pub fn behind_fields(separator: Option<u8>, count: u64, line: &[u8]) -> &[u8]
     ensures { result.now ≡ behind_fields_lem separator count line.now }
 {
     let mut left = line;

@@ -20,6 +20,7 @@ mod sorter;
 mod tests;
 mod writing;
 
+pub use fields::behind_fields;
 pub use merging::{merge, merge_some};
 pub use orders::order;
 pub use sorter::Sorter;

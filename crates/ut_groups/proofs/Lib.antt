@@ -1,1 +1,6 @@
 pub mod CountingLemmas
+pub mod ColumnLemmas
+pub mod NamedLemmas
+pub mod GroupingLemmas
+pub mod UniqLemmas
+pub mod WcLemmas

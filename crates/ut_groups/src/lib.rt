@@ -1,12 +1,26 @@
-//! Utilities that count and group lines, as streams: so far `wc -l` (XCU wc).
+//! Utilities that count and group lines, as streams: `wc` of one input and `uniq` (XCU wc, uniq), with what joins their work on the
+//! parts of an input.
 //!
-//! `specs/Counting.antt` says what they write for a whole input, and `specs/Wc.antt` what that makes of wc.
+//! `specs/Counting.antt` and `specs/Groups.antt` say what a count and a group of lines are, and `specs/Wc.antt` and `specs/Uniq.antt`
+//! what that makes of the utilities. `specs/Inner` has words that only streams need.
 #![tactic(auto)]
 
+mod columns;
 mod counting;
+mod forms;
+mod grouping;
+mod kept;
+mod named;
+mod skips;
 #[cfg(test)]
 mod tests;
+mod uniq;
 mod wc;
 
-pub use counting::add_sat;
+pub use columns::{Columns, MOST_BYTES, put_counts, read_counts};
+pub use counting::{Counts, add_counts, add_sat};
+pub use forms::Form;
+pub use kept::Kept;
+pub use named::Named;
+pub use uniq::Uniq;
 pub use wc::Wc;

@@ -12,11 +12,12 @@ use Rattle.ps_lines.specs.Numbers.{number_of}
 use Rattle.ps_lines.proofs.ClosedLemmas.{closed-append}
 use Rattle.ps_lines.proofs.LineLemmas.{lines_of_cut, is_closed-push}
 use Rattle.ps_lines.proofs.NumberLemmas.{number_of-decimal}
-use Rattle.ut_args.specs.Built.{is_built_of, is_built_grep, is_built_tail, is_built_wc, is_from_start}
+use Rattle.ut_args.specs.Built.{is_built_of, is_built_grep, is_built_tail, is_built_uniq, is_built_wc, is_from_start}
 use Rattle.ut_args.specs.Classes.{class_of, keeps_closed_of, of_one, origin_class, report_class}
 use Rattle.ut_args.specs.Strings.{keeps_newline}
 use Rattle.ut_args.specs.Invocations.{command_of}
 use Rattle.ut_args.specs.Utilities.{has_at_most_one}
+use Rattle.ut_args.specs.declared.commands.Command.TheVariants as command
 use Rattle.ut_args.specs.declared.classes.Class.{Class}
 use Rattle.ut_args.specs.declared.classes.Class.TheVariants as class
 use Rattle.ut_args.specs.declared.classes.Seam.{Seam}
@@ -30,6 +31,7 @@ use Rattle.ut_args.specs.declared.invocations.SortInv.{SortInv}
 use Rattle.ut_args.specs.declared.invocations.TrInv.{TrInv}
 use Rattle.ut_args.specs.declared.invocations.CutInv.{CutInv}
 use Rattle.ut_args.specs.declared.invocations.TailInv.{TailInv}
+use Rattle.ut_args.specs.declared.invocations.UniqInv.{UniqInv}
 use Rattle.ut_args.specs.declared.invocations.WcInv.{WcInv}
 use Rattle.ut_args.specs.declared.invocations.Inv.{Inv}
 use Rattle.ut_args.specs.declared.invocations.Inv.TheVariants as inv
@@ -38,8 +40,12 @@ use Rattle.ut_grep.specs.Fixed.{kept, has_part, selected_lines, has_selected, se
 use Rattle.ut_bytes.specs.Tr.{tr_output}
 use Rattle.ut_slices.specs.Cut.{cut_output}
 use Rattle.ut_slices.specs.Tail.{tail_output}
-use Rattle.ut_groups.specs.Counting.{newlines, saturated, count_line, line_count}
-use Rattle.ut_groups.specs.Wc.{count_on}
+use Rattle.ut_groups.specs.Columns.{counts_line, counts_on}
+use Rattle.ut_groups.specs.Counting.{added, counts_of}
+use Rattle.ut_groups.specs.Uniq.{uniq_finish, uniq_joined, uniq_output, uniq_part}
+use Rattle.ut_groups.specs.Wc.{columns_of, name_in, wc_line, with_name}
+use Rattle.ut_groups.proofs.UniqLemmas.{uniq-joins as uniq-joined, uniq-finished}
+use Rattle.ut_groups.proofs.WcLemmas.{line-named, total-none, wc-joins as wc-joined}
 use Rattle.ut_sort.specs.Order.{sorted_text}
 use Rattle.ut_sort.proofs.UtilityLemmas.{sorted_text-joins}
 use Rattle.fl_classes.proofs.SliceLemmas.{cut-closed, cut-joins, tr-closed, tr-joins, tr-none}
@@ -208,29 +214,22 @@ tail-origin tail (origin.Start number) is = tt
 tail-origin tail (origin.End number) is = unbuilt (inv.Tail tail) (ap (λ from. is_from_start from && has_at_most_one tail.args.operands) is) class.P
 
 -- wc
--- a count is read back from its line
-first-bytes : (text : List ℕ) (byte : ℕ) → take (length (text ++ byte ∷ []) - 1) (text ++ byte ∷ []) ≡ text
-first-bytes text byte =
-    let size : length (text ++ byte ∷ []) - 1 ≡ length text = (let both = length-append text (byte ∷ []) in omega arith) in
-    ap (λ count. take count (text ++ byte ∷ [])) size ∙ take-append_seam text (byte ∷ [])
-
-pub count_on-line : (count : ℕ) → count_on (count_line count) ≡ saturated count
-count_on-line count =
-    ap (λ digits. unwrap_or (number_of digits) 0) (first-bytes (decimal (saturated count)) 10)
-    ∙ ap (λ number. unwrap_or number 0) (number_of-decimal (saturated count) (omega arith))
-
--- the newlines of a text are those of its parts
-pub line_count-joins : (front back : List ℕ) → line_count (front ++ back) ≡ count_line (count_on (line_count front) + count_on (line_count back))
-line_count-joins front back =
-    let sums : saturated (newlines (front ++ back)) ≡ saturated (saturated (newlines front) + saturated (newlines back)) =
-    ap saturated (sum_by-append _ front back) ∙ omega arith in
-    ap (λ count. decimal count ++ 10 ∷ []) sums
-    ∙ ap (λ first. count_line (first + saturated (newlines back))) (sym (count_on-line (newlines front)))
-    ∙ ap (λ second. count_line (count_on (line_count front) + second)) (sym (count_on-line (newlines back)))
+wc-whole : (wc : WcInv) → is_built_wc wc.args ≡ true → (text : List ℕ)
+    → (utility_by (command.Wc wc.args)).output (labelled (names_of (inv.Wc wc)) (text ∷ [])) ≡ wc_line wc.args (name_in wc.args.operands) text
+wc-whole wc built text =
+    ap (λ sums. (wc_line wc.args (name_in wc.args.operands) text ++ []) ++ sums) (total-none wc.args (labelled (names_of (inv.Wc wc)) (text ∷ [])) built)
+    ∙ append-nil (wc_line wc.args (name_in wc.args.operands) text ++ []) ∙ append-nil (wc_line wc.args (name_in wc.args.operands) text)
 
 pub wc-parallel : (wc : WcInv) → IsParallel (inv.Wc wc)
 wc-parallel wc =
-    parallel (inv.Wc wc) (λ built text. append-nil (line_count text)) (λ built front back cut. line_count-joins front back) (λ built front back cut. refl)
+    parallel (inv.Wc wc) (λ built text. wc-whole wc built text ∙ line-named (columns_of wc.args) (counts_of text) (name_in wc.args.operands))
+    (λ built. wc-joined (columns_of wc.args)) (λ built front back cut. refl)
+
+-- uniq
+uniq-parallel : (uniq : UniqInv) → IsParallel (inv.Uniq uniq)
+uniq-parallel uniq =
+    parallel (inv.Uniq uniq) (λ built text. append-nil (uniq_output uniq.args text) ∙ uniq-finished uniq.args text) (λ built. uniq-joined uniq.args)
+    (λ built front back cut. refl)
 
 -- sort
 sort-parallel : (sort : SortInv) → IsParallel (inv.Sort sort)
@@ -246,6 +245,7 @@ is-of-class (inv.Tr tr) = tr-bytes tr tr.args.squeezes refl
 is-of-class (inv.Cut cut) = cut-lines cut
 is-of-class (inv.Tail tail) = tail-origin tail tail.args.part.origin refl
 is-of-class (inv.Wc wc) = of-one (inv.Wc wc) wc.args.operands class.P (wc-parallel wc)
+is-of-class (inv.Uniq uniq) = uniq-parallel uniq
 is-of-class (inv.Sort sort) = sort-parallel sort
 is-of-class other = unbuilt other refl (class_of other)
 
@@ -256,6 +256,7 @@ keeps-closed (inv.Tr tr) keeps_it = tr-keeps tr keeps_it
 keeps-closed (inv.Cut cut) keeps_it = cut-keeps cut
 keeps-closed (inv.Tail tail) keeps_it = absurd (true≢false (sym keeps_it))
 keeps-closed (inv.Wc wc) keeps_it = absurd (true≢false (sym keeps_it))
+keeps-closed (inv.Uniq uniq) keeps_it = absurd (true≢false (sym keeps_it))
 keeps-closed (inv.Sort sort) keeps_it = absurd (true≢false (sym keeps_it))
 keeps-closed other keeps_it = unbuilt-closed other refl
 
@@ -272,14 +273,31 @@ tr-map tr built text = ap (λ utility. utility.part text) (built-utility (inv.Tr
 pub tail-map : (tail : TailInv) → is_built_tail tail.args ≡ true → (text : List ℕ) → map_of (inv.Tail tail) text ≡ tail_output tail.args text
 tail-map tail built text = ap (λ utility. utility.part text) (built-utility (inv.Tail tail) built)
 
-pub wc-map : (wc : WcInv) → is_built_wc wc.args ≡ true → (text : List ℕ) → map_of (inv.Wc wc) text ≡ line_count text
+pub wc-map : (wc : WcInv) → is_built_wc wc.args ≡ true → (text : List ℕ) → map_of (inv.Wc wc) text ≡ wc_line wc.args [] text
 wc-map wc built text = ap (λ utility. utility.part text) (built-utility (inv.Wc wc) built)
 
-pub wc-output : (wc : WcInv) → is_built_wc wc.args ≡ true → (text : List ℕ) → output_of (inv.Wc wc) (text ∷ []) ≡ line_count text
+pub wc-output : (wc : WcInv) → is_built_wc wc.args ≡ true → (text : List ℕ) → output_of (inv.Wc wc) (text ∷ []) ≡ wc_line wc.args (name_in wc.args.operands) text
 wc-output wc built text =
-    ap (λ utility. utility.output (labelled (names_of (inv.Wc wc)) (text ∷ []))) (built-utility (inv.Wc wc) built) ∙ append-nil (line_count text)
+    ap (λ utility. utility.output (labelled (names_of (inv.Wc wc)) (text ∷ []))) (built-utility (inv.Wc wc) built) ∙ wc-whole wc built text
 
-pub wc-joins : (wc : WcInv) → is_built_wc wc.args ≡ true → (first second : List ℕ) → joined_maps (inv.Wc wc) first second ≡ count_line (count_on first + count_on second)
+pub wc-joins : (wc : WcInv) → is_built_wc wc.args ≡ true → (first second : List ℕ)
+    → joined_maps (inv.Wc wc) first second ≡ counts_line (columns_of wc.args) (added (counts_on (columns_of wc.args) first) (counts_on (columns_of wc.args) second)) []
 wc-joins wc built first second = ap (λ utility. utility.aggregate first second) (built-utility (inv.Wc wc) built)
+
+pub wc-finish : (wc : WcInv) → is_built_wc wc.args ≡ true → (text : List ℕ) → finish_of (inv.Wc wc) text ≡ with_name (name_in wc.args.operands) text
+wc-finish wc built text = ap (λ utility. utility.finish text) (built-utility (inv.Wc wc) built)
+
+pub uniq-map : (uniq : UniqInv) → is_built_uniq uniq.args ≡ true → (text : List ℕ) → map_of (inv.Uniq uniq) text ≡ uniq_part uniq.args text
+uniq-map uniq built text = ap (λ utility. utility.part text) (built-utility (inv.Uniq uniq) built)
+
+pub uniq-output : (uniq : UniqInv) → is_built_uniq uniq.args ≡ true → (text : List ℕ) → output_of (inv.Uniq uniq) (text ∷ []) ≡ uniq_output uniq.args text
+uniq-output uniq built text =
+    ap (λ utility. utility.output (labelled (names_of (inv.Uniq uniq)) (text ∷ []))) (built-utility (inv.Uniq uniq) built) ∙ append-nil (uniq_output uniq.args text)
+
+pub uniq-joins : (uniq : UniqInv) → is_built_uniq uniq.args ≡ true → (first second : List ℕ) → joined_maps (inv.Uniq uniq) first second ≡ uniq_joined uniq.args first second
+uniq-joins uniq built first second = ap (λ utility. utility.aggregate first second) (built-utility (inv.Uniq uniq) built)
+
+pub uniq-finish : (uniq : UniqInv) → is_built_uniq uniq.args ≡ true → (text : List ℕ) → finish_of (inv.Uniq uniq) text ≡ uniq_finish uniq.args.groups text
+uniq-finish uniq built text = ap (λ utility. utility.finish text) (built-utility (inv.Uniq uniq) built)
 
 pub ruleset class_laws = (is-of-class)

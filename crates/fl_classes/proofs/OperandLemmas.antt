@@ -1,25 +1,38 @@
 -- What an invocation writes and selects, and the names of its inputs, where some of its operands are the empty text.
-use Rattle.std.proofs.Common.{◌≡◌, Bool, true, List, refl, ap, ◌∙◌, if◌then◌else◌}
-use Rattle.std.specs.List.{filter, list_all}
+use Rattle.std.proofs.Common.{◌≡◌, ℕ, Bool, true, false, List, [], ◌++◌, refl, ap, sym, subst, ◌∙◌, codes, if◌then◌else◌}
+use Rattle.std.proofs.lemmas.Bool.{true≢false}
+use Rattle.std.specs.List.{filter, flat_map, list_all}
 use Rattle.ut_args.specs.Built.{is_built_by, is_built_of}
 use Rattle.ut_args.specs.Inputs.{emptied, is_named, operands_by, operands_of, remaining, with_operands}
 use Rattle.ut_args.specs.Invocations.{command_of}
 use Rattle.ut_args.specs.declared.commands.Command.{Command}
 use Rattle.ut_args.specs.declared.commands.Command.TheVariants as command
 use Rattle.ut_args.specs.declared.invocations.Inv.{Inv}
-use Rattle.ut_args.proofs.OperandLemmas.{all-named, built-emptied, named-emptied, operands-emptied}
-use Rattle.ut_streams.specs.Utilities.{Input}
+use Rattle.ut_args.proofs.OperandLemmas.{all-named, at_most_one-emptied, built-emptied, named-emptied, operands-emptied}
+use Rattle.ut_streams.specs.Utilities.{Input, Utility}
+use Rattle.ut_groups.specs.Columns.{counts_line}
+use Rattle.ut_groups.specs.Wc.{columns_of, counts_of_all, name_in, wc, wc_line, with_name}
 use Rattle.fl_classes.specs.Utilities.{names_of, silent, utility_by, utility_of}
 
+-- all of a utility but its finish
+abbrev pub apart_from_finish : Utility → (List ℕ → List ℕ) → Utility
+apart_from_finish utility finish = record utility { finish = finish }
+
 module _ (flags : List Bool) where
-  -- a utility hangs on the number of its operands alone: what these name are its inputs
-  pub utility-emptied : (asked : Command) → utility_by (with_operands (emptied flags (operands_by asked)) asked) ≡ utility_by asked
+  -- a utility hangs on the number of its operands alone: what these name are its inputs. The finish of wc names its operand.
+  pub utility-emptied : (asked : Command)
+      → utility_by (with_operands (emptied flags (operands_by asked)) asked)
+      ≡ apart_from_finish (utility_by asked) (utility_by (with_operands (emptied flags (operands_by asked)) asked)).finish
   utility-emptied (command.Cat args) = refl
   utility-emptied (command.Grep args) = refl
   utility-emptied (command.Cut args) = refl
   utility-emptied (command.Head args) = refl
   utility-emptied (command.Tail args) = refl
-  utility-emptied (command.Wc args) = refl
+  utility-emptied (command.Wc args) =
+      ap (λ one. record (wc args) {
+      output = λ inputs. flat_map (λ input. wc_line args input.label input.text) inputs ++ (if one then [] else counts_line (columns_of args) (counts_of_all inputs) (codes "total"));
+      finish = with_name (name_in (emptied flags args.operands));
+      }) (at_most_one-emptied flags args.operands)
   utility-emptied (command.Uniq args) = refl
   utility-emptied (command.Sort args) = refl
   utility-emptied (command.Paste args) = refl
@@ -48,9 +61,20 @@ module _ (one other : Inv) (flags : List Bool) (is : command_of other ≡ with_o
   pub built-without : is_built_of other ≡ is_built_of one
   built-without = ap is_built_by is ∙ built-emptied flags (command_of one)
 
-  pub utility-without : utility_of other ≡ utility_of one
-  utility-without =
-      ap (λ built. if built then utility_by (command_of other) else silent) built-without
-      ∙ ap (λ utility. if is_built_of one then utility else silent) (ap utility_by is ∙ utility-emptied flags (command_of one))
+  pub utility-without : utility_of other ≡ apart_from_finish (utility_of one) (utility_of other).finish
+  utility-without = by_built (is_built_of one) (is_built_of other) built-without
+    where
+      -- that of another command is the same but for its finish
+      told : utility_by (command_of other) ≡ apart_from_finish (utility_by (command_of one)) (utility_by (command_of other)).finish
+      told =
+          subst (λ asked. utility_by asked ≡ apart_from_finish (utility_by (command_of one)) (utility_by asked).finish) (sym is) (utility-emptied flags (command_of one))
+
+      by_built : (built built' : Bool) → built' ≡ built
+          → (if built' then utility_by (command_of other) else silent)
+          ≡ apart_from_finish (if built then utility_by (command_of one) else silent) (if built' then utility_by (command_of other) else silent).finish
+      by_built true true same = told
+      by_built false false same = refl
+      by_built true false same = absurd (true≢false (sym same))
+      by_built false true same = absurd (true≢false same)
 
 pub ruleset operand_laws = (output-emptied, selects-emptied, names-without, utility-without)

@@ -13,6 +13,7 @@ use Rattle.ut_grep.specs.Grep.{grep}
 use Rattle.ut_bytes.specs.Tr.{tr}
 use Rattle.ut_slices.specs.Cut.{cut}
 use Rattle.ut_slices.specs.Tail.{tail}
+use Rattle.ut_groups.specs.Uniq.{uniq}
 use Rattle.ut_groups.specs.Wc.{wc}
 use Rattle.ut_sort.specs.Sort.{sort}
 
@@ -28,6 +29,7 @@ utility_by (command.Tr args) = tr args
 utility_by (command.Cut args) = cut args
 utility_by (command.Tail args) = tail args
 utility_by (command.Wc args) = wc args
+utility_by (command.Uniq args) = uniq args
 utility_by (command.Sort args) = sort args
 utility_by other = silent
 

@@ -5,7 +5,7 @@ use Rattle.std.proofs.lemmas.Bool.{true≢false, and_parts, eqb-true, eq-eqb, lt
 use Rattle.std.proofs.Math.Dec.{eqb-suc-zero}
 use Rattle.ps_lines.specs.Lines.{is_empty}
 use Rattle.ut_streams.proofs.StreamLemmas.{Wrote-put}
-use Rattle.ut_args.specs.Built.{is_built_of, is_built_grep, is_built_wc, is_from_start, is_one_pattern, is_fixed_syntax, is_of_lines, has_none}
+use Rattle.ut_args.specs.Built.{is_built_of, is_built_grep, is_from_start, is_one_pattern, is_fixed_syntax, is_of_lines}
 use Rattle.ut_args.specs.Inputs.{counted, inputs_of, is_named, joined_inputs, separate_inputs}
 use Rattle.ut_args.specs.Utilities.{has_at_most_one}
 use Rattle.ut_args.specs.declared.commands.GrepArgs.{GrepArgs}
@@ -13,6 +13,8 @@ use Rattle.ut_args.specs.declared.commands.Origin.{Origin}
 use Rattle.ut_args.specs.declared.commands.Origin.TheVariants as origin
 use Rattle.ut_args.specs.declared.commands.Unit.{Unit}
 use Rattle.ut_args.specs.declared.commands.WcArgs.{WcArgs}
+use Rattle.ut_args.specs.declared.invocations.UniqInv.{UniqInv}
+use Rattle.ut_args.specs.declared.invocations.WcInv.{WcInv}
 use Rattle.ut_args.specs.declared.invocations.Inv.{Inv}
 use Rattle.ut_args.specs.declared.invocations.Inv.TheVariants as inv
 use Rattle.fl_graph.specs.Kinds.{may_have, reads_one_input, runs_what_is_built}
@@ -33,7 +35,7 @@ use Rattle.ut_bytes.specs.Tr.{tr_output}
 use Rattle.ut_slices.specs.Cut.{cut_output}
 use Rattle.ut_slices.specs.Tail.{tail_by, tail_output}
 use Rattle.ut_slices.proofs.EndLemmas.{behind-empty}
-use Rattle.ut_groups.specs.Counting.{line_count}
+use Rattle.ut_groups.proofs.WcLemmas.{total-none}
 use Rattle.fl_machines.specs.Kinds.{is_utility_node, runs_utility, stream_output, stream_selects}
 use Rattle.fl_machines.specs.Through.{only_port}
 
@@ -57,10 +59,6 @@ separate-few (operand ∷ []) few = by_name (is_named operand)
     by_name false = omega arith
 separate-few (operand ∷ another ∷ others) few = absurd (true≢false (sym few))
 
-none-few : (operands : List (List ℕ)) → has_none operands ≡ true → separate_inputs operands ≤ 1
-none-few [] none = omega arith
-none-few (operand ∷ operands) none = absurd (true≢false (sym none))
-
 grep-few : (args : GrepArgs) → is_built_grep args ≡ true → separate_inputs args.operands ≤ 1
 grep-few args built =
     let one = and_parts (is_one_pattern args.patterns) _ built in
@@ -68,83 +66,90 @@ grep-few args built =
     let three = and_parts (is_of_lines args.report) _ two.1 in
     separate-few args.operands (and_parts _ (has_at_most_one args.operands) three.1).1
 
-wc-plain : (args : WcArgs) → is_built_wc args ≡ true → has_none args.operands ≡ true
-wc-plain args built =
-    let one = and_parts args.lines _ built in
-    let two = and_parts _ _ one.1 in
-    (and_parts _ (has_none args.operands) two.1).1
-
-wc-few : (args : WcArgs) → is_built_wc args ≡ true → separate_inputs args.operands ≤ 1
-wc-few args built = none-few args.operands (wc-plain args built)
-
 built-few : (command : Inv) → is_built_of command ≡ true → inputs_of command ≤ 1
 built-few (inv.Cat cat) built = joined-few cat.args.operands
 built-few (inv.Grep grep) built = grep-few grep.args built
 built-few (inv.Tr tr) built = omega arith
 built-few (inv.Cut cut) built = joined-few cut.args.operands
 built-few (inv.Tail tail) built = separate-few tail.args.operands (and_parts (is_from_start tail.args.part.origin) (has_at_most_one tail.args.operands) built).1
-built-few (inv.Wc wc) built = wc-few wc.args built
+built-few (inv.Wc wc) built = separate-few wc.args.operands built
+built-few (inv.Uniq uniq) built = separate-few uniq.args.operands built
 built-few (inv.Sort sort) built = joined-few sort.args.operands
 built-few other built = absurd (true≢false (sym built))
 
--- so far the output for one input is the map, and no finish changes it
-pub whole-is-map : (command : Inv) (text : List ℕ) → map_of command text ≡ output_of command (text ∷ [])
-whole-is-map command text = by_built command (λ utility. utility.part text ≡ utility.output (labelled (names_of command) (text ∷ []))) (λ built. by_command command) refl
+-- the output for one input is the map but of wc, whose map has no name, and of uniq, whose map keeps counts
+abbrev pub whole_is_map : Inv → Bool
+whole_is_map (inv.Wc wc) = false
+whole_is_map (inv.Uniq uniq) = false
+whole_is_map other = true
+
+pub whole-else : (command : Inv) → ((wc : WcInv) → command ≡ inv.Wc wc → ⊥) → ((uniq : UniqInv) → command ≡ inv.Uniq uniq → ⊥) → whole_is_map command ≡ true
+whole-else (inv.Wc wc) no_wc no_uniq = absurd (no_wc wc refl)
+whole-else (inv.Uniq uniq) no_wc no_uniq = absurd (no_uniq uniq refl)
+whole-else other no_wc no_uniq = refl
+
+pub whole-is-map : (command : Inv) (text : List ℕ) → whole_is_map command ≡ true → map_of command text ≡ output_of command (text ∷ [])
+whole-is-map command text one = by_built command (λ utility. utility.part text ≡ utility.output (labelled (names_of command) (text ∷ []))) (λ built. by_command command one) refl
   where
-    by_command : (command : Inv)
+    by_command : (command : Inv) → whole_is_map command ≡ true
         → (utility_by (command_of command)).part text ≡ (utility_by (command_of command)).output (labelled (names_of command) (text ∷ []))
-    by_command (inv.Cat cat) = sym (append-nil text)
-    by_command (inv.Grep grep) = sym (append-nil (selected_lines (pattern_of grep.args.patterns) text))
-    by_command (inv.Tr tr) = sym (append-nil (tr_output tr.args text))
-    by_command (inv.Cut cut) = sym (append-nil (cut_output cut.args text))
-    by_command (inv.Tail tail) = sym (append-nil (tail_output tail.args text))
-    by_command (inv.Wc wc) = sym (append-nil (line_count text))
-    by_command (inv.Sort sort) = sym (append-nil (sorted_text sort.args text))
-    by_command other = refl
+    by_command (inv.Cat cat) one = sym (append-nil text)
+    by_command (inv.Grep grep) one = sym (append-nil (selected_lines (pattern_of grep.args.patterns) text))
+    by_command (inv.Tr tr) one = sym (append-nil (tr_output tr.args text))
+    by_command (inv.Cut cut) one = sym (append-nil (cut_output cut.args text))
+    by_command (inv.Tail tail) one = sym (append-nil (tail_output tail.args text))
+    by_command (inv.Wc wc) one = absurd (true≢false (sym one))
+    by_command (inv.Uniq uniq) one = absurd (true≢false (sym one))
+    by_command (inv.Sort sort) one = sym (append-nil (sorted_text sort.args text))
+    by_command other one = refl
 
 pub ruleset wholes = (whole-is-map)
 
-pub finish-is-same : (command : Inv) (text : List ℕ) → text ≡ finish_of command text
-finish-is-same command text = by_built command (λ utility. text ≡ utility.finish text) (λ built. by_command command) refl
+-- and no other finish changes it
+pub finish-is-same : (command : Inv) (text : List ℕ) → whole_is_map command ≡ true → text ≡ finish_of command text
+finish-is-same command text one = by_built command (λ utility. text ≡ utility.finish text) (λ built. by_command command one) refl
   where
-    by_command : (command : Inv) → text ≡ (utility_by (command_of command)).finish text
-    by_command (inv.Cat cat) = refl
-    by_command (inv.Grep grep) = refl
-    by_command (inv.Tr tr) = refl
-    by_command (inv.Cut cut) = refl
-    by_command (inv.Tail tail) = refl
-    by_command (inv.Wc wc) = refl
-    by_command (inv.Sort sort) = refl
-    by_command other = refl
+    by_command : (command : Inv) → whole_is_map command ≡ true → text ≡ (utility_by (command_of command)).finish text
+    by_command (inv.Cat cat) one = refl
+    by_command (inv.Grep grep) one = refl
+    by_command (inv.Tr tr) one = refl
+    by_command (inv.Cut cut) one = refl
+    by_command (inv.Tail tail) one = refl
+    by_command (inv.Wc wc) one = absurd (true≢false (sym one))
+    by_command (inv.Uniq uniq) one = absurd (true≢false (sym one))
+    by_command (inv.Sort sort) one = refl
+    by_command other one = refl
 
 pub ruleset finishes = (finish-is-same)
 
--- no input is as an empty one, where an invocation reads none
-nothing-from : (command : Inv) → is_built_of command ≡ true → inputs_of command ≡ 0
-    → (output_of command ([] ∷ []) ≡ output_of command []) × (selects_of command ([] ∷ []) ≡ selects_of command [])
-nothing-from (inv.Cat cat) built none = (refl, refl)
-nothing-from (inv.Grep grep) built none = (
-  by_built (inv.Grep grep) (λ utility. utility.output (labelled (names_of (inv.Grep grep)) ([] ∷ [])) ≡ utility.output []) (λ built. refl) refl,
-  by_built (inv.Grep grep) (λ utility. utility.selects (labelled (names_of (inv.Grep grep)) ([] ∷ [])) ≡ utility.selects []) (λ built. refl) refl,
-)
-nothing-from (inv.Tr tr) built none = absurd (omega (arith, none))
-nothing-from (inv.Cut cut) built none = (refl, refl)
-nothing-from (inv.Tail tail) built none = (
-  by_built (inv.Tail tail) (λ utility. utility.output (labelled (names_of (inv.Tail tail)) ([] ∷ [])) ≡ utility.output [])
-      (λ built. ap (λ text. text ++ []) (from-start tail.args.part.unit tail.args.part.origin (and_parts (is_from_start tail.args.part.origin) (has_at_most_one tail.args.operands) built).0)) refl,
-  by_built (inv.Tail tail) (λ utility. utility.selects (labelled (names_of (inv.Tail tail)) ([] ∷ [])) ≡ utility.selects []) (λ built. refl) refl,
+-- without an input nothing is written and selected
+nothing-from : (command : Inv) → (output_of command [] ≡ []) × (selects_of command [] ≡ false)
+nothing-from command = (
+  by_built command (λ utility. utility.output [] ≡ []) (writes command) refl,
+  by_built command (λ utility. utility.selects [] ≡ false) (λ built. picks command) refl,
 )
   where
-    from-start : (of : Unit) (from : Origin) → is_from_start from ≡ true → tail_by of from [] ≡ []
-    from-start of (origin.Start number) built = behind-empty of (number - 1)
-    from-start of (origin.End number) built = absurd (true≢false (sym built))
-nothing-from (inv.Wc wc) built none = absurd (some wc.args.operands (wc-plain wc.args built) none)
-  where
-    some : (operands : List (List ℕ)) → has_none operands ≡ true → separate_inputs operands ≡ 0 → ⊥
-    some [] plain none = absurd (omega (arith, none))
-    some (operand ∷ operands) plain none = true≢false (sym plain)
-nothing-from (inv.Sort sort) built none = (refl, refl)
-nothing-from other built none = absurd (true≢false (sym built))
+    writes : (command : Inv) → is_built_of command ≡ true → (utility_by (command_of command)).output [] ≡ []
+    writes (inv.Cat cat) built = refl
+    writes (inv.Grep grep) built = refl
+    writes (inv.Tr tr) built = refl
+    writes (inv.Cut cut) built = refl
+    writes (inv.Tail tail) built = refl
+    writes (inv.Wc wc) built = total-none wc.args [] built
+    writes (inv.Uniq uniq) built = refl
+    writes (inv.Sort sort) built = refl
+    writes other built = refl
+
+    picks : (command : Inv) → (utility_by (command_of command)).selects [] ≡ false
+    picks (inv.Cat cat) = refl
+    picks (inv.Grep grep) = refl
+    picks (inv.Tr tr) = refl
+    picks (inv.Cut cut) = refl
+    picks (inv.Tail tail) = refl
+    picks (inv.Wc wc) = refl
+    picks (inv.Uniq uniq) = refl
+    picks (inv.Sort sort) = refl
+    picks other = refl
 
 -- how many ins and outs a node has that runs a utility
 both : (ins outs : ℕ) (rest : Bool) → (((ins == 1) && (outs == 1)) && rest) ≡ true → (ins ≡ 1) × (outs ≡ 1)
@@ -178,19 +183,17 @@ given-some (kind.Whole inv) outs texts port runs = only-given (output_of inv (te
 given-some (kind.Finish inv) outs texts port runs = only-given (finish_of inv (texts 0)) port
 given-some other outs texts port runs = absurd (true≢false (sym runs))
 
--- only a whole may have no in
-no-ins : (inv : Inv) (outs : ℕ) → is_utility_node (kind.Whole inv) 0 outs ≡ true → (is_built_of inv ≡ true) × (inputs_of inv ≡ 0)
-no-ins inv outs is =
-    let parts = and_parts ((0 == inputs_of inv) && (outs == 1)) (is_built_of inv) is in
-    (parts.1, sym (eqb-true 0 (inputs_of inv) (and_parts (0 == inputs_of inv) (outs == 1) parts.0).0))
+-- nothing, on either port
+pub either-none : (here : Bool) (text : List ℕ) → text ≡ [] → (if here then text else []) ≡ []
+either-none true text none = none
+either-none false text none = refl
 
-given-none : (kind : NodeKind) (outs : ℕ) (texts : ℕ → List ℕ) (port : ℕ) → is_utility_node kind 0 outs ≡ true
-    → given_on kind 0 outs texts port ≡ (if port == 0 then stream_output kind [] else [])
-given-none (kind.Map inv) outs texts port is = only-given (map_of inv []) port
+-- only a whole may have no in
+given-none : (kind : NodeKind) (outs : ℕ) (texts : ℕ → List ℕ) (port : ℕ) → is_utility_node kind 0 outs ≡ true → given_on kind 0 outs texts port ≡ []
+given-none (kind.Map inv) outs texts port is = absurd (let one = (both 0 outs (reads_one_input (kind.Map inv) && is_built_of inv) is).0 in omega arith)
 given-none (kind.Whole inv) outs texts port is =
-    let facts = no-ins inv outs is in
-    only-given (output_of inv []) port ∙ ap (λ (text : List ℕ). if port == 0 then text else []) (sym (nothing-from inv facts.0 facts.1).0)
-given-none (kind.Finish inv) outs texts port is = only-given (finish_of inv []) port
+    only-given (output_of inv []) port ∙ ap (λ (text : List ℕ). if port == 0 then text else []) (nothing-from inv).0 ∙ either-none (port == 0) [] refl
+given-none (kind.Finish inv) outs texts port is = absurd (let one = (both 0 outs (is_built_of inv) is).0 in omega arith)
 given-none other outs texts port is = absurd (true≢false (sym is))
 
 selects-some : (kind : NodeKind) (texts : ℕ → List ℕ) → stream_selects kind (texts 0) ≡ selects kind (texts_at 1 texts)
@@ -198,9 +201,9 @@ selects-some (kind.Map inv) texts = refl
 selects-some (kind.Whole inv) texts = refl
 selects-some other texts = refl
 
-selects-none : (kind : NodeKind) (outs : ℕ) (texts : ℕ → List ℕ) → is_utility_node kind 0 outs ≡ true → stream_selects kind [] ≡ selects kind (texts_at 0 texts)
-selects-none (kind.Map inv) outs texts is = refl
-selects-none (kind.Whole inv) outs texts is = let facts = no-ins inv outs is in (nothing-from inv facts.0 facts.1).1
+selects-none : (kind : NodeKind) (outs : ℕ) (texts : ℕ → List ℕ) → is_utility_node kind 0 outs ≡ true → selects kind (texts_at 0 texts) ≡ false
+selects-none (kind.Map inv) outs texts is = absurd (let one = (both 0 outs (reads_one_input (kind.Map inv) && is_built_of inv) is).0 in omega arith)
+selects-none (kind.Whole inv) outs texts is = (nothing-from inv).1
 selects-none other outs texts is = refl
 
 -- the one port
@@ -252,8 +255,8 @@ module _ (kind : NodeKind) (ins outs : ℕ) (is : is_utility_node kind ins outs 
       at_most (suc zero) few some = refl
       at_most (suc (suc ins)) few some = absurd (omega arith)
 
-  pub begins-none : ins ≡ 0 → taking ≡ false → ((texts : ℕ → List ℕ) (port : ℕ) → due texts port ≡ (if port == 0 then stream_output kind [] else []))
-      → ((texts : ℕ → List ℕ) → will texts ≡ stream_selects kind []) → Begins kind ins outs through
+  pub begins-none : ins ≡ 0 → taking ≡ false → ((texts : ℕ → List ℕ) (port : ℕ) → due texts port ≡ [])
+      → ((texts : ℕ → List ℕ) → will texts ≡ false) → Begins kind ins outs through
   begins-none none is_taking owed willed =
       let here : is_utility_node kind 0 outs ≡ true = ap (λ (ins : ℕ). is_utility_node kind ins outs) (sym none) ∙ is in
       record {
@@ -263,5 +266,5 @@ module _ (kind : NodeKind) (ins outs : ℕ) (is : is_utility_node kind ins outs 
         plain_outs = λ port. refl;
         is_whole = is_whole;
         owes = λ texts port. owed texts port ∙ sym (given-none kind outs texts port here) ∙ ap (λ (ins : ℕ). given_on kind ins outs texts port) (sym none);
-        may_select = λ texts. willed texts ∙ selects-none kind outs texts here ∙ ap (λ (ins : ℕ). selects kind (texts_at ins texts)) (sym none);
+        may_select = λ texts. willed texts ∙ sym (selects-none kind outs texts here) ∙ ap (λ (ins : ℕ). selects kind (texts_at ins texts)) (sym none);
       }

@@ -4,16 +4,17 @@ ghost use Rattle.ut_args.specs.Built.{is_built_of};
 ghost use Rattle.fl_graph.specs.Kinds.{runs_what_is_built};
 ghost use Rattle.fl_classes.specs.Aggregates.{finish_of, map_of};
 ghost use Rattle.fl_classes.specs.Utilities.{output_of, selects_of};
+ghost use Rattle.ut_groups.specs.Uniq.{uniq_finish};
 ghost use Rattle.fl_machines.specs.Kinds.{stream_output, stream_selects};
 
 use crate::copies::Copy;
 use fl_graph::NodeKind;
 use ps_lines::Memory;
 use std::alloc::Global;
-use ut_args::Inv;
+use ut_args::{Groups, Inv};
 use ut_bytes::Tr;
 use ut_grep::Grep;
-use ut_groups::Wc;
+use ut_groups::{Kept, Named, Uniq, Wc};
 use ut_slices::{Cut, Tail};
 use ut_sort::Sorter;
 use ut_streams::Stream;
@@ -27,6 +28,9 @@ pub enum AnyStream {
     Cut(Cut),
     Tail(Tail),
     Wc(Wc),
+    Named(Named),
+    Uniq(Uniq),
+    Kept(Kept),
     Sort(Sorter),
 }
 
@@ -41,7 +45,7 @@ impl AnyStream {
         match kind {
             NodeKind::Map(inv) => AnyStream::of_map(alloc, inv),
             NodeKind::Whole(inv) => AnyStream::of_whole(alloc, inv),
-            NodeKind::Finish(inv) => Ok(AnyStream::of_finish(inv)),
+            NodeKind::Finish(inv) => AnyStream::of_finish(alloc, inv),
             _ => Ok(AnyStream::Copy(Copy::new())),
         }
     }
@@ -71,10 +75,8 @@ impl AnyStream {
                 Ok(tail) => Ok(AnyStream::Tail(tail)),
                 Err(memory) => Err(memory),
             },
-            Inv::Wc(wc) => match Wc::new(alloc, wc) {
-                Ok(wc) => Ok(AnyStream::Wc(wc)),
-                Err(memory) => Err(memory),
-            },
+            Inv::Wc(wc) => Ok(AnyStream::Wc(Wc::of_part(alloc, wc))),
+            Inv::Uniq(uniq) => Ok(AnyStream::Uniq(Uniq::of_part(alloc, uniq))),
             Inv::Sort(sort) => match Sorter::new(alloc, sort) {
                 Ok(sorter) => Ok(AnyStream::Sort(sorter)),
                 Err(memory) => Err(memory),
@@ -83,7 +85,7 @@ impl AnyStream {
         }
     }
 
-    /// The stream of an invocation that is built: so far the output of each is its map.
+    /// The stream of an invocation that is built: the output of most is their map.
     #[tactic(auto, using(crate::proofs::MachineLemmas::wholes))]
     fn of_whole(alloc: Global, inv: &Inv) -> Result<AnyStream, Memory>
         requires { is_built_of inv.now ≡ true }
@@ -91,22 +93,50 @@ impl AnyStream {
         ensures selects { IfOk result (λ stream. (text : List ℕ) → ⟦<AnyStream as Stream>⟧.selects stream text ≡ selects_of inv.now (text ∷ [])) }
         ensures unspent { IfOk result (λ stream. ⟦<AnyStream as Stream>⟧.spent stream ≡ false) }
     {
-        AnyStream::of_map(alloc, inv)
+        match inv {
+            Inv::Wc(wc) => match Wc::new(alloc, wc) {
+                Ok(wc) => Ok(AnyStream::Wc(wc)),
+                Err(memory) => Err(memory),
+            },
+            Inv::Uniq(uniq) => Ok(AnyStream::Uniq(Uniq::new(alloc, uniq))),
+            _ => AnyStream::of_map(alloc, inv),
+        }
     }
 
-    /// The stream of the finish of an invocation that is built: so far no finish changes the map.
+    /// The stream of the finish of an invocation that is built: that of most changes nothing.
     #[tactic(auto, using(crate::proofs::MachineLemmas::finishes))]
-    fn of_finish(_inv: &Inv) -> AnyStream
-        ensures due { (text : List ℕ) → ⟦<AnyStream as Stream>⟧.due result text ≡ finish_of _inv.now text }
+    fn of_finish(alloc: Global, inv: &Inv) -> Result<AnyStream, Memory>
+        requires { is_built_of inv.now ≡ true }
+        ensures due { IfOk result (λ stream. (text : List ℕ) → ⟦<AnyStream as Stream>⟧.due stream text ≡ finish_of inv.now text) }
+        ensures selects { IfOk result (λ stream. (text : List ℕ) → ⟦<AnyStream as Stream>⟧.selects stream text ≡ false) }
+        ensures unspent { IfOk result (λ stream. ⟦<AnyStream as Stream>⟧.spent stream ≡ false) }
+    {
+        match inv {
+            Inv::Wc(wc) => match Named::new(alloc, wc) {
+                Ok(named) => Ok(AnyStream::Named(named)),
+                Err(memory) => Err(memory),
+            },
+            Inv::Uniq(uniq) => Ok(AnyStream::of_groups(alloc, uniq.args.groups)),
+            _ => Ok(AnyStream::Copy(Copy::new())),
+        }
+    }
+
+    /// The stream of the finish of `uniq`: it keeps groups by their counts, where these aren't written.
+    fn of_groups(alloc: Global, groups: Groups) -> AnyStream
+        ensures due { (text : List ℕ) → ⟦<AnyStream as Stream>⟧.due result text ≡ uniq_finish groups text }
         ensures selects { (text : List ℕ) → ⟦<AnyStream as Stream>⟧.selects result text ≡ false }
         ensures unspent { ⟦<AnyStream as Stream>⟧.spent result ≡ false }
     {
-        AnyStream::Copy(Copy::new())
+        match groups {
+            Groups::All | Groups::Counted => AnyStream::Copy(Copy::new()),
+            Groups::Repeated => AnyStream::Kept(Kept::new(alloc, Groups::Repeated)),
+            Groups::Single => AnyStream::Kept(Kept::new(alloc, Groups::Single)),
+        }
     }
 }
 
 impl Stream for AnyStream {
-    ghost use Rattle.fl_machines.specs.declared.any_stream.AnyStream.TheVariants.{Copy, Grep, Tr, Cut, Tail, Wc, Sort};
+    ghost use Rattle.fl_machines.specs.declared.any_stream.AnyStream.TheVariants.{Copy, Grep, Tr, Cut, Tail, Wc, Named, Uniq, Kept, Sort};
 
     ghost due = { λ stream more. elim stream [
       | Copy copy ↦ ⟦<Copy as Stream>⟧.due copy more
@@ -115,6 +145,9 @@ impl Stream for AnyStream {
       | Cut cut ↦ ⟦<Cut as Stream>⟧.due cut more
       | Tail tail ↦ ⟦<Tail as Stream>⟧.due tail more
       | Wc wc ↦ ⟦<Wc as Stream>⟧.due wc more
+      | Named named ↦ ⟦<Named as Stream>⟧.due named more
+      | Uniq uniq ↦ ⟦<Uniq as Stream>⟧.due uniq more
+      | Kept kept ↦ ⟦<Kept as Stream>⟧.due kept more
       | Sort sorter ↦ ⟦<Sorter as Stream>⟧.due sorter more
     ] };
 
@@ -125,6 +158,9 @@ impl Stream for AnyStream {
       | Cut cut ↦ ⟦<Cut as Stream>⟧.selects cut more
       | Tail tail ↦ ⟦<Tail as Stream>⟧.selects tail more
       | Wc wc ↦ ⟦<Wc as Stream>⟧.selects wc more
+      | Named named ↦ ⟦<Named as Stream>⟧.selects named more
+      | Uniq uniq ↦ ⟦<Uniq as Stream>⟧.selects uniq more
+      | Kept kept ↦ ⟦<Kept as Stream>⟧.selects kept more
       | Sort sorter ↦ ⟦<Sorter as Stream>⟧.selects sorter more
     ] };
 
@@ -135,6 +171,9 @@ impl Stream for AnyStream {
       | Cut cut ↦ ⟦<Cut as Stream>⟧.selected cut
       | Tail tail ↦ ⟦<Tail as Stream>⟧.selected tail
       | Wc wc ↦ ⟦<Wc as Stream>⟧.selected wc
+      | Named named ↦ ⟦<Named as Stream>⟧.selected named
+      | Uniq uniq ↦ ⟦<Uniq as Stream>⟧.selected uniq
+      | Kept kept ↦ ⟦<Kept as Stream>⟧.selected kept
       | Sort sorter ↦ ⟦<Sorter as Stream>⟧.selected sorter
     ] };
 
@@ -145,6 +184,9 @@ impl Stream for AnyStream {
       | Cut cut ↦ ⟦<Cut as Stream>⟧.spent cut
       | Tail tail ↦ ⟦<Tail as Stream>⟧.spent tail
       | Wc wc ↦ ⟦<Wc as Stream>⟧.spent wc
+      | Named named ↦ ⟦<Named as Stream>⟧.spent named
+      | Uniq uniq ↦ ⟦<Uniq as Stream>⟧.spent uniq
+      | Kept kept ↦ ⟦<Kept as Stream>⟧.spent kept
       | Sort sorter ↦ ⟦<Sorter as Stream>⟧.spent sorter
     ] };
 
@@ -156,6 +198,9 @@ impl Stream for AnyStream {
             AnyStream::Cut(cut) => cut.feed(piece, out),
             AnyStream::Tail(tail) => tail.feed(piece, out),
             AnyStream::Wc(wc) => wc.feed(piece, out),
+            AnyStream::Named(named) => named.feed(piece, out),
+            AnyStream::Uniq(uniq) => uniq.feed(piece, out),
+            AnyStream::Kept(kept) => kept.feed(piece, out),
             AnyStream::Sort(sorter) => sorter.feed(piece, out),
         }
     }
@@ -168,6 +213,9 @@ impl Stream for AnyStream {
             AnyStream::Cut(cut) => cut.finish(out),
             AnyStream::Tail(tail) => tail.finish(out),
             AnyStream::Wc(wc) => wc.finish(out),
+            AnyStream::Named(named) => named.finish(out),
+            AnyStream::Uniq(uniq) => uniq.finish(out),
+            AnyStream::Kept(kept) => kept.finish(out),
             AnyStream::Sort(sorter) => sorter.finish(out),
         }
     }
@@ -180,6 +228,9 @@ impl Stream for AnyStream {
             AnyStream::Cut(cut) => cut.has_selected(),
             AnyStream::Tail(tail) => tail.has_selected(),
             AnyStream::Wc(wc) => wc.has_selected(),
+            AnyStream::Named(named) => named.has_selected(),
+            AnyStream::Uniq(uniq) => uniq.has_selected(),
+            AnyStream::Kept(kept) => kept.has_selected(),
             AnyStream::Sort(sorter) => sorter.has_selected(),
         }
     }
@@ -192,6 +243,9 @@ impl Stream for AnyStream {
             AnyStream::Cut(cut) => cut.is_spent(),
             AnyStream::Tail(tail) => tail.is_spent(),
             AnyStream::Wc(wc) => wc.is_spent(),
+            AnyStream::Named(named) => named.is_spent(),
+            AnyStream::Uniq(uniq) => uniq.is_spent(),
+            AnyStream::Kept(kept) => kept.is_spent(),
             AnyStream::Sort(sorter) => sorter.is_spent(),
         }
     }

@@ -1,10 +1,7 @@
 use Rattle.std.proofs.Common.{ap, sym, ◌∙◌}
 use Rattle.ut_args.specs.Built.{is_built_of}
-use Rattle.fl_classes.proofs.ClassLemmas.{tr-map, wc-map}
+use Rattle.fl_classes.proofs.ClassLemmas.{tr-map}
 use Rattle.fl_machines.proofs.any_stream.AnyStream.of_map.Goals as goal
 
 pub returns-in-Ok-new-clause-due : goal.returns-in-Ok-new-clause-due
 returns-in-Ok-new-clause-due c = λ text. rw c.in-Tr.is (c.in-Ok-new.ensures.due text ∙ sym (tr-map c.in-Tr.tr (ap is_built_of (sym c.in-Tr.is) ∙ c.requires) text))
-
-pub returns-in-Ok-new-4-clause-due : goal.returns-in-Ok-new-4-clause-due
-returns-in-Ok-new-4-clause-due c = λ text. rw c.in-Wc.is (c.in-Ok-new-4.ensures.due text ∙ sym (wc-map c.in-Wc.wc (ap is_built_of (sym c.in-Wc.is) ∙ c.requires) text))

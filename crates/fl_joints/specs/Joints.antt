@@ -5,7 +5,10 @@ use Rattle.ps_lines.specs.declared.newlines.TheConstants.{NEWLINE}
 use Rattle.ut_args.specs.declared.invocations.Inv.TheVariants as inv
 use Rattle.fl_graph.specs.declared.kinds.NodeKind.{NodeKind}
 use Rattle.fl_graph.specs.declared.kinds.NodeKind.TheVariants as kind
-use Rattle.ut_groups.specs.Wc.{count_on}
+use Rattle.ut_groups.specs.Columns.{counts_on}
+use Rattle.ut_groups.specs.Counting.{added, no_counts}
+use Rattle.ut_groups.specs.declared.Columns.{Columns}
+use Rattle.ut_groups.specs.declared.Counts.{Counts}
 use Rattle.fl_classes.specs.Parts.{slice, parts_of}
 
 -- the node has a joint
@@ -37,10 +40,10 @@ joined_lines_from within texts port (suc (suc count)) = closing_rest within (tex
 abbrev pub joined_by : Bool → Bool → (ℕ → List ℕ) → ℕ → ℕ → List ℕ
 joined_by close within texts port count = if close then joined_lines_from within texts port count else joined_from texts port count
 
--- the sum of the counts of the texts at so many ports from one on, where this of the first has come
-abbrev pub counts_from : List ℕ → (ℕ → List ℕ) → ℕ → ℕ → ℕ
-counts_from come texts port zero = 0
-counts_from come texts port (suc count) = count_on (come ++ texts port) + counts_from [] texts (port + 1) count
+-- the sums of the counts of the texts at so many ports from one on, where this of the first has come
+abbrev pub counts_from : Columns → List ℕ → (ℕ → List ℕ) → ℕ → ℕ → Counts
+counts_from columns come texts port zero = no_counts
+counts_from columns come texts port (suc count) = added (counts_on columns (come ++ texts port)) (counts_from columns [] texts (port + 1) count)
 
 -- what is left of the parts of a text, where this one is put and the text is given up to a place: of it the rest, and those behind
 abbrev pub parts_left : List ℕ → ℕ → ℕ → ℕ → ℕ → ℕ → List ℕ

@@ -13,6 +13,7 @@ use fl_graph::{Machine, NodeKind};
 use ps_lines::Memory;
 use std::alloc::Global;
 use ut_args::Inv;
+use ut_groups::Columns;
 
 /// The machine of a node that joins or splits, at its beginning.
 ///
@@ -28,7 +29,11 @@ pub fn joint(alloc: Global, kind: &NodeKind, ins: u32, outs: u32) -> Result<Join
         NodeKind::Cat { close } => Ok(Joint::InOrder(InOrder::new(alloc, ins, *close))),
         NodeKind::Drain => Ok(Joint::Fixed(Fixed::draining(alloc)?)),
         NodeKind::Text(text) => Ok(Joint::Fixed(Fixed::giving(alloc, text)?)),
-        NodeKind::Agg(Inv::Wc(_)) => Ok(Joint::CountSum(CountSum::new(alloc, ins))),
+        NodeKind::Agg(Inv::Wc(wc)) => Ok(Joint::CountSum(CountSum::new(
+            alloc,
+            Columns::of(&wc.args),
+            ins,
+        ))),
         NodeKind::Split => Ok(Joint::Split(Split::new(alloc, outs))),
         _ => unreachable!(),
     }

@@ -1,29 +1,27 @@
 //! A node that aggregates counts.
 ghost use Rattle.std.specs.Prelude.{◌≡◌, ◌≤◌, ◌++◌, ℕ, List, [], true, false, IfOk, OnOk};
-ghost use Rattle.ut_groups.specs.Wc.{count_on};
-ghost use Rattle.ut_groups.specs.Counting.{count_line};
+ghost use Rattle.ut_groups.specs.Columns.{counts_line, counts_on};
+ghost use Rattle.ut_groups.specs.Counting.{no_counts};
 
 use fl_graph::{Act, Bytes, Machine, Piece};
-use ps_lines::{Memory, NEWLINE, decimal, read_decimal};
+use ps_lines::Memory;
 use std::alloc::Global;
-use ut_groups::add_sat;
+use ut_groups::{Columns, Counts, MOST_BYTES, add_counts, put_counts, read_counts};
 
-/// The most bytes that the line of a count has: a longer text has none.
-const MOST_BYTES: usize = 21;
-
-/// The machine of an aggregate of `wc`: the sum of the counts that its ins bring, each on a line, from the first in to the last.
+/// The machine of an aggregate of `wc`: the sums of the counts that its ins bring, each on a line, column by column.
 ///
-/// Of the text of an in it holds no more than tells whether it is a count.
+/// Of the text of an in it holds no more than tells whether it is a line of counts.
 #[derive(Drop)]
 pub struct CountSum {
     alloc: Global,
+    columns: Columns,
     ins: u32,
     /// The in whose turn it is.
     at: u32,
     /// The beginning of its text.
     line: Vec<u8>,
-    /// The sum of the counts of the ins before.
-    sum: u64,
+    /// The sums of the counts of the ins before.
+    sum: Counts,
     given: bool,
     putting: bool,
     broken: bool,
@@ -32,21 +30,23 @@ pub struct CountSum {
 
 impl CountSum {
     /// The machine of a node with so many ins, before its first piece.
-    pub fn new(alloc: Global, ins: u32) -> CountSum
+    pub fn new(alloc: Global, columns: Columns, ins: u32) -> CountSum
+        ensures columns { result.columns ≡ columns }
         ensures ins { result.ins ≡ ins }
         ensures at { result.at ≡ 0 }
         ensures line { result.line.items ≡ [] }
-        ensures sum { result.sum ≡ 0 }
+        ensures sum { result.sum ≡ no_counts }
         ensures given { result.given ≡ false }
         ensures putting { result.putting ≡ true }
         ensures broken { result.broken ≡ false }
     {
         CountSum {
             alloc,
+            columns,
             ins,
             at: 0,
             line: Vec::new(alloc),
-            sum: 0,
+            sum: Counts::default(),
             given: false,
             putting: true,
             broken: false,
@@ -57,6 +57,7 @@ impl CountSum {
 impl Machine for CountSum {
     ghost use Rattle.std.specs.Prelude.{◌+◌, ◌-◌, ◌==◌, ◌&&◌, nat_le, nat_lt, if◌then◌else◌};
     ghost use Rattle.fl_graph.specs.declared.pieces.Act.TheVariants.{Take, Put, Stop};
+    ghost use Rattle.ut_groups.specs.Counting.{added};
     ghost use Rattle.fl_joints.specs.Joints.{counts_from};
 
     ghost state = { λ machine. record {
@@ -71,7 +72,7 @@ impl Machine for CountSum {
       broken = machine.broken;
       due = λ texts port.
           if port == 0 then (if machine.given then [] else
-          count_line (machine.sum + counts_from machine.line.items texts machine.at (machine.ins - machine.at))) else [];
+          counts_line machine.columns (added machine.sum (counts_from machine.columns machine.line.items texts machine.at (machine.ins - machine.at))) []) else [];
       selects = λ texts. false;
     } };
 
@@ -85,7 +86,6 @@ impl Machine for CountSum {
         if self.putting { Act::Put(0) } else { Act::Stop }
     }
 
-    #[tactic(auto, using(crate::proofs::SumLemmas::sums))]
     fn take(&mut self, piece: Piece) -> Result<(), Memory> {
         match piece {
             Piece::Bytes(bytes) => {
@@ -98,7 +98,7 @@ impl Machine for CountSum {
             }
             Piece::Mark => Ok(()),
             Piece::End => {
-                self.sum = add_sat(self.sum, count_on(self.line.as_slice()));
+                self.sum = add_counts(self.sum, read_counts(self.columns, self.line.as_slice()));
                 self.line.clear();
                 self.at += 1;
                 Ok(())
@@ -121,7 +121,7 @@ impl Machine for CountSum {
             self.putting = false;
             return Ok(Piece::End);
         }
-        match count_piece(self.alloc, self.sum) {
+        match count_piece(self.alloc, self.columns, self.sum) {
             Ok(bytes) => {
                 self.given = true;
                 Ok(Piece::Bytes(bytes))
@@ -142,10 +142,10 @@ impl Machine for CountSum {
     }
 }
 
-/// Adds the piece to the beginning of a text, as far as that tells which count the text is.
+/// Adds the piece to the beginning of a text, as far as that tells which counts the text has.
 #[tactic(auto, using(crate::proofs::SumLemmas::holds))]
 fn hold(piece: &[u8], line: &mut Vec<u8>) -> Result<(), Memory>
-    ensures { OnOk result ((rest : List ℕ) → count_on (line.new.items ++ rest) ≡ count_on (line.old.items ++ (piece.now ++ rest))) }
+    ensures { OnOk result ((columns : Columns) (rest : List ℕ) → counts_on columns (line.new.items ++ rest) ≡ counts_on columns (line.old.items ++ (piece.now ++ rest))) }
 {
     if line.len() > MOST_BYTES {
         return Ok(());
@@ -154,20 +154,12 @@ fn hold(piece: &[u8], line: &mut Vec<u8>) -> Result<(), Memory>
     Ok(())
 }
 
-/// The count on a line; 0 where it has none.
-fn count_on(line: &[u8]) -> u64
-    ensures { result ≡ count_on line.now }
-{
-    read_decimal(&line[..line.len().saturating_sub(1)]).unwrap_or(0)
-}
-
-/// The count on a line of its own, as a piece.
+/// The counts on a line of their own, as a piece.
 #[tactic(auto, using(crate::proofs::SumLemmas::lines))]
-fn count_piece(alloc: Global, count: u64) -> Result<Bytes, Memory>
-    ensures { IfOk result (λ bytes. bytes ≡ count_line count) }
+fn count_piece(alloc: Global, columns: Columns, counts: Counts) -> Result<Bytes, Memory>
+    ensures { IfOk result (λ bytes. bytes ≡ counts_line columns counts []) }
 {
     let mut line = Vec::new(alloc);
-    decimal(count, &mut line)?;
-    line.push(NEWLINE)?;
+    put_counts(columns, counts, b"", &mut line)?;
     Ok(Bytes::new(line))
 }

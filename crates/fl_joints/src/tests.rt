@@ -209,12 +209,12 @@ fn an_input_alone_stays_as_it_is(rt: HostRuntime) -> Result<(), Fail> {
     Ok(())
 }
 
-/// `wc -l`, if that is an invocation that is built.
-fn count_lines(alloc: Global) -> Result<Option<Inv>, Memory>
+/// The invocation of these words, if they are one that is built.
+fn read_words(alloc: Global, line: &str) -> Result<Option<Inv>, Memory>
     ensures { IfOk result (λ read. IfSome read (λ inv. is_built_of inv ≡ true)) }
 {
     let mut words = Vec::new(alloc);
-    for word in ["wc", "-l"] {
+    for word in line.split(' ') {
         words.push(Vec::from_slice(alloc, word.as_bytes())?)?;
     }
     if words.is_empty() {
@@ -232,13 +232,14 @@ fn count_lines(alloc: Global) -> Result<Option<Inv>, Memory>
     }
 }
 
-/// What an aggregate of three counts puts.
-fn sum_of(
+/// What an aggregate of three maps puts.
+fn aggregate_of(
     alloc: Global,
+    words: &str,
     texts: (&[u8], &[u8], &[u8]),
     cuts: u64,
 ) -> Result<Option<Vec<u8>>, Memory> {
-    let Some(Inv::Wc(inv)) = count_lines(alloc)? else {
+    let Some(Inv::Wc(inv)) = read_words(alloc, words)? else {
         return Ok(None);
     };
     let sum = joint(alloc, &NodeKind::Agg(Inv::Wc(inv)), 3, 1)?;
@@ -249,22 +250,30 @@ fn sum_of(
 #[test]
 fn counts_are_summed(rt: HostRuntime) -> Result<(), Fail> {
     let alloc = rt.alloc();
-    for (texts, wanted) in [
-        (("2\n", "3\n", "40\n"), "45\n.#"),
+    for (words, texts, wanted) in [
+        ("wc -l", ("2\n", "3\n", "40\n"), "45\n.#"),
         (
+            "wc -l",
             ("18446744073709551615\n", "1\n", "0\n"),
             "18446744073709551615\n.#",
         ),
         (
+            "wc -l",
             ("18446744073709551614\n", "1\n", "0\n"),
             "18446744073709551615\n.#",
         ),
-        (("x\n", "7\n", "000000000000000000001\n"), "7\n.#"),
-        (("00000000000000000001\n", "7\n", ""), "8\n.#"),
+        (
+            "wc -l",
+            ("x\n", "7\n", "000000000000000000001\n"),
+            "7\n.#",
+        ),
+        ("wc -l", ("00000000000000000001\n", "7\n", ""), "8\n.#"),
+        ("wc f", ("1 2 4\n", "0 1 1\n", "1 1 2\n"), "2 4 7\n.#"),
+        ("wc -wc", ("2 4\n", "1 1\n", "0 0\n"), "3 5\n.#"),
     ] {
         for cuts in 0..8 {
             let texts = (texts.0.as_bytes(), texts.1.as_bytes(), texts.2.as_bytes());
-            match sum_of(alloc, texts, cuts)? {
+            match aggregate_of(alloc, words, texts, cuts)? {
                 Some(sum) => assert_eq!(rt; sum.as_slice(), wanted.as_bytes(), "at {cuts}"),
                 None => assert!(rt; false, "no invocation"),
             }

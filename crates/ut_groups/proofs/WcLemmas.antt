@@ -31,10 +31,10 @@ pub line-named : (columns : Columns) (counts : Counts) (name : List ℕ) → cou
 line-named columns counts name = ap (λ text. text ++ (behind_space name ++ 10 ∷ [])) (sym (without_last-line (text_of columns counts) 10))
 
 -- what is read of a line of counts: those that it has
-abbrev if_asked : Bool → ℕ → ℕ
+abbrev pub if_asked : Bool → ℕ → ℕ
 if_asked is_asked count = if is_asked then saturated count else 0
 
-abbrev seen_of : Columns → Counts → Counts
+abbrev pub seen_of : Columns → Counts → Counts
 seen_of columns counts = record { lines = if_asked columns.lines counts.lines; words = if_asked columns.words counts.words; bytes = if_asked columns.bytes counts.bytes }
 
 module _ (lines words bytes : ℕ) where

@@ -8,7 +8,7 @@ use Rattle.fl_joints.proofs.makers.joint.Goals as goal
 
 pub returns-in-Agg-Wc : goal.returns-in-Agg-Wc
 returns-in-Agg-Wc c =
-    let wc = c.in-Agg-Wc.field-0-0 in
+    let wc = c.in-Agg-Wc.wc in
     let whole : c.args.kind.now ≡ kind.Agg (inv.Wc wc) = search rules in
     let built : is_built_wc wc.args ≡ true = ap runs_what_is_built (sym whole) ∙ c.requires.built in
     search (rules, counts-given wc built)

@@ -9,7 +9,7 @@ use Rattle.memchr.specs.Find.{Nowhere}
 use Rattle.ps_lines.specs.Lines.{lines, is_closed}
 use Rattle.ps_lines.proofs.LineLemmas.{lines-append, lines-line, is_closed-push}
 use Rattle.ut_regex.specs.declared.machine.Machine.{Machine}
-use Rattle.ut_regex.specs.declared.matcher.Matcher.{Matcher}
+use Rattle.ut_regex.specs.declared.finder.Matcher.{Matcher}
 use Rattle.ut_regex.specs.declared.table.Table.{Table}
 use Rattle.ut_regex.specs.declared.table.TheConstants.{FOUND}
 use Rattle.ut_regex.specs.Finds.{Finds, Stays}

@@ -27,3 +27,6 @@ pub mod HavingLemmas
 pub mod IdleLemmas
 pub mod StuckLemmas
 pub mod StartLemmas
+pub mod AnswerLemmas
+pub mod SeveralLemmas
+pub mod TotalLemmas

@@ -12,11 +12,11 @@ use Rattle.ut_regex.proofs.UniqueLemmas.{one_list_of_pieces, no_fault_either, on
 use Rattle.ut_regex.proofs.SameLemmas.{one_tree, same_places, same_nesting}
 
 -- a text is read in one way
-reads_once : (basic : Bool) (text : List ℕ) (re other : Tree) → Reads basic text re → Reads basic text other → SameTree re other
+pub reads_once : (basic : Bool) (text : List ℕ) (re other : Tree) → Reads basic text re → Reads basic text other → SameTree re other
 reads_once basic text re other (pieces, is, sides) (others, is_other, sides_other) = one_tree (one_list_of_pieces basic is is_other) sides sides_other
 
 -- and then it has no fault
-reads_or_faults : (basic : Bool) (text : List ℕ) (re : Tree) (fault : ReFault) → Reads basic text re → Faults basic text fault → ⊥
+pub reads_or_faults : (basic : Bool) (text : List ℕ) (re : Tree) (fault : ReFault) → Reads basic text re → Faults basic text fault → ⊥
 reads_or_faults basic text re fault (pieces, is, sides) faulty = no_fault_either basic is faulty
 
 reading_of_text : (basic : Bool) (text : List ℕ) (re : Tree) → Reads basic text re → HasOneReading basic text

@@ -1,7 +1,7 @@
 -- A table's answer is the machine's.
-use Rattle.std.proofs.Common.{ℕ, ◌≡◌, ◌+◌, ◌*◌, ◌<◌, ◌≤◌, ◌↔◌, inl, inr, Bool, true, false, not, cond, ◌||◌, ◌==◌, List, [], ◌∷◌, ◌++◌, length, slice_index_or, refl, ap, ap₂, sym, ◌∙◌, subst, arith, append_assoc, append-nil, length-append, suc, Fits, w8}
+use Rattle.std.proofs.Common.{ℕ, ◌≡◌, ◌+◌, ◌*◌, ◌<◌, ◌≤◌, ◌↔◌, inl, inr, Bool, true, false, not, cond, if◌then◌else◌, ◌&&◌, ◌||◌, ◌==◌, List, [], ◌∷◌, ◌++◌, length, slice_index_or, refl, ap, ap₂, sym, ◌∙◌, subst, arith, append_assoc, append-nil, length-append, suc, Fits, w8}
 use Rattle.std.proofs.Math.Seq.{get_or-append_seam}
-use Rattle.std.proofs.lemmas.Bool.{ne_eqb}
+use Rattle.std.proofs.lemmas.Bool.{ne_eqb, not-true}
 use Rattle.std.proofs.lemmas.Bool.Decides.{Decides-eqb}
 use Rattle.ut_regex.specs.declared.program.Op.{Op}
 use Rattle.ut_regex.specs.declared.table.TheConstants.{FOUND}
@@ -9,7 +9,8 @@ use Rattle.ut_regex.specs.Tree.{Tree}
 use Rattle.ut_regex.specs.Spans.{Has}
 use Rattle.ut_regex.specs.Inner.Program.{Core, point, at_begin, at_end, nothing, both, either, many, maybe, core, steps}
 use Rattle.ut_regex.specs.Inner.Seeks.{Seeks, swept, leads_on, marked}
-use Rattle.ut_regex.specs.Inner.Tables.{State, state_at, after, leads_at, runs, IsTable}
+use Rattle.ut_regex.specs.Answers.{answered, is_had}
+use Rattle.ut_regex.specs.Inner.Tables.{State, first_state, state_at, after, leads_at, runs, IsTable}
 use Rattle.ut_regex.specs.Inner.Made.{IsMade}
 use Rattle.ut_regex.specs.declared.machine.Machine.{Machine}
 use Rattle.ut_regex.specs.declared.table.Table.{Table}
@@ -71,8 +72,7 @@ abbrev pub AreBytes : List ℕ → Type 0
 AreBytes [] = Unit {0}
 AreBytes (byte ∷ rest) = (byte < 256) × AreBytes rest
 
-module _ (fold whole : Bool) (re : Tree) (line : List ℕ) (ops : List Op) (program : ops ≡ steps (core re))
-    (states : List State) (next : List ℕ) (ends : List Bool) (table : IsTable ops fold whole states next ends) where
+module _ (fold whole : Bool) (re : Tree) (line : List ℕ) (ops : List Op) (program : ops ≡ steps (core re)) where
   -- the marks behind a byte
   scanned_after : (s : State) (front rest : List ℕ) (byte : ℕ) → line ≡ front ++ byte ∷ rest → Scanned fold whole re line s.bits (length front)
       → s.begins ≡ (length front == 0) → (whole ≡ false → leads_at ops whole false s ≡ false)
@@ -99,6 +99,38 @@ module _ (fold whole : Bool) (re : Tree) (line : List ℕ) (ops : List Op) (prog
       (sym (led_is fold whole re line s.bits place scanned ops whole false (leads_at ops whole false s) program refl
       (ap (λ b. leads_on (b || not whole) (swept b false ops s.bits)) begins)) ∙ led)
 
+  -- the answer of a machine for what is left of the line, from a state on
+  answered_right : (rest front : List ℕ) (s : State) → line ≡ front ++ rest → Scanned fold whole re line s.bits (length front)
+      → s.begins ≡ (length front == 0) → (answered ops fold whole s rest ≡ true) ↔ Has fold whole line re
+  answered_right [] front s cut scanned begins =
+      let at : length front ≡ length line = sym (ap length (cut ∙ append-nil front)) in
+      has_last fold whole re line s.bits (length front) scanned at ops whole s.begins (leads_at ops whole true s) program refl
+      (begins ∙ ap (λ n. n == 0) at) refl
+  answered_right (byte ∷ rest) front s cut scanned begins =
+      by_led (not whole && leads_at ops whole false s) refl (λ s scanned begins. answered_right rest (front ++ byte ∷ []) s (cut ∙ sym (append_assoc front (byte ∷ []) rest)) scanned begins)
+    where
+      by_led : (led : Bool) → (not whole && leads_at ops whole false s) ≡ led
+          → ((s : State) → Scanned fold whole re line s.bits (length (front ++ byte ∷ [])) → s.begins ≡ (length (front ++ byte ∷ []) == 0)
+          → (answered ops fold whole s rest ≡ true) ↔ Has fold whole line re)
+          → ((if led then true else answered ops fold whole (after ops fold whole s byte) rest) ≡ true) ↔ Has fold whole line re
+      by_led true is onward =
+          let within : length front ≤ length line = omega (arith, ap length cut, length-append front (byte ∷ rest)) in
+          let part : whole ≡ false = not-true whole (and_first (not whole) _ is) in
+          (λ _. led_has s (length front) scanned begins part within (and_second (not whole) _ is), λ _. refl)
+      by_led false is onward =
+          let later : false ≡ (length front + 1 == 0) = sym (ne_eqb (length front + 1) 0 (λ h. omega (arith, h))) in
+          let long : length (front ++ byte ∷ []) ≡ length front + 1 = length-append front (byte ∷ []) in
+          onward (after ops fold whole s byte)
+          (subst (λ n. Scanned fold whole re line (after ops fold whole s byte).bits n) (sym long)
+          (scanned_after s front rest byte cut scanned begins (λ part. sym (ap (λ w. not w && leads_at ops whole false s) part) ∙ is)))
+          (later ∙ ap (λ n. n == 0) (sym long))
+
+-- the answer of an expression's machine is whether the line has the expression
+pub had-has : (fold whole : Bool) (re : Tree) (line : List ℕ) → (is_had fold whole re line ≡ true) ↔ Has fold whole line re
+had-has fold whole re line = answered_right fold whole re line (steps (core re)) refl line [] first_state refl (scan_start fold whole re line) refl
+
+module _ (fold whole : Bool) (re : Tree) (line : List ℕ) (ops : List Op) (program : ops ≡ steps (core re))
+    (states : List State) (next : List ℕ) (ends : List Bool) (table : IsTable ops fold whole states next ends) where
   pub runs_right : (rest front : List ℕ) (state : ℕ) → AreBytes rest → line ≡ front ++ rest → state < length states
       → Scanned fold whole re line (state_at states state).bits (length front) → (state_at states state).begins ≡ (length front == 0)
       → (whole ≡ false → leads_at ops whole false (state_at states state) ≡ false)
@@ -113,7 +145,7 @@ module _ (fold whole : Bool) (re : Tree) (line : List ℕ) (ops : List Op) (prog
       let e = slice_index_or next (256 * state + byte) FOUND in
       let target = after ops fold whole s byte in
       let within : 256 * state + byte < length next = omega (arith, table.full, known, small) in
-      let there = scanned_after s front rest byte cut scanned begins quiet in
+      let there = scanned_after fold whole re line ops program s front rest byte cut scanned begins quiet in
       let later : target.begins ≡ (length front + 1 == 0) = sym (ne_eqb (length front + 1) 0 (λ h. omega (arith, h))) in
       let whole_line : line ≡ (front ++ byte ∷ []) ++ rest = cut ∙ sym (append_assoc front (byte ∷ []) rest) in
       let long : length (front ++ byte ∷ []) ≡ length front + 1 = length-append front (byte ∷ []) in
@@ -122,7 +154,7 @@ module _ (fold whole : Bool) (re : Tree) (line : List ℕ) (ops : List Op) (prog
         | inl found ↦
             let answer : runs next ends state (byte ∷ rest) ≡ true =
             ap (λ b. cond b true (runs next ends e rest)) ((Decides-eqb e FOUND).1 found.0) in
-            (λ h. led_has target (length front + 1) there later found.1 place_within found.2, λ h. answer)
+            (λ h. led_has fold whole re line ops program target (length front + 1) there later found.1 place_within found.2, λ h. answer)
         | inr goes ↦
             let answer : runs next ends state (byte ∷ rest) ≡ runs next ends e rest =
             ap (λ b. cond b true (runs next ends e rest)) (ne_eqb e FOUND (λ h. omega (arith, h, goes.0))) in

@@ -1,6 +1,6 @@
 -- What a matcher is made for: `compile` says it of the one that it gives, and `has` wants it. How the parts of one fit is in `Inner`.
 use Rattle.std.specs.Prelude.{◌≡◌, Bool, IfSome}
-use Rattle.ut_regex.specs.declared.matcher.Matcher.{Matcher}
+use Rattle.ut_regex.specs.declared.finder.Matcher.{Matcher}
 use Rattle.ut_regex.specs.Tree.{Tree}
 use Rattle.ut_regex.specs.Inner.Searches.{Looks}
 use Rattle.ut_regex.specs.Inner.Seeks.{Seeks, Same}

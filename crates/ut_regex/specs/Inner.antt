@@ -11,5 +11,6 @@ pub mod Twins
 pub mod Literals
 pub mod Searches
 pub mod Passed
+pub mod Finders
 pub mod Counted
 pub mod Building

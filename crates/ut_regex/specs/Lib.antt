@@ -10,4 +10,6 @@ pub mod Sizes
 pub mod Reading
 pub mod Same
 pub mod OneReading
+pub mod Answers
+pub mod Several
 pub mod Inner

@@ -1,6 +1,7 @@
 -- Which lines have an expression (XBD 9.2). The code carries a set of places along the line; the definition tries all.
-use Rattle.std.specs.Prelude.{ℕ, zero, suc, ◌≡◌, ◌+◌, ◌-◌, ◌<◌, ◌≤◌, ◌⊎◌, Bool, true, false, ◌==◌, ◌&&◌, ◌||◌, not, nat_le, List, length, slice_index, IfSome, if◌then◌else◌}
+use Rattle.std.specs.Prelude.{ℕ, zero, suc, ◌≡◌, ◌+◌, ◌-◌, ◌<◌, ◌≤◌, ◌⊎◌, Bool, true, false, ◌==◌, ◌&&◌, ◌||◌, not, nat_le, nat_lt, List, length, slice_index, IfSome, if◌then◌else◌}
 use Rattle.ps_lines.specs.ByteSet.{has_byte}
+use Rattle.ps_lines.specs.declared.ByteSet.{ByteSet}
 use Rattle.ut_regex.specs.declared.tree.Leaf.{Leaf}
 use Rattle.ut_regex.specs.declared.tree.Leaf.TheVariants.{Byte, Any, Among, NotAmong}
 use Rattle.ut_regex.specs.declared.tree.Bounds.{Bounds}
@@ -14,13 +15,17 @@ is_from low high byte = nat_le low byte && nat_le byte high
 unfoldable pub other_case : ℕ → ℕ
 other_case byte = if is_from 65 90 byte then byte + 32 else if is_from 97 122 byte then byte - 32 else byte
 
+-- the set holds the byte; it holds no number that is no byte
+abbrev pub in_set : ByteSet → ℕ → Bool
+in_set set byte = nat_lt byte 256 && has_byte set byte
+
 -- a byte of the line is what is asked for. With `fold` both cases of a letter are what one of them is, and a list of
 -- bytes gains the other cases before its complement is taken
 abbrev pub fits : Bool → Leaf → ℕ → Bool
 fits fold (Byte wanted) byte = byte == wanted || (fold && other_case byte == wanted)
 fits fold Any byte = true
-fits fold (Among set) byte = has_byte set byte || (fold && has_byte set (other_case byte))
-fits fold (NotAmong set) byte = not (has_byte set byte || (fold && has_byte set (other_case byte)))
+fits fold (Among set) byte = in_set set byte || (fold && in_set set (other_case byte))
+fits fold (NotAmong set) byte = not (in_set set byte || (fold && in_set set (other_case byte)))
 
 -- what spans from one place to another, so many times in a row
 abbrev pub Copies : (ℕ → ℕ → Type 0) → ℕ → ℕ → ℕ → Type 0

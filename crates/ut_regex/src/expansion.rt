@@ -1,10 +1,11 @@
 //! The program of an expression.
 ghost use Rattle.std.specs.Prelude.{◌≡◌, ℕ, List, [], ◌∷◌, ◌++◌, IfOk, OnOk};
-ghost use Rattle.ut_regex.specs.Tree.{Tree, last_tree, trees_before, with_node, with_nodes};
+ghost use Rattle.ut_regex.specs.Tree.{Tree, alternative, tree, last_tree, trees_before, with_node, with_nodes};
+ghost use Rattle.ut_regex.specs.Several.{any_of, or_any, trees_of};
 ghost use Rattle.ut_regex.specs.Inner.Program.{Core, core, copies, options, repeated, steps, parts_of, programs};
 
 use crate::program::Op;
-use crate::tree::{Bounds, Node};
+use crate::tree::{Bounds, Leaf, Node, Regex};
 use std::alloc::{AllocError, Global};
 
 /// The steps of the expression that the nodes make.
@@ -16,6 +17,42 @@ pub(crate) fn program_of(alloc: Global, nodes: &[Node]) -> Result<Vec<Op>, Alloc
         add_node(alloc, &mut parts, *node)?;
     }
     last_part(alloc, &mut parts)
+}
+
+/// The steps of an expression that is one of several. Without an expression they are those of a byte behind the line's end.
+pub(crate) fn program_of_any(alloc: Global, expressions: &[Regex]) -> Result<Vec<Op>, AllocError>
+    ensures { IfOk result (λ made. made.items ≡ steps (core (any_of (trees_of expressions.now)))) }
+{
+    match expressions {
+        [] => Ok(vec![in alloc; Op::End, Op::Point(Leaf::Any), Op::Both]?),
+        [first, others @ ..] => {
+            let steps = program_of(alloc, &first.nodes)?;
+            with_sides(alloc, steps, others)
+        }
+    }
+}
+
+/// The steps of an expression or one of others.
+fn with_sides(alloc: Global, first: Vec<Op>, others: &[Regex]) -> Result<Vec<Op>, AllocError>
+    ensures { IfOk result (λ made. (re : Tree) → first.items ≡ steps (core re) → made.items ≡ steps (core (or_any re (trees_of others.now)))) }
+{
+    let mut steps = first;
+    let mut left = others;
+    while let [other, rest @ ..] = left {
+        add_side(alloc, &mut steps, other)?;
+        left = rest;
+    }
+    Ok(steps)
+}
+
+/// Adds an expression as another side of the one that the steps are of.
+fn add_side(alloc: Global, first: &mut Vec<Op>, other: &Regex) -> Result<(), AllocError>
+    ensures { OnOk result ((re : Tree) → first.old.items ≡ steps (core re) → first.new.items ≡ steps (core (alternative re (tree other.now)))) }
+{
+    let side = program_of(alloc, &other.nodes)?;
+    first.extend_from_slice(&side)?;
+    first.push(Op::Either)?;
+    Ok(())
 }
 
 /// Makes one part of the last parts, as a node says.

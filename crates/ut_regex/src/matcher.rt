@@ -1,13 +1,17 @@
 //! The matcher.
-ghost use Rattle.std.specs.Prelude.{◌≡◌, ◌<◌, ◌≤◌, true, length, IfOk, IfSome, MatchOption};
+ghost use Rattle.std.specs.Prelude.{◌<◌, ◌≤◌, true, length, IfOk, IfSome, MatchOption};
 ghost use Rattle.memchr.specs.Find.{Nowhere};
+ghost use Rattle.std.specs.Prelude.{◌≡◌, ℕ, List};
+ghost use Rattle.ut_regex.specs.Answers.{answers, is_had};
 ghost use Rattle.ut_regex.specs.Finds.{Finds};
 ghost use Rattle.ut_regex.specs.Inner.Literals.{StandsAt};
 ghost use Rattle.ut_regex.specs.Inner.Searches.{bytes_of, folds};
+ghost use Rattle.ut_regex.specs.Several.{any_of, trees_of};
 ghost use Rattle.ut_regex.specs.Tree.{tree};
 
 use crate::cuts::{Cut, cut_around};
-use crate::expansion::program_of;
+use crate::expansion::{program_of, program_of_any};
+use crate::finder::Matcher;
 use crate::literals::literal_of;
 use crate::machine::Machine;
 use crate::search::Search;
@@ -16,19 +20,11 @@ use crate::tree::Regex;
 use ps_lines::Memory;
 use std::alloc::Global;
 
-/// Seeks one expression in lines. A line without the bytes that the expression needs lacks it. Of the others a table of the
-/// machine's states answers where they are few, and else the machine itself.
-#[derive(Drop)]
-pub struct Matcher {
-    machine: Machine,
-    table: Option<Table>,
-    literal: Option<Search>,
-}
-
 /// A matcher for an expression: with `fold` letters are compared in both cases, and with `whole` the expression has to be
 /// the whole line.
 pub fn compile(alloc: Global, re: &Regex, fold: bool, whole: bool) -> Result<Matcher, Memory>
-    ensures { IfOk result (λ matcher. Finds matcher fold whole (tree re.now)) }
+    ensures finds { IfOk result (λ matcher. Finds matcher fold whole (tree re.now)) }
+    ensures answers { IfOk result (λ matcher. (line : List ℕ) → answers matcher line ≡ is_had fold whole (tree re.now) line) }
 {
     let steps = program_of(alloc, &re.nodes)?;
     let mut machine = Machine::running(alloc, steps, fold, whole)?;
@@ -38,6 +34,31 @@ pub fn compile(alloc: Global, re: &Regex, fold: bool, whole: bool) -> Result<Mat
         machine,
         table,
         literal,
+    })
+}
+
+/// A matcher for lines that have one of several expressions.
+///
+/// They are sought together, as the sides of one alternative. Without an expression no line has one.
+pub fn compile_any(
+    alloc: Global,
+    expressions: &[Regex],
+    fold: bool,
+    whole: bool,
+) -> Result<Matcher, Memory>
+    ensures finds { IfOk result (λ matcher. Finds matcher fold whole (any_of (trees_of expressions.now))) }
+    ensures answers { IfOk result (λ matcher. (line : List ℕ) → answers matcher line ≡ is_had fold whole (any_of (trees_of expressions.now)) line) }
+{
+    if let [re] = expressions {
+        return compile(alloc, re, fold, whole);
+    }
+    let steps = program_of_any(alloc, expressions)?;
+    let mut machine = Machine::running(alloc, steps, fold, whole)?;
+    let table = Table::of(alloc, &mut machine)?;
+    Ok(Matcher {
+        machine,
+        table,
+        literal: None,
     })
 }
 
@@ -58,18 +79,23 @@ const SPARE_FAILURES: usize = 16;
 const FAILURE_STRETCH: usize = 128;
 
 impl Matcher {
-    ghost use Rattle.std.specs.Prelude.{◌↔◌, Bool, IsTrue, IfNone};
+    ghost use Rattle.std.specs.Prelude.{◌↔◌, Bool, false, IsTrue, IfNone};
+    ghost use Rattle.std.specs.List.{list_any};
     ghost use Rattle.ps_lines.specs.Lines.{is_closed, lines};
+    ghost use Rattle.ut_regex.specs.Answers.{answers};
     ghost use Rattle.ut_regex.specs.Finds.{Finds, Stays};
-    ghost use Rattle.ut_regex.specs.Having.{CutsOut, IsFirstHaving, Lack};
+    ghost use Rattle.ut_regex.specs.Having.{CutsOut, IsFirst, IsFirstHaving, Lack};
     ghost use Rattle.ut_regex.specs.Inner.Passed.{IsPassed};
     ghost use Rattle.ut_regex.specs.Spans.{Has};
     ghost use Rattle.ut_regex.specs.Tree.{Tree};
 
     /// Whether the line has the expression. It takes no memory, and ends at the first place where the answer is known.
+    #[tactic(auto, using(crate::proofs::AnswerLemmas::kept))]
     pub fn has(&mut self, line: &[u8]) -> bool
         ensures has { (fold whole : Bool) (re : Tree) → Finds self.old fold whole re → (IsTrue result ↔ Has fold whole line.now re) }
+        ensures answer { result ≡ answers self.old line.now }
         ensures stays { Stays self.old self.new }
+        ensures same { (line : List ℕ) → answers self.new line ≡ answers self.old line }
     {
         if lacks(&self.literal, line) {
             return false;
@@ -89,14 +115,18 @@ impl Matcher {
     }
 
     /// The first line of a closed text that has the expression. It takes no memory.
+    #[tactic(auto, using(crate::proofs::AnswerLemmas::kept))]
     pub fn first_having<'t>(&mut self, text: &'t [u8]) -> Option<Cut<'t>>
         requires closed { is_closed text.now ≡ true }
         ensures found { (fold whole : Bool) (re : Tree) → Finds self.old fold whole re
             → IfSome result (λ cut. IsFirstHaving fold whole re text.now cut.before.now cut.line.now cut.rest.now) }
         ensures none { (fold whole : Bool) (re : Tree) → Finds self.old fold whole re → IfNone result (Lack fold whole re (lines text.now)) }
+        ensures first { IfSome result (λ cut. IsFirst (answers self.old) text.now cut.before.now cut.line.now cut.rest.now) }
+        ensures no_line { IfNone result (list_any (answers self.old) (lines text.now) ≡ false) }
         ensures shorter { IfSome result (λ cut. length cut.rest.now < length text.now) }
         ensures rest { IfSome result (λ cut. is_closed cut.rest.now ≡ true) }
         ensures stays { Stays self.old self.new }
+        ensures same { (line : List ℕ) → answers self.new line ≡ answers self.old line }
     {
         let mut from = 0;
         let mut failures = 0;

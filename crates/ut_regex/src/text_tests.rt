@@ -1,6 +1,6 @@
 //! Lines of texts that have an expression; what is wanted is what GNU grep prints in the C locale.
 
-use crate::{Matcher, compile, read_bre, read_ere};
+use crate::{Matcher, Regex, compile, compile_any, read_bre, read_ere};
 use ps_lines::is_closed;
 use std::alloc::Global;
 use std::test::Fail;
@@ -73,6 +73,25 @@ fn lines_that_have_an_expression_are_found_in_order(rt: HostRuntime) -> Result<(
             None => assert!(rt; false, "{expression}"),
         }
     }
+    Ok(())
+}
+
+#[test]
+fn several_expressions_are_sought_together(rt: HostRuntime) -> Result<(), Fail> {
+    let alloc = rt.alloc();
+    let mut expressions = Vec::new(alloc);
+    let mut none = compile_any(alloc, expressions.as_slice(), false, false)?;
+    assert!(rt; !none.has(b"") && !none.has(b"a"));
+    for bytes in [b"a.".as_slice(), b"B*".as_slice(), b"".as_slice()] {
+        expressions.push(Regex::of_bytes(alloc, bytes)?)?;
+    }
+    let mut whole = compile_any(alloc, expressions.as_slice(), true, true)?;
+    let found = printed(alloc, &mut whole, b"a.\nab\nb*\n\nB*\na.b\nA.\n")?;
+    assert_eq!(rt; found.as_slice(), b"a.\nb*\n\nB*\nA.\n".as_slice());
+    let _ = expressions.pop();
+    let mut parts = compile_any(alloc, expressions.as_slice(), false, false)?;
+    let found = printed(alloc, &mut parts, b"xa.x\nab\nb*\n\nxB*\nA.\n")?;
+    assert_eq!(rt; found.as_slice(), b"xa.x\nxB*\n".as_slice());
     Ok(())
 }
 

@@ -1,5 +1,5 @@
 -- Sizes as the code counts them.
-use Rattle.std.specs.Prelude.{ℕ, ◌-◌, ◌^◌, min, List, map}
+use Rattle.std.specs.Prelude.{◌-◌, ◌^◌, min, List, map}
 use Rattle.ut_regex.specs.declared.sizes.Size.{Size}
 use Rattle.ut_regex.specs.Sizes.{row_place, bar_place, places, nesting}
 use Rattle.ut_regex.specs.Tree.{Tree}

@@ -3,7 +3,7 @@ use Rattle.ps_lines.specs.Lines.{is_closed, lines}
 use Rattle.ut_regex.specs.Finds.{Finds, Stays}
 use Rattle.ut_regex.specs.Having.{Lack}
 use Rattle.ut_regex.specs.Tree.{Tree}
-use Rattle.ut_regex.proofs.matcher.Matcher.first_having.Given as goal
+use Rattle.ut_regex.proofs.finder.Matcher.first_having.Given as goal
 
 abbrev pub invariant-loop-cut : goal.invariant-loop-cut
 invariant-loop-cut l = record {

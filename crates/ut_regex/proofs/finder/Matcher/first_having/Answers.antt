@@ -1,9 +1,13 @@
-use Rattle.std.proofs.Common.{arith, refl, rules, length-drop}
+use Rattle.std.proofs.Common.{◌+◌, true, false, arith, refl, rules, length, length-drop, take}
 use Rattle.std.proofs.lemmas.Bool.{false≢true}
 use Rattle.std.proofs.lemmas.List.{take_rest}
 use Rattle.ps_lines.proofs.ClosedLemmas.{closed-drop}
-use Rattle.ut_regex.proofs.HavingLemmas.{finds-stays, passed-all, passed-before, walked-all, walked-ends, walked-having, walked-lack, walked-rest}
-use Rattle.ut_regex.proofs.matcher.Matcher.first_having.Goals as goal
+use Rattle.std.specs.List.{list_any}
+use Rattle.ps_lines.specs.Lines.{lines}
+use Rattle.ut_regex.specs.Answers.{answers}
+use Rattle.ut_regex.proofs.AnswerLemmas.{answers-has, by_finder, lack-answers}
+use Rattle.ut_regex.proofs.HavingLemmas.{finds-stays, passed-all, passed-before, walked-all, walked-cut, walked-ends, walked-having, walked-lack, walked-rest}
+use Rattle.ut_regex.proofs.finder.Matcher.first_having.Goals as goal
 
 pub passed-place-requires : goal.passed-place-requires
 passed-place-requires c = rw take_rest (record { closed = closed-drop c.args.text.now c.loop-cut.from c.requires.closed })
@@ -50,4 +54,23 @@ loop-cut-preserved c =
           (l.invariant.passed fold whole re finds)
           (passed-before fold whole re _ c.in-Some.cut.before.now c.in-Some.cut.line.now c.in-Some.cut.rest.now c.passed-place.result here cut c.in-Some.ensures.here)
           (λ has. false≢true ((c.if-runs_over.ensures.has fold whole re now).1 has));
+    }
+
+pub returns-in_default-clause-no_line : goal.returns-in_default-clause-no_line
+returns-in_default-clause-no_line c =
+    by_finder c.args.self.now (list_any (answers c.args.self.now) (lines c.args.text.now)) false (λ fold whole re finds.
+    lack-answers c.args.self.now fold whole re finds.seeks (lines c.args.text.now) (returns-in_default-clause-none c fold whole re finds))
+
+pub returns-then-runs_over-clause-first : goal.returns-then-runs_over-clause-first
+returns-then-runs_over-clause-first c =
+    let l = c.loop-cut in
+    let before = take (l.from + length c.in-Some.cut.before.now) c.args.text.now in
+    record {
+      cut =
+          walked-cut c.args.text.now c.in-Some.cut.before.now c.in-Some.cut.line.now c.in-Some.cut.rest.now l.from l.invariant.within l.invariant.ends
+          (rw take_rest at c.in-Some.ensures.cut);
+      passed = by_finder c.args.self.now (list_any (answers c.args.self.now) (lines before)) false (λ fold whole re finds.
+          lack-answers c.args.self.now fold whole re finds.seeks (lines before) (returns-then-runs_over-clause-found c fold whole re finds).passed);
+      has = by_finder c.args.self.now (answers c.args.self.now c.in-Some.cut.line.now) true (λ fold whole re finds.
+          (answers-has c.args.self.now fold whole re c.in-Some.cut.line.now finds.seeks).1 (returns-then-runs_over-clause-found c fold whole re finds).has);
     }

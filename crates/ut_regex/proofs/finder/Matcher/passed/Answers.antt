@@ -2,7 +2,7 @@ use Rattle.std.proofs.Common.{IfSome, subst, sym}
 use Rattle.ut_regex.specs.Inner.Made.{IsMade}
 use Rattle.ut_regex.proofs.HavingLemmas.{lack-literal, lack-table, late-at, late-never}
 use Rattle.ut_regex.proofs.RunLemmas.{are_bytes}
-use Rattle.ut_regex.proofs.matcher.Matcher.passed.Goals as goal
+use Rattle.ut_regex.proofs.finder.Matcher.passed.Goals as goal
 
 pub returns-in-Some-clause-passed : goal.returns-in-Some-clause-passed
 returns-in-Some-clause-passed c = λ fold whole re finds before more cut closed low.

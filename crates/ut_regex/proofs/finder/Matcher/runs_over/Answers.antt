@@ -1,7 +1,8 @@
 use Rattle.std.proofs.Common.{IfSome, subst, sym, ◌∙◌}
 use Rattle.ut_regex.specs.Inner.Made.{IsMade}
+use Rattle.ut_regex.proofs.AnswerLemmas.{made-same}
 use Rattle.ut_regex.proofs.RunLemmas.{are_bytes, made_has}
-use Rattle.ut_regex.proofs.matcher.Matcher.runs_over.Goals as goal
+use Rattle.ut_regex.proofs.finder.Matcher.runs_over.Goals as goal
 
 pub returns-in-Some-clause-has : goal.returns-in-Some-clause-has
 returns-in-Some-clause-has c = λ fold whole re finds.
@@ -9,3 +10,8 @@ returns-in-Some-clause-has c = λ fold whole re finds.
     let made = subst (λ table. IfSome table (λ made. IsMade machine.steps.items machine.fold machine.whole made)) c.in-Some.is finds.table in
     let answer = made_has machine fold whole re c.args.line.now c.in-Some.table finds.seeks (are_bytes c.args.line.now c.type_inv.line) made in
     (λ h. answer.0 (sym c.has.ensures ∙ h), λ h. c.has.ensures ∙ answer.1 h)
+
+pub invariant_of-self : goal.invariant_of-self
+invariant_of-self c = record {
+  made = made-same c.args.self.now.machine c.has-in-None.new.self c.args.self.now.table c.args.self.now.literal c.has-in-None.ensures.same c.args.self.now.made;
+}

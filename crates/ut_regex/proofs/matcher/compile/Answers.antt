@@ -1,0 +1,16 @@
+use Rattle.std.proofs.Common.{rules}
+use Rattle.std.proofs.lemmas.Grind.{merely}
+use Rattle.ut_regex.specs.Tree.{tree}
+use Rattle.ut_regex.proofs.matcher.compile.Goals as goal
+
+pub invariant_of-result : goal.invariant_of-result
+invariant_of-result c = record {
+  made = merely (record {
+    fold = c.args.fold;
+    whole = c.args.whole;
+    re = tree c.args.re.now;
+    seeks = search rules;
+    made = search rules;
+    looks = search rules;
+  });
+}

@@ -1,0 +1,16 @@
+use Rattle.std.proofs.Common.{rules}
+use Rattle.std.proofs.lemmas.Grind.{merely}
+use Rattle.ut_regex.specs.Several.{any_of, trees_of}
+use Rattle.ut_regex.proofs.matcher.compile_any.Goals as goal
+
+pub invariant_of-result : goal.invariant_of-result
+invariant_of-result c = record {
+  made = merely (record {
+    fold = c.args.fold;
+    whole = c.args.whole;
+    re = any_of (trees_of c.args.expressions.now);
+    seeks = search rules;
+    made = search rules;
+    looks = tt;
+  });
+}

@@ -1,0 +1,16 @@
+//! What a matcher is made of.
+ghost use Rattle.ut_regex.specs.Inner.Finders.{IsFinder};
+
+use crate::machine::Machine;
+use crate::search::Search;
+use crate::table::Table;
+
+/// Seeks one expression in lines. A line without the bytes that the expression needs lacks it. Of the others a table of the
+/// machine's states answers where they are few, and else the machine itself.
+#[derive(Drop)]
+pub struct Matcher {
+    pub(crate) machine: Machine,
+    pub(crate) table: Option<Table>,
+    pub(crate) literal: Option<Search>,
+    ghost made: { ∥ IsFinder machine table literal ∥₁ },
+}

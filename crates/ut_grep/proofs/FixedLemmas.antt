@@ -1,5 +1,5 @@
 -- Where a pattern stands in a text, and in which of its lines.
-use Rattle.std.proofs.Common.{◌≡◌, ℕ, suc, ◌+◌, ◌-◌, ◌<◌, ◌≤◌, ◌==◌, ◌&&◌, ◌||◌, Bool, true, false, List, [], ◌∷◌, ◌++◌, length, get_or, drop, take, Option, None, Some, if◌then◌else◌, refl, ap, sym, ◌∙◌, append_assoc, arith, length-append, length-drop, not, codes}
+use Rattle.std.proofs.Common.{◌≡◌, ℕ, suc, ◌+◌, ◌-◌, ◌<◌, ◌≤◌, ◌==◌, ◌&&◌, ◌||◌, Bool, true, false, List, [], ◌∷◌, ◌++◌, length, get_or, drop, take, Option, None, Some, if◌then◌else◌, refl, ap, sym, ◌∙◌, append_assoc, arith, length-append, length-drop, not}
 use Rattle.std.specs.Option.{is_some}
 use Rattle.std.specs.List.{onto_first}
 use Rattle.std.proofs.Math.Seq.{take-append_seam}
@@ -12,7 +12,6 @@ use Rattle.ps_lines.proofs.ClosedLemmas.{closed-back, closed-plain}
 use Rattle.ps_lines.proofs.LineLemmas.{lines-append, lines-line}
 use Rattle.ut_streams.specs.Streams.{CutsLastLine, Put, Wrote}
 use Rattle.ut_streams.proofs.StreamLemmas.{closed-rest, Wrote-at, Wrote-broken, Wrote-put, Wrote-trans}
-use Rattle.std.specs.Str.{bytes_eq}
 use Rattle.ps_lines.specs.Lines.{is_empty}
 use Rattle.ut_args.specs.declared.commands.GrepArgs.{GrepArgs}
 use Rattle.ut_args.specs.Built.{is_built_grep, is_one_pattern}

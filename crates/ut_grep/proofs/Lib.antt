@@ -1,1 +1,4 @@
 pub mod FixedLemmas
+pub mod TallyLemmas
+pub mod SelectionLemmas
+pub mod PatternLemmas

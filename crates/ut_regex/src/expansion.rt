@@ -70,7 +70,7 @@ fn add_node(alloc: Global, parts: &mut Vec<Vec<Op>>, node: Node) -> Result<(), A
         Node::Alternative => joined(alloc, parts, Op::Either)?,
         Node::Repetition(bounds) => {
             let part = last_part(alloc, parts)?;
-            repetition(alloc, &part, bounds)?
+            repetition(alloc, part, bounds)?
         }
     };
     parts.push(made)?;
@@ -108,27 +108,28 @@ fn joined(alloc: Global, parts: &mut Vec<Vec<Op>>, step: Op) -> Result<Vec<Op>, 
     Ok(first)
 }
 
-/// A part as often as the bounds say.
-fn repetition(alloc: Global, part: &[Op], bounds: Bounds) -> Result<Vec<Op>, AllocError>
-    ensures { IfOk result (λ made. (whole : Core) → part.now ≡ steps whole
+/// A part as often as the bounds say. Where it may stand any number of times it isn't copied, so that stars behind one another cost a step
+/// each.
+fn repetition(alloc: Global, part: Vec<Op>, bounds: Bounds) -> Result<Vec<Op>, AllocError>
+    ensures { IfOk result (λ made. (whole : Core) → part.items ≡ steps whole
         → made.items ≡ steps (repeated bounds.high bounds.low whole)) }
 {
     match bounds.high {
         None if bounds.low == 0 => {
-            let mut made = Vec::from_slice(alloc, part)?;
+            let mut made = part;
             made.push(Op::Many)?;
             Ok(made)
         }
         None => {
-            let mut made = copies_of(alloc, part, bounds.low)?;
-            made.extend_from_slice(part)?;
+            let mut made = copies_of(alloc, &part, bounds.low)?;
+            made.extend_from_slice(&part)?;
             made.push(Op::Many)?;
             made.push(Op::Both)?;
             Ok(made)
         }
         Some(high) => {
-            let mut made = copies_of(alloc, part, bounds.low)?;
-            add_options(&mut made, part, high - bounds.low)?;
+            let mut made = copies_of(alloc, &part, bounds.low)?;
+            add_options(&mut made, &part, high - bounds.low)?;
             Ok(made)
         }
     }

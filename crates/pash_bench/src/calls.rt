@@ -34,7 +34,7 @@ pub enum Call {
     Grep,
     /// The stream of `wc -l`, over the pieces of a file.
     Wc,
-    /// The stream of an invocation of `tr`, `cut`, `head` or `tail` with one input, over the pieces of a file.
+    /// The stream of an invocation of `grep`, `tr`, `cut`, `head` or `tail` with one input, over the pieces of a file.
     Stream,
     /// The stream of `sort` with options, over the pieces of a file.
     Sort,

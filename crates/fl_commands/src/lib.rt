@@ -11,8 +11,6 @@ mod operands;
 mod readers;
 mod runs;
 mod stages;
-#[cfg(test)]
-mod tests;
 
 pub use operands::{Operand, ins_of, lacking, lacks, look_at};
 pub use runs::{Commanded, Ended, run_command};

@@ -12,7 +12,7 @@ use std::time::Instant;
 use ut_args::{ArgFault, Inv, is_built, read_inv};
 use ut_bytes::Tr;
 use ut_grep::{AnyGrep, Grep, check};
-use ut_groups::Wc;
+use ut_groups::{Uniq, Wc};
 use ut_regex::{Matcher, Regex, compile, read_bre, read_ere};
 use ut_slices::{Cut, Head, Tail};
 use ut_streams::{LineStream, Lines, Stream};
@@ -160,6 +160,8 @@ fn time_inv<R: Read>(
         Inv::Cut(inv) => time_made(rt, reader, Cut::new(rt.alloc(), inv)),
         Inv::Head(inv) => time_stream(rt, reader, &mut Head::of(inv.args.count)),
         Inv::Tail(inv) => time_made(rt, reader, Tail::new(rt.alloc(), inv)),
+        Inv::Wc(inv) => time_stream(rt, reader, &mut Wc::of_part(rt.alloc(), inv)),
+        Inv::Uniq(inv) => time_stream(rt, reader, &mut Uniq::new(rt.alloc(), inv)),
         _ => Err(io::Error::from(ErrorKind::InvalidInput)),
     }
 }

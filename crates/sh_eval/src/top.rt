@@ -19,7 +19,7 @@ use ps_world::{Gate, Sink, Source, Tree};
 use sh_tree::Script;
 use std::alloc::Global;
 
-/// Runs a script in this shell, over these files, this input, and this output and error output. No utility runs so far.
+/// Runs a script in this shell, over these files, this input, and this output and error output.
 ///
 /// Where it is over, all is as the script means it (`script_means`): how the shell goes on, the shell, the files, what is left of the
 /// input, and what was written. After a fault, and where memory was refused, output and errors have grown by prefixes of what is meant. A

@@ -115,6 +115,41 @@ fn utilities_run(rt: HostRuntime) -> Result<(), Fail> {
     )
 }
 
+/// The utilities of text statistics and log analysis, in the forms that read one input.
+#[test]
+fn texts_are_counted_and_searched(rt: HostRuntime) -> Result<(), Fail> {
+    tells_rows(
+        &rt,
+        &[
+            (
+                "{ echo b a; echo; echo a b b; } | tr -cs A-Za-z '\\n' | sort | uniq -c | sort -rn | head -n 2",
+                "3 b\n2 a\n",
+                "",
+                0,
+            ),
+            ("cat b b | sort | uniq -d", "x2\ny\n", "", 0),
+            ("cat one one pairs | uniq -u", "b:2\na:10\nc:1\n", "", 0),
+            ("tr '\\n' ' ' < b | wc -w", "2\n", "", 0),
+            ("wc b", "2 2 5 b\n", "", 0),
+            ("cat /dev/null | sort | uniq -c | wc", "0 0 0\n", "", 0),
+            ("head -n 1 pairs; tail -n 1 pairs", "b:2\nc:1\n", "", 0),
+            ("tail -c 3 pairs; head missing", ":1\n", "head: missing: No such file or directory\n", 1),
+            ("echo aabb | tr -s ab", "ab\n", "", 0),
+            ("cat a b | grep x", "x1x2\n", "", 0),
+            (
+                "grep -c a words; grep -n 9 numbers; grep -lv x b; grep -q z b || echo no",
+                "3\n2:9\nb\nno\n",
+                "",
+                0,
+            ),
+            ("grep -E '^(a|b){2}$' words", "ab\n", "", 0),
+            ("grep -i -e X -e Q b; grep -x -v y b; grep z b; echo $?", "x2\nx2\n1\n", "", 0),
+            ("grep a missing; echo $?", "2\n", "grep: missing: No such file or directory\n", 0),
+            ("echo a | grep '['; echo $?", "2\n", "grep: bad usage\n", 0),
+        ],
+    )
+}
+
 #[test]
 fn lists_and_loops_run(rt: HostRuntime) -> Result<(), Fail> {
     tells_rows(

@@ -1,5 +1,5 @@
 -- The laws of the classes.
-use Rattle.std.proofs.Common.{◌≡◌, ℕ, ◌+◌, ◌-◌, ◌||◌, ◌&&◌, Bool, true, false, not, List, [], ◌∷◌, ◌++◌, length, take, decimal, if◌then◌else◌, refl, ap, sym, ◌∙◌, append-nil, length-append, arith}
+use Rattle.std.proofs.Common.{◌≡◌, ℕ, ◌+◌, ◌-◌, ◌||◌, ◌&&◌, Bool, true, false, not, List, [], ◌∷◌, ◌++◌, length, take, decimal, if◌then◌else◌, refl, ap, sym, ◌∙◌, subst, append-nil, length-append, arith}
 use Rattle.std.specs.List.{list_any}
 use Rattle.std.specs.Option.{unwrap_or}
 use Rattle.std.proofs.lemmas.Bool.{cond-true, true≢false}
@@ -12,7 +12,7 @@ use Rattle.ps_lines.specs.Numbers.{number_of}
 use Rattle.ps_lines.proofs.ClosedLemmas.{closed-append}
 use Rattle.ps_lines.proofs.LineLemmas.{lines_of_cut, is_closed-push}
 use Rattle.ps_lines.proofs.NumberLemmas.{number_of-decimal}
-use Rattle.ut_args.specs.Built.{is_built_of, is_built_grep, is_built_tail, is_built_uniq, is_built_wc, is_from_start}
+use Rattle.ut_args.specs.Built.{is_built_of, is_built_grep, is_built_head, is_built_tail, is_built_uniq, is_built_wc}
 use Rattle.ut_args.specs.Classes.{class_of, keeps_closed_of, of_one, origin_class, report_class}
 use Rattle.ut_args.specs.Strings.{keeps_newline}
 use Rattle.ut_args.specs.Invocations.{command_of}
@@ -30,6 +30,7 @@ use Rattle.ut_args.specs.declared.invocations.GrepInv.{GrepInv}
 use Rattle.ut_args.specs.declared.invocations.SortInv.{SortInv}
 use Rattle.ut_args.specs.declared.invocations.TrInv.{TrInv}
 use Rattle.ut_args.specs.declared.invocations.CutInv.{CutInv}
+use Rattle.ut_args.specs.declared.invocations.HeadInv.{HeadInv}
 use Rattle.ut_args.specs.declared.invocations.TailInv.{TailInv}
 use Rattle.ut_args.specs.declared.invocations.UniqInv.{UniqInv}
 use Rattle.ut_args.specs.declared.invocations.WcInv.{WcInv}
@@ -39,7 +40,11 @@ use Rattle.ut_streams.specs.Utilities.{Utility}
 use Rattle.ut_grep.specs.Fixed.{kept, has_part, selected_lines, has_selected, selected_of, pattern_of}
 use Rattle.ut_bytes.specs.Tr.{tr_output}
 use Rattle.ut_slices.specs.Cut.{cut_output}
-use Rattle.ut_slices.specs.Tail.{tail_output}
+use Rattle.ut_slices.specs.Ends.{first_lines}
+use Rattle.ut_slices.specs.Head.{headed}
+use Rattle.ut_slices.specs.Tail.{tail_by, tail_output}
+use Rattle.ut_slices.proofs.LastLemmas.{last-of-parts}
+use Rattle.ut_slices.proofs.PartLemmas.{first-of_parts}
 use Rattle.ut_groups.specs.Columns.{counts_line, counts_on}
 use Rattle.ut_groups.specs.Counting.{added, counts_of}
 use Rattle.ut_groups.specs.Uniq.{uniq_finish, uniq_joined, uniq_output, uniq_part}
@@ -48,7 +53,7 @@ use Rattle.ut_groups.proofs.UniqLemmas.{uniq-joins as uniq-joined, uniq-finished
 use Rattle.ut_groups.proofs.WcLemmas.{line-named, total-none, wc-joins as wc-joined}
 use Rattle.ut_sort.specs.Order.{sorted_text}
 use Rattle.ut_sort.proofs.UtilityLemmas.{sorted_text-joins}
-use Rattle.fl_classes.proofs.SliceLemmas.{cut-closed, cut-joins, tr-closed, tr-joins, tr-none}
+use Rattle.fl_classes.proofs.SliceLemmas.{cut-closed, cut-joins, tr-closed, tr-joins, tr-none, tr-parts}
 use Rattle.fl_classes.specs.Utilities.{output_of, selects_of, utility_by, utility_of, silent, names_of, labelled}
 use Rattle.fl_classes.specs.Aggregates.{map_of, joined_maps, finish_of}
 use Rattle.fl_classes.specs.Laws.{IsOfClass, IsStateless, IsParallel, KeepsClosed, MayBeCut}
@@ -185,19 +190,15 @@ module _ (grep : GrepInv) where
 
 -- tr
 tr-bytes : (tr : TrInv) (squeezes : Bool) → tr.args.squeezes ≡ squeezes → IsOfClass (if squeezes then class.P else class.S seam.Bytes) (inv.Tr tr)
-tr-bytes tr true squeezes = unbuilt (inv.Tr tr) (ap not squeezes) class.P
+tr-bytes tr true squeezes =
+    parallel (inv.Tr tr) (λ built text. append-nil (tr_output tr.args text)) (λ built front back cut. tr-parts tr.args front back) (λ built front back cut. refl)
 tr-bytes tr false squeezes =
     stateless (inv.Tr tr) seam.Bytes (λ built text. append-nil (tr_output tr.args text)) (λ built front back cut. tr-joins tr.args squeezes front back)
     (λ built front back cut. refl)
 
-plain-tr : (squeezes : Bool) → not squeezes ≡ true → squeezes ≡ false
-plain-tr true built = absurd (true≢false (sym built))
-plain-tr false built = refl
-
 tr-keeps : (tr : TrInv) → keeps_newline tr.args ≡ true → KeepsClosed (inv.Tr tr)
 tr-keeps tr keeps_it =
-    keeps (inv.Tr tr) (λ built text. append-nil (tr_output tr.args text)) (λ built. tr-closed tr.args (plain-tr tr.args.squeezes built) keeps_it)
-    (λ built. tr-none tr.args (plain-tr tr.args.squeezes built))
+    keeps (inv.Tr tr) (λ built text. append-nil (tr_output tr.args text)) (λ built. tr-closed tr.args keeps_it) (λ built. tr-none tr.args)
 
 -- cut
 cut-lines : (cut : CutInv) → IsStateless seam.Lines (inv.Cut cut)
@@ -208,10 +209,27 @@ cut-keeps : (cut : CutInv) → KeepsClosed (inv.Cut cut)
 cut-keeps cut =
     keeps (inv.Cut cut) (λ built text. append-nil (cut_output cut.args text)) (λ built text closed. cut-closed cut.args text) (λ built. refl)
 
--- tail, of which those from the start are built
+-- head of one input
+pub head-whole : (head : HeadInv) → is_built_head head.args ≡ true → (text : List ℕ)
+    → (utility_by (command.Head head.args)).output (labelled (names_of (inv.Head head)) (text ∷ [])) ≡ first_lines head.args.count text
+head-whole head built text =
+    cond-true (has_at_most_one head.args.operands) (first_lines head.args.count text ++ []) (headed true head.args.count (labelled (names_of (inv.Head head)) (text ∷ []))) built
+    ∙ append-nil (first_lines head.args.count text)
+
+head-parallel : (head : HeadInv) → IsParallel (inv.Head head)
+head-parallel head =
+    parallel (inv.Head head) (head-whole head) (λ built front back cut. first-of_parts head.args.count front back cut) (λ built front back cut. refl)
+
+-- tail from the end
 tail-origin : (tail : TailInv) (from : Origin) → tail.args.part.origin ≡ from → IsOfClass (origin_class from) (inv.Tail tail)
 tail-origin tail (origin.Start number) is = tt
-tail-origin tail (origin.End number) is = unbuilt (inv.Tail tail) (ap (λ from. is_from_start from && has_at_most_one tail.args.operands) is) class.P
+tail-origin tail (origin.End number) is =
+    parallel (inv.Tail tail) (λ built text. append-nil (tail_output tail.args text)) (λ built. joined) (λ built front back cut. refl)
+  where
+    joined : (front back : List ℕ) → MayBeCut seam.Lines front back → tail_output tail.args (front ++ back) ≡ tail_output tail.args (tail_output tail.args front ++ tail_output tail.args back)
+    joined front back cut =
+        subst (λ from. tail_by tail.args.part.unit from (front ++ back) ≡ tail_by tail.args.part.unit from (tail_by tail.args.part.unit from front ++ tail_by tail.args.part.unit from back))
+        (sym is) (last-of-parts tail.args.part.unit number front back cut)
 
 -- wc
 wc-whole : (wc : WcInv) → is_built_wc wc.args ≡ true → (text : List ℕ)
@@ -243,6 +261,7 @@ is-of-class (inv.Cat cat) = stateless (inv.Cat cat) seam.Bytes (λ built text. a
 is-of-class (inv.Grep grep) = of-one (inv.Grep grep) grep.args.operands (report_class grep.args.report grep.args.numbers) (by_report grep grep.args.report grep.args.numbers)
 is-of-class (inv.Tr tr) = tr-bytes tr tr.args.squeezes refl
 is-of-class (inv.Cut cut) = cut-lines cut
+is-of-class (inv.Head head) = of-one (inv.Head head) head.args.operands class.P (head-parallel head)
 is-of-class (inv.Tail tail) = tail-origin tail tail.args.part.origin refl
 is-of-class (inv.Wc wc) = of-one (inv.Wc wc) wc.args.operands class.P (wc-parallel wc)
 is-of-class (inv.Uniq uniq) = uniq-parallel uniq
@@ -254,6 +273,7 @@ keeps-closed (inv.Cat cat) keeps_it = keeps (inv.Cat cat) (λ built text. append
 keeps-closed (inv.Grep grep) keeps_it = grep-closed grep
 keeps-closed (inv.Tr tr) keeps_it = tr-keeps tr keeps_it
 keeps-closed (inv.Cut cut) keeps_it = cut-keeps cut
+keeps-closed (inv.Head head) keeps_it = absurd (true≢false (sym keeps_it))
 keeps-closed (inv.Tail tail) keeps_it = absurd (true≢false (sym keeps_it))
 keeps-closed (inv.Wc wc) keeps_it = absurd (true≢false (sym keeps_it))
 keeps-closed (inv.Uniq uniq) keeps_it = absurd (true≢false (sym keeps_it))
@@ -267,8 +287,15 @@ built-utility inv built = cond-true (is_built_of inv) (utility_by (command_of in
 pub grep-map : (grep : GrepInv) → is_built_grep grep.args ≡ true → (text : List ℕ) → map_of (inv.Grep grep) text ≡ selected_lines (pattern_of grep.args.patterns) text
 grep-map grep built text = ap (λ utility. utility.part text) (built-utility (inv.Grep grep) built)
 
-pub tr-map : (tr : TrInv) → not tr.args.squeezes ≡ true → (text : List ℕ) → map_of (inv.Tr tr) text ≡ tr_output tr.args text
-tr-map tr built text = ap (λ utility. utility.part text) (built-utility (inv.Tr tr) built)
+pub tr-map : (tr : TrInv) (text : List ℕ) → map_of (inv.Tr tr) text ≡ tr_output tr.args text
+tr-map tr text = ap (λ utility. utility.part text) (built-utility (inv.Tr tr) refl)
+
+pub head-map : (head : HeadInv) → is_built_head head.args ≡ true → (text : List ℕ) → map_of (inv.Head head) text ≡ first_lines head.args.count text
+head-map head built text = ap (λ utility. utility.part text) (built-utility (inv.Head head) built)
+
+pub head-output : (head : HeadInv) → is_built_head head.args ≡ true → (text : List ℕ) → output_of (inv.Head head) (text ∷ []) ≡ first_lines head.args.count text
+head-output head built text =
+    ap (λ utility. utility.output (labelled (names_of (inv.Head head)) (text ∷ []))) (built-utility (inv.Head head) built) ∙ head-whole head built text
 
 pub tail-map : (tail : TailInv) → is_built_tail tail.args ≡ true → (text : List ℕ) → map_of (inv.Tail tail) text ≡ tail_output tail.args text
 tail-map tail built text = ap (λ utility. utility.part text) (built-utility (inv.Tail tail) built)

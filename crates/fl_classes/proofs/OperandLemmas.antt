@@ -12,6 +12,8 @@ use Rattle.ut_args.proofs.OperandLemmas.{all-named, at_most_one-emptied, built-e
 use Rattle.ut_streams.specs.Utilities.{Input, Utility}
 use Rattle.ut_groups.specs.Columns.{counts_line}
 use Rattle.ut_groups.specs.Wc.{columns_of, counts_of_all, name_in, wc, wc_line, with_name}
+use Rattle.ut_slices.specs.Ends.{first_lines}
+use Rattle.ut_slices.specs.Head.{head, headed}
 use Rattle.fl_classes.specs.Utilities.{names_of, silent, utility_by, utility_of}
 
 -- all of a utility but its finish
@@ -26,7 +28,10 @@ module _ (flags : List Bool) where
   utility-emptied (command.Cat args) = refl
   utility-emptied (command.Grep args) = refl
   utility-emptied (command.Cut args) = refl
-  utility-emptied (command.Head args) = refl
+  utility-emptied (command.Head args) =
+      ap (λ one. record (head args) {
+      output = λ inputs. if one then flat_map (λ (input : Input). first_lines args.count input.text) inputs else headed true args.count inputs;
+      }) (at_most_one-emptied flags args.operands)
   utility-emptied (command.Tail args) = refl
   utility-emptied (command.Wc args) =
       ap (λ one. record (wc args) {

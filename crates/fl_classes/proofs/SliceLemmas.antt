@@ -13,8 +13,9 @@ use Rattle.ut_args.specs.declared.commands.CutArgs.{CutArgs}
 use Rattle.ut_args.specs.declared.commands.Parts.{Parts}
 use Rattle.ut_args.specs.declared.commands.Parts.TheVariants as parts
 use Rattle.ut_args.specs.declared.commands.TrArgs.{TrArgs}
-use Rattle.ut_bytes.specs.Steps.{deleted, translated}
-use Rattle.ut_bytes.specs.Tr.{edited, image_of, tr_output, translated_to}
+use Rattle.ut_bytes.specs.Steps.{deleted, squeezed_behind, translated}
+use Rattle.ut_bytes.specs.Tr.{edited, image_of, last_string, squeezed, tr_output, translated_to}
+use Rattle.ut_bytes.proofs.SqueezeLemmas.{squeezed-closed, squeezed-parts}
 use Rattle.ut_options.specs.Rows.{is_among}
 use Rattle.ut_slices.specs.Cut.{cut_line, cut_output, fields, has_delimiter, is_selected, selected, whole_or_none}
 
@@ -29,13 +30,21 @@ edited-by : (deletes : Bool) (from : List ℕ) (to : Option (List ℕ)) (front b
 edited-by true from to front back = filter-append (λ byte. not (is_among from byte)) front back
 edited-by false from to front back = translated-append from to front back
 
-pub tr-plain : (args : TrArgs) → args.squeezes ≡ false → (text : List ℕ) → tr_output args text ≡ edited args text
-tr-plain args plain text = rw plain refl
+-- and what is squeezed is squeezed once more where its parts meet
+squeezed-by : (squeezes : Bool) (set : ℕ → Bool) (front back : List ℕ)
+    → (if squeezes then squeezed_behind None set (front ++ back) else front ++ back)
+    ≡ (if squeezes then squeezed_behind None set ((if squeezes then squeezed_behind None set front else front) ++ (if squeezes then squeezed_behind None set back else back))
+    else (if squeezes then squeezed_behind None set front else front) ++ (if squeezes then squeezed_behind None set back else back))
+squeezed-by true set front back = squeezed-parts set front back
+squeezed-by false set front back = refl
+
+pub tr-parts : (args : TrArgs) (front back : List ℕ) → tr_output args (front ++ back) ≡ squeezed args (tr_output args front ++ tr_output args back)
+tr-parts args front back =
+    ap (squeezed args) (edited-by args.deletes args.from args.to front back)
+    ∙ squeezed-by args.squeezes (is_among (last_string args.from args.to)) (edited args front) (edited args back)
 
 pub tr-joins : (args : TrArgs) → args.squeezes ≡ false → (front back : List ℕ) → tr_output args (front ++ back) ≡ tr_output args front ++ tr_output args back
-tr-joins args plain front back =
-    tr-plain args plain (front ++ back) ∙ edited-by args.deletes args.from args.to front back
-    ∙ sym (ap (λ front. front ++ tr_output args back) (tr-plain args plain front) ∙ ap (λ back. edited args front ++ back) (tr-plain args plain back))
+tr-joins args plain front back = tr-parts args front back ∙ rw plain refl
 
 -- a closed text is empty or ends in a newline
 pub record EndsInNewline (text : List ℕ) : Type 0 where
@@ -66,12 +75,25 @@ none-by true from to = refl
 none-by false from None = refl
 none-by false from (Some to) = refl
 
-pub tr-none : (args : TrArgs) → args.squeezes ≡ false → tr_output args [] ≡ []
-tr-none args plain = tr-plain args plain [] ∙ none-by args.deletes args.from args.to
+squeezed-none : (squeezes : Bool) (set : ℕ → Bool) → (if squeezes then squeezed_behind None set [] else []) ≡ []
+squeezed-none true set = refl
+squeezed-none false set = refl
 
-pub tr-closed : (args : TrArgs) → args.squeezes ≡ false → keeps_newline args ≡ true → (text : List ℕ) → is_closed text ≡ true → is_closed (tr_output args text) ≡ true
-tr-closed args plain keeps =
-    closed-by (tr_output args) (tr-none args plain) (tr-joins args plain) (tr-plain args plain (10 ∷ []) ∙ newline-by args.deletes args.from args.to keeps)
+pub tr-none : (args : TrArgs) → tr_output args [] ≡ []
+tr-none args =
+    ap (squeezed args) (none-by args.deletes args.from args.to) ∙ squeezed-none args.squeezes (is_among (last_string args.from args.to))
+
+edited-closed : (args : TrArgs) → keeps_newline args ≡ true → (text : List ℕ) → is_closed text ≡ true → is_closed (edited args text) ≡ true
+edited-closed args keeps =
+    closed-by (edited args) (none-by args.deletes args.from args.to) (edited-by args.deletes args.from args.to) (newline-by args.deletes args.from args.to keeps)
+
+closed-squeezed : (squeezes : Bool) (set : ℕ → Bool) (text : List ℕ) → is_closed text ≡ true → is_closed (if squeezes then squeezed_behind None set text else text) ≡ true
+closed-squeezed true set text closed = squeezed-closed set text ∙ closed
+closed-squeezed false set text closed = closed
+
+pub tr-closed : (args : TrArgs) → keeps_newline args ≡ true → (text : List ℕ) → is_closed text ≡ true → is_closed (tr_output args text) ≡ true
+tr-closed args keeps text closed =
+    closed-squeezed args.squeezes (is_among (last_string args.from args.to)) (edited args text) (edited-closed args keeps text closed)
 
 -- cut: each line is cut by itself
 pub cut-joins : (args : CutArgs) (front back : List ℕ) → is_cutlist (front ∷ back ∷ []) ≡ true → cut_output args (front ++ back) ≡ cut_output args front ++ cut_output args back

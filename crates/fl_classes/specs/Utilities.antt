@@ -12,6 +12,7 @@ use Rattle.ut_streams.specs.Utilities.{Input, Utility, cat, each_by_itself}
 use Rattle.ut_grep.specs.Grep.{grep}
 use Rattle.ut_bytes.specs.Tr.{tr}
 use Rattle.ut_slices.specs.Cut.{cut}
+use Rattle.ut_slices.specs.Head.{head}
 use Rattle.ut_slices.specs.Tail.{tail}
 use Rattle.ut_groups.specs.Uniq.{uniq}
 use Rattle.ut_groups.specs.Wc.{wc}
@@ -27,6 +28,7 @@ utility_by (command.Cat args) = cat
 utility_by (command.Grep args) = grep args
 utility_by (command.Tr args) = tr args
 utility_by (command.Cut args) = cut args
+utility_by (command.Head args) = head args
 utility_by (command.Tail args) = tail args
 utility_by (command.Wc args) = wc args
 utility_by (command.Uniq args) = uniq args

@@ -73,6 +73,7 @@ inputs-fit (command.Cat args) built few = joined-count args.operands
 inputs-fit (command.Grep args) built few = separate-count args.operands few
 inputs-fit (command.Tr args) built few = refl
 inputs-fit (command.Cut args) built few = joined-count args.operands
+inputs-fit (command.Head args) built few = separate-count args.operands few
 inputs-fit (command.Tail args) built few = separate-count args.operands few
 inputs-fit (command.Wc args) built few = separate-count args.operands few
 inputs-fit (command.Uniq args) built few = separate-count args.operands few

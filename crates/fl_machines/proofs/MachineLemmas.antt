@@ -1,17 +1,14 @@
 -- Streams in machines, and what is due of a machine at its beginning.
 use Rattle.std.proofs.Common.{◌≡◌, ℕ, zero, suc, ◌+◌, ◌-◌, ◌≤◌, ◌==◌, ◌&&◌, nat_lt, List, [], ◌∷◌, ◌++◌, Bool, true, false, if◌then◌else◌, get_or, refl, ap, sym, ◌∙◌, append-nil, arith}
 use Rattle.std.specs.List.{list_all}
-use Rattle.std.proofs.lemmas.Bool.{true≢false, and_parts, eqb-true, eq-eqb, ltb-true, lt-ltb, false_from_ne_true}
+use Rattle.std.proofs.lemmas.Bool.{cond-true, true≢false, and_parts, eqb-true, eq-eqb, ltb-true, lt-ltb, false_from_ne_true}
 use Rattle.std.proofs.Math.Dec.{eqb-suc-zero}
 use Rattle.ps_lines.specs.Lines.{is_empty}
 use Rattle.ut_streams.proofs.StreamLemmas.{Wrote-put}
-use Rattle.ut_args.specs.Built.{is_built_of, is_built_grep, is_from_start, is_one_pattern, is_fixed_syntax, is_of_lines}
+use Rattle.ut_args.specs.Built.{is_built_of, is_built_grep, is_built_head, is_one_pattern, is_fixed_syntax, is_of_lines}
 use Rattle.ut_args.specs.Inputs.{counted, inputs_of, is_named, joined_inputs, separate_inputs}
 use Rattle.ut_args.specs.Utilities.{has_at_most_one}
 use Rattle.ut_args.specs.declared.commands.GrepArgs.{GrepArgs}
-use Rattle.ut_args.specs.declared.commands.Origin.{Origin}
-use Rattle.ut_args.specs.declared.commands.Origin.TheVariants as origin
-use Rattle.ut_args.specs.declared.commands.Unit.{Unit}
 use Rattle.ut_args.specs.declared.commands.WcArgs.{WcArgs}
 use Rattle.ut_args.specs.declared.invocations.UniqInv.{UniqInv}
 use Rattle.ut_args.specs.declared.invocations.WcInv.{WcInv}
@@ -27,7 +24,7 @@ use Rattle.fl_classes.specs.Flow.{selects}
 use Rattle.fl_classes.specs.Nodes.{Begins, given_on, texts_at}
 use Rattle.fl_classes.specs.Aggregates.{finish_of, map_of}
 use Rattle.fl_classes.specs.Utilities.{labelled, names_of, output_of, selects_of, utility_by}
-use Rattle.fl_classes.proofs.ClassLemmas.{by_built}
+use Rattle.fl_classes.proofs.ClassLemmas.{by_built, head-whole}
 use Rattle.ut_args.specs.Invocations.{command_of}
 use Rattle.ut_grep.specs.Fixed.{pattern_of, selected_lines}
 use Rattle.ut_sort.specs.Order.{sorted_text}
@@ -71,7 +68,8 @@ built-few (inv.Cat cat) built = joined-few cat.args.operands
 built-few (inv.Grep grep) built = grep-few grep.args built
 built-few (inv.Tr tr) built = omega arith
 built-few (inv.Cut cut) built = joined-few cut.args.operands
-built-few (inv.Tail tail) built = separate-few tail.args.operands (and_parts (is_from_start tail.args.part.origin) (has_at_most_one tail.args.operands) built).1
+built-few (inv.Head head) built = separate-few head.args.operands built
+built-few (inv.Tail tail) built = separate-few tail.args.operands built
 built-few (inv.Wc wc) built = separate-few wc.args.operands built
 built-few (inv.Uniq uniq) built = separate-few uniq.args.operands built
 built-few (inv.Sort sort) built = joined-few sort.args.operands
@@ -89,19 +87,20 @@ whole-else (inv.Uniq uniq) no_wc no_uniq = absurd (no_uniq uniq refl)
 whole-else other no_wc no_uniq = refl
 
 pub whole-is-map : (command : Inv) (text : List ℕ) → whole_is_map command ≡ true → map_of command text ≡ output_of command (text ∷ [])
-whole-is-map command text one = by_built command (λ utility. utility.part text ≡ utility.output (labelled (names_of command) (text ∷ []))) (λ built. by_command command one) refl
+whole-is-map command text one = by_built command (λ utility. utility.part text ≡ utility.output (labelled (names_of command) (text ∷ []))) (λ built. by_command command built one) refl
   where
-    by_command : (command : Inv) → whole_is_map command ≡ true
+    by_command : (command : Inv) → is_built_of command ≡ true → whole_is_map command ≡ true
         → (utility_by (command_of command)).part text ≡ (utility_by (command_of command)).output (labelled (names_of command) (text ∷ []))
-    by_command (inv.Cat cat) one = sym (append-nil text)
-    by_command (inv.Grep grep) one = sym (append-nil (selected_lines (pattern_of grep.args.patterns) text))
-    by_command (inv.Tr tr) one = sym (append-nil (tr_output tr.args text))
-    by_command (inv.Cut cut) one = sym (append-nil (cut_output cut.args text))
-    by_command (inv.Tail tail) one = sym (append-nil (tail_output tail.args text))
-    by_command (inv.Wc wc) one = absurd (true≢false (sym one))
-    by_command (inv.Uniq uniq) one = absurd (true≢false (sym one))
-    by_command (inv.Sort sort) one = sym (append-nil (sorted_text sort.args text))
-    by_command other one = refl
+    by_command (inv.Cat cat) built one = sym (append-nil text)
+    by_command (inv.Grep grep) built one = sym (append-nil (selected_lines (pattern_of grep.args.patterns) text))
+    by_command (inv.Tr tr) built one = sym (append-nil (tr_output tr.args text))
+    by_command (inv.Cut cut) built one = sym (append-nil (cut_output cut.args text))
+    by_command (inv.Head head) built one = sym (head-whole head built text)
+    by_command (inv.Tail tail) built one = sym (append-nil (tail_output tail.args text))
+    by_command (inv.Wc wc) built one = absurd (true≢false (sym one))
+    by_command (inv.Uniq uniq) built one = absurd (true≢false (sym one))
+    by_command (inv.Sort sort) built one = sym (append-nil (sorted_text sort.args text))
+    by_command other built one = refl
 
 pub ruleset wholes = (whole-is-map)
 
@@ -114,6 +113,7 @@ finish-is-same command text one = by_built command (λ utility. text ≡ utility
     by_command (inv.Grep grep) one = refl
     by_command (inv.Tr tr) one = refl
     by_command (inv.Cut cut) one = refl
+    by_command (inv.Head head) one = refl
     by_command (inv.Tail tail) one = refl
     by_command (inv.Wc wc) one = absurd (true≢false (sym one))
     by_command (inv.Uniq uniq) one = absurd (true≢false (sym one))
@@ -134,6 +134,7 @@ nothing-from command = (
     writes (inv.Grep grep) built = refl
     writes (inv.Tr tr) built = refl
     writes (inv.Cut cut) built = refl
+    writes (inv.Head head) built = cond-true (has_at_most_one head.args.operands) [] [] built
     writes (inv.Tail tail) built = refl
     writes (inv.Wc wc) built = total-none wc.args [] built
     writes (inv.Uniq uniq) built = refl
@@ -145,6 +146,7 @@ nothing-from command = (
     picks (inv.Grep grep) = refl
     picks (inv.Tr tr) = refl
     picks (inv.Cut cut) = refl
+    picks (inv.Head head) = refl
     picks (inv.Tail tail) = refl
     picks (inv.Wc wc) = refl
     picks (inv.Uniq uniq) = refl

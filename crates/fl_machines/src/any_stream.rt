@@ -15,7 +15,7 @@ use ut_args::{Groups, Inv};
 use ut_bytes::Tr;
 use ut_grep::Grep;
 use ut_groups::{Kept, Named, Uniq, Wc};
-use ut_slices::{Cut, Tail};
+use ut_slices::{Cut, Head, Tail};
 use ut_sort::Sorter;
 use ut_streams::Stream;
 
@@ -26,6 +26,7 @@ pub enum AnyStream {
     Grep(Grep),
     Tr(Tr),
     Cut(Cut),
+    Head(Head),
     Tail(Tail),
     Wc(Wc),
     Named(Named),
@@ -71,6 +72,7 @@ impl AnyStream {
                 Ok(cut) => Ok(AnyStream::Cut(cut)),
                 Err(memory) => Err(memory),
             },
+            Inv::Head(head) => Ok(AnyStream::Head(Head::of(head.args.count))),
             Inv::Tail(tail) => match Tail::new(alloc, tail) {
                 Ok(tail) => Ok(AnyStream::Tail(tail)),
                 Err(memory) => Err(memory),
@@ -136,13 +138,14 @@ impl AnyStream {
 }
 
 impl Stream for AnyStream {
-    ghost use Rattle.fl_machines.specs.declared.any_stream.AnyStream.TheVariants.{Copy, Grep, Tr, Cut, Tail, Wc, Named, Uniq, Kept, Sort};
+    ghost use Rattle.fl_machines.specs.declared.any_stream.AnyStream.TheVariants.{Copy, Grep, Tr, Cut, Head, Tail, Wc, Named, Uniq, Kept, Sort};
 
     ghost due = { λ stream more. elim stream [
       | Copy copy ↦ ⟦<Copy as Stream>⟧.due copy more
       | Grep grep ↦ ⟦<Grep as Stream>⟧.due grep more
       | Tr tr ↦ ⟦<Tr as Stream>⟧.due tr more
       | Cut cut ↦ ⟦<Cut as Stream>⟧.due cut more
+      | Head head ↦ ⟦<Head as Stream>⟧.due head more
       | Tail tail ↦ ⟦<Tail as Stream>⟧.due tail more
       | Wc wc ↦ ⟦<Wc as Stream>⟧.due wc more
       | Named named ↦ ⟦<Named as Stream>⟧.due named more
@@ -156,6 +159,7 @@ impl Stream for AnyStream {
       | Grep grep ↦ ⟦<Grep as Stream>⟧.selects grep more
       | Tr tr ↦ ⟦<Tr as Stream>⟧.selects tr more
       | Cut cut ↦ ⟦<Cut as Stream>⟧.selects cut more
+      | Head head ↦ ⟦<Head as Stream>⟧.selects head more
       | Tail tail ↦ ⟦<Tail as Stream>⟧.selects tail more
       | Wc wc ↦ ⟦<Wc as Stream>⟧.selects wc more
       | Named named ↦ ⟦<Named as Stream>⟧.selects named more
@@ -169,6 +173,7 @@ impl Stream for AnyStream {
       | Grep grep ↦ ⟦<Grep as Stream>⟧.selected grep
       | Tr tr ↦ ⟦<Tr as Stream>⟧.selected tr
       | Cut cut ↦ ⟦<Cut as Stream>⟧.selected cut
+      | Head head ↦ ⟦<Head as Stream>⟧.selected head
       | Tail tail ↦ ⟦<Tail as Stream>⟧.selected tail
       | Wc wc ↦ ⟦<Wc as Stream>⟧.selected wc
       | Named named ↦ ⟦<Named as Stream>⟧.selected named
@@ -182,6 +187,7 @@ impl Stream for AnyStream {
       | Grep grep ↦ ⟦<Grep as Stream>⟧.spent grep
       | Tr tr ↦ ⟦<Tr as Stream>⟧.spent tr
       | Cut cut ↦ ⟦<Cut as Stream>⟧.spent cut
+      | Head head ↦ ⟦<Head as Stream>⟧.spent head
       | Tail tail ↦ ⟦<Tail as Stream>⟧.spent tail
       | Wc wc ↦ ⟦<Wc as Stream>⟧.spent wc
       | Named named ↦ ⟦<Named as Stream>⟧.spent named
@@ -196,6 +202,7 @@ impl Stream for AnyStream {
             AnyStream::Grep(grep) => grep.feed(piece, out),
             AnyStream::Tr(tr) => tr.feed(piece, out),
             AnyStream::Cut(cut) => cut.feed(piece, out),
+            AnyStream::Head(head) => head.feed(piece, out),
             AnyStream::Tail(tail) => tail.feed(piece, out),
             AnyStream::Wc(wc) => wc.feed(piece, out),
             AnyStream::Named(named) => named.feed(piece, out),
@@ -211,6 +218,7 @@ impl Stream for AnyStream {
             AnyStream::Grep(grep) => grep.finish(out),
             AnyStream::Tr(tr) => tr.finish(out),
             AnyStream::Cut(cut) => cut.finish(out),
+            AnyStream::Head(head) => head.finish(out),
             AnyStream::Tail(tail) => tail.finish(out),
             AnyStream::Wc(wc) => wc.finish(out),
             AnyStream::Named(named) => named.finish(out),
@@ -226,6 +234,7 @@ impl Stream for AnyStream {
             AnyStream::Grep(grep) => grep.has_selected(),
             AnyStream::Tr(tr) => tr.has_selected(),
             AnyStream::Cut(cut) => cut.has_selected(),
+            AnyStream::Head(head) => head.has_selected(),
             AnyStream::Tail(tail) => tail.has_selected(),
             AnyStream::Wc(wc) => wc.has_selected(),
             AnyStream::Named(named) => named.has_selected(),
@@ -241,6 +250,7 @@ impl Stream for AnyStream {
             AnyStream::Grep(grep) => grep.is_spent(),
             AnyStream::Tr(tr) => tr.is_spent(),
             AnyStream::Cut(cut) => cut.is_spent(),
+            AnyStream::Head(head) => head.is_spent(),
             AnyStream::Tail(tail) => tail.is_spent(),
             AnyStream::Wc(wc) => wc.is_spent(),
             AnyStream::Named(named) => named.is_spent(),

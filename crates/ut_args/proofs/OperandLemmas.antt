@@ -21,7 +21,7 @@ use Rattle.ut_options.specs.declared.scanning.Scanned.{Scanned}
 use Rattle.ut_options.specs.declared.usage.Usage.{Usage}
 use Rattle.ut_options.specs.declared.usage.Usage.TheVariants as usage
 use Rattle.ut_strings.specs.Strings.{first_of, second_of}
-use Rattle.ut_args.specs.Built.{changes_lines, is_built_by, is_fixed_syntax, is_from_start, is_of_lines, is_one_pattern}
+use Rattle.ut_args.specs.Built.{is_built_by}
 use Rattle.ut_args.specs.Classes.{class_by, is_no_count, keeps_closed_by, report_class}
 use Rattle.ut_args.specs.Inputs.{counted, emptied, is_named, joined_inputs, operands_by, remaining, separate_inputs, with_operands}
 use Rattle.ut_args.specs.Keys.{keys_of, sort}
@@ -455,10 +455,9 @@ module _ (flags : List Bool) where
   operands-emptied other = refl
 
   pub built-emptied : (asked : Command) → is_built_by (with_operands (emptied flags (operands_by asked)) asked) ≡ is_built_by asked
-  built-emptied (command.Grep args) =
-      ap (λ one. is_one_pattern args.patterns && (is_fixed_syntax args.syntax && (is_of_lines args.report && (not (changes_lines args) && one))))
-      (at_most_one-emptied flags args.operands)
-  built-emptied (command.Tail args) = ap (λ one. is_from_start args.part.origin && one) (at_most_one-emptied flags args.operands)
+  built-emptied (command.Grep args) = at_most_one-emptied flags args.operands
+  built-emptied (command.Head args) = at_most_one-emptied flags args.operands
+  built-emptied (command.Tail args) = at_most_one-emptied flags args.operands
   built-emptied (command.Wc args) = at_most_one-emptied flags args.operands
   built-emptied (command.Uniq args) = at_most_one-emptied flags args.operands
   built-emptied other = refl

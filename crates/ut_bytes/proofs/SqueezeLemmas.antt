@@ -1,6 +1,7 @@
 -- Squeezing a text, from its parts.
 use Rattle.std.proofs.Common.{◌≡◌, ◌==◌, ℕ, List, [], ◌∷◌, ◌++◌, Bool, true, false, Option, None, Some, refl, ap, sym, ◌∙◌, if◌then◌else◌}
 use Rattle.std.proofs.lemmas.Bool.{and_parts, eqb-true, true≢false}
+use Rattle.ps_lines.specs.Lines.{is_closed}
 use Rattle.ut_bytes.specs.Steps.{is_repeat, squeezed_behind}
 
 module _ (set : ℕ → Bool) where
@@ -64,5 +65,25 @@ module _ (set : ℕ → Bool) where
       ∙ ap (λ front'. front' ++ squeezed_behind (last_byte None (squeezed_behind None set front)) set (squeezed_behind None set back)) (squeezed-again None front)
       ∙ ap (λ last. squeezed_behind None set front ++ squeezed_behind last set (squeezed_behind None set back)) (squeezed-last None front)
       ∙ ap (λ back. squeezed_behind None set front ++ back) (squeezed-begun (last_byte None front) back))
+
+-- a text is closed where its last byte, if it has one, is a newline
+ends_line : Option ℕ → Bool
+ends_line None = true
+ends_line (Some byte) = byte == 10
+
+closed-last : (set : ℕ → Bool) (byte : ℕ) (rest : List ℕ) → is_closed (byte ∷ rest) ≡ ends_line (last_byte set (Some byte) rest)
+unfolding ends_line
+closed-last set byte [] = refl
+closed-last set byte (next ∷ rest) = closed-last set next rest
+
+closed-by-last : (set : ℕ → Bool) (text : List ℕ) → is_closed text ≡ ends_line (last_byte set None text)
+unfolding ends_line
+closed-by-last set [] = refl
+closed-by-last set (byte ∷ rest) = closed-last set byte rest
+
+-- and squeezing keeps the last byte
+pub squeezed-closed : (set : ℕ → Bool) (text : List ℕ) → is_closed (squeezed_behind None set text) ≡ is_closed text
+squeezed-closed set text =
+    closed-by-last set (squeezed_behind None set text) ∙ ap ends_line (squeezed-last set None text) ∙ sym (closed-by-last set text)
 
 pub ruleset squeeze_laws = (squeezed-parts)

@@ -1,4 +1,6 @@
-pub mod FixedLemmas
+pub mod FaultLemmas
+pub mod UtilityLemmas
+pub mod BytesLemmas
 pub mod TallyLemmas
 pub mod SelectionLemmas
 pub mod PatternLemmas

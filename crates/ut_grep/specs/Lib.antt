@@ -1,5 +1,5 @@
-pub mod Fixed
-pub mod Grep
 pub mod Output
 pub mod Tallies
 pub mod Patterns
+pub mod Faults
+pub mod Grep

@@ -1,17 +1,16 @@
 //! What it is to have a pattern, in laws: each is the contract of a function that does nothing.
-#![tactic(auto, using(crate::proofs::FixedLemmas::stands))]
+#![tactic(auto)]
 
-ghost use Rattle.std.specs.Prelude.{◌≡◌, ◌↔◌, ◌++◌, ℕ, Bool, List, true};
+ghost use Rattle.std.specs.Prelude.{◌≡◌, ◌↔◌, ◌++◌, ℕ, Bool, List, false, true};
 ghost use Rattle.ut_args.specs.declared.commands.Syntax.{Syntax};
 ghost use Rattle.ut_regex.specs.Spans.{Has};
 ghost use Rattle.ut_regex.specs.Tree.{Tree};
-ghost use Rattle.ut_grep.specs.Fixed.{has_part};
 ghost use Rattle.ut_grep.specs.Patterns.{is_had_by, tree_of, IsPattern};
 
-/// A text has the pattern exactly where it is some bytes, the pattern, and some bytes.
-pub fn pattern_stands_in_the_text()
-    ensures has { (pattern front back : List ℕ) → has_part pattern (front ++ (pattern ++ back)) ≡ true }
-    ensures stands { (pattern text : List ℕ) → has_part pattern text ≡ true → (front : List ℕ) × (back : List ℕ) × (text ≡ front ++ (pattern ++ back)) }
+/// A line has a pattern of `-F` exactly where it is some bytes, the pattern, and some bytes.
+pub fn bytes_are_found_where_they_stand()
+    ensures { (pattern line : List ℕ) → (is_had_by false false (tree_of Syntax.Fixed pattern) line ≡ true)
+        ↔ ((front : List ℕ) × (back : List ℕ) × (line ≡ front ++ (pattern ++ back))) }
 {}
 
 /// A pattern is found in a line where the line has the expression that the pattern is read as.

@@ -1,10 +1,12 @@
 //! The patterns of grep, as expressions.
-ghost use Rattle.std.specs.Prelude.{◌≡◌, ◌∷◌, ◌++◌, [], IfErr, IfOk};
+ghost use Rattle.std.specs.Prelude.{◌≡◌, ◌∷◌, ◌++◌, [], None, Some, IfErr, IfNone, IfOk, IfSome};
 ghost use Rattle.ps_lines.specs.Texts.{texts_of};
 ghost use Rattle.ut_regex.specs.Several.{trees_of};
 ghost use Rattle.ut_regex.specs.Tree.{Tree, tree};
+ghost use Rattle.ut_grep.specs.Faults.{fault_of as fault_of_lem, first_faulty as first_faulty_lem};
 ghost use Rattle.ut_grep.specs.Patterns.{ArePatterns, AreRead, IsPattern, RefusesFirst, RefusesPattern};
 
+use ps_lines::Memory;
 use std::alloc::Global;
 use ut_args::{GrepInv, Syntax};
 use ut_regex::{ReFault, Regex, read_bre, read_ere};
@@ -20,6 +22,66 @@ pub fn check(alloc: Global, inv: &GrepInv) -> Result<(), ReFault>
     match read_patterns(alloc, inv.args.syntax, inv.args.patterns.as_slice()) {
         Ok(_) => Ok(()),
         Err(fault) => Err(fault),
+    }
+}
+
+/// A pattern that can't be read, and its first fault, which is no want of memory.
+#[derive(Clone, Copy)]
+pub struct Faulty<'pattern> {
+    pub pattern: &'pattern [u8],
+    pub fault: ReFault,
+}
+
+/// The first pattern of an invocation that can't be read, if there is one.
+pub fn first_faulty(alloc: Global, inv: &GrepInv) -> Result<Option<Faulty<'_>>, Memory>
+    ensures some { IfOk result (λ found. IfSome found (λ faulty. first_faulty_lem inv.now.args.syntax inv.now.args.patterns ≡ Some (faulty.pattern.now, faulty.fault))) }
+    ensures none { IfOk result (λ found. IfNone found (first_faulty_lem inv.now.args.syntax inv.now.args.patterns ≡ None)) }
+{
+    faulty_among(alloc, inv.args.syntax, inv.args.patterns.as_slice())
+}
+
+/// The first of these patterns that can't be read.
+fn faulty_among(
+    alloc: Global,
+    form: Syntax,
+    patterns: &[Vec<u8>],
+) -> Result<Option<Faulty<'_>>, Memory>
+    ensures some { IfOk result (λ found. IfSome found (λ faulty. first_faulty_lem form (texts_of patterns.now) ≡ Some (faulty.pattern.now, faulty.fault))) }
+    ensures none { IfOk result (λ found. IfNone found (first_faulty_lem form (texts_of patterns.now) ≡ None)) }
+{
+    let mut left = patterns;
+    while let [pattern, rest @ ..] = left {
+        let pattern = pattern.as_slice();
+        match fault_of(alloc, form, pattern) {
+            Ok(None) => left = rest,
+            Ok(Some(fault)) => return Ok(Some(Faulty { pattern, fault })),
+            Err(memory) => return Err(memory),
+        }
+    }
+    Ok(None)
+}
+
+/// The first fault of a pattern.
+fn fault_of(alloc: Global, form: Syntax, pattern: &[u8]) -> Result<Option<ReFault>, Memory>
+    ensures { IfOk result (λ found. found ≡ fault_of_lem form pattern.now) }
+{
+    match read_pattern(alloc, form, pattern) {
+        Ok(_) => Ok(None),
+        Err(fault) => told(fault),
+    }
+}
+
+/// A fault as it is told. Want of memory is none of the pattern.
+fn told(fault: ReFault) -> Result<Option<ReFault>, Memory>
+    ensures same { IfOk result (λ found. found ≡ Some fault) }
+    ensures memory { IfOk result (λ _. fault ≡ ReFault.Memory → ⊥) }
+{
+    match fault {
+        ReFault::NotARegex => Ok(Some(ReFault::NotARegex)),
+        ReFault::BackReference => Ok(Some(ReFault::BackReference)),
+        ReFault::RepeatTooLarge => Ok(Some(ReFault::RepeatTooLarge)),
+        ReFault::TooLarge => Ok(Some(ReFault::TooLarge)),
+        ReFault::Memory => Err(Memory),
     }
 }
 

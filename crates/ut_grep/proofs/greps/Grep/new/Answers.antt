@@ -7,7 +7,7 @@ use Rattle.ut_grep.specs.Patterns.{is_selected, ArePatterns}
 use Rattle.ut_grep.specs.Tallies.{due_of, selects_of}
 use Rattle.ut_grep.specs.declared.selection.Selection.{Selection}
 use Rattle.ut_grep.proofs.PatternLemmas.{all-found, due-written, selects-written}
-use Rattle.ut_grep.proofs.any_grep.AnyGrep.new.Goals as goal
+use Rattle.ut_grep.proofs.greps.Grep.new.Goals as goal
 
 pub returns-clause-due : goal.returns-clause-due
 returns-clause-due c = λ text.

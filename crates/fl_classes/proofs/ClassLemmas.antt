@@ -2,7 +2,7 @@
 use Rattle.std.proofs.Common.{◌≡◌, ℕ, ◌+◌, ◌-◌, ◌||◌, ◌&&◌, Bool, true, false, not, List, [], ◌∷◌, ◌++◌, length, take, decimal, if◌then◌else◌, refl, ap, sym, ◌∙◌, subst, append-nil, length-append, arith}
 use Rattle.std.specs.List.{list_any}
 use Rattle.std.specs.Option.{unwrap_or}
-use Rattle.std.proofs.lemmas.Bool.{cond-true, true≢false}
+use Rattle.std.proofs.lemmas.Bool.{and_parts, cond-true, true≢false}
 use Rattle.std.proofs.Math.Seq.{take-append_seam}
 use Rattle.std.proofs.lemmas.Grind.{flat_map-append}
 use Rattle.std.proofs.lemmas.List.Folds.{list_any-append}
@@ -13,7 +13,7 @@ use Rattle.ps_lines.proofs.ClosedLemmas.{closed-append}
 use Rattle.ps_lines.proofs.LineLemmas.{lines_of_cut, is_closed-push}
 use Rattle.ps_lines.proofs.NumberLemmas.{number_of-decimal}
 use Rattle.ut_args.specs.Built.{is_built_of, is_built_grep, is_built_head, is_built_tail, is_built_uniq, is_built_wc}
-use Rattle.ut_args.specs.Classes.{class_of, keeps_closed_of, of_one, origin_class, report_class}
+use Rattle.ut_args.specs.Classes.{class_of, is_no_count, keeps_closed_of, of_one, origin_class, report_class}
 use Rattle.ut_args.specs.Strings.{keeps_newline}
 use Rattle.ut_args.specs.Invocations.{command_of}
 use Rattle.ut_args.specs.Utilities.{has_at_most_one}
@@ -37,7 +37,9 @@ use Rattle.ut_args.specs.declared.invocations.WcInv.{WcInv}
 use Rattle.ut_args.specs.declared.invocations.Inv.{Inv}
 use Rattle.ut_args.specs.declared.invocations.Inv.TheVariants as inv
 use Rattle.ut_streams.specs.Utilities.{Utility}
-use Rattle.ut_grep.specs.Fixed.{kept, has_part, selected_lines, has_selected, selected_of, pattern_of}
+use Rattle.ut_grep.specs.Grep.{label_in}
+use Rattle.ut_grep.specs.Patterns.{selects, written}
+use Rattle.ut_grep.proofs.UtilityLemmas.{counts-join, lines-join, nothing-joins, selects-join, written-closed, written-none}
 use Rattle.ut_bytes.specs.Tr.{tr_output}
 use Rattle.ut_slices.specs.Cut.{cut_output}
 use Rattle.ut_slices.specs.Ends.{first_lines}
@@ -145,48 +147,31 @@ of-one inv operands of_single is = either (has_at_most_one operands)
     either false = tt
 
 -- grep
--- the lines of a text that is cut at an end of lines are those of its parts
-selected-cut : (pattern front back : List ℕ) → is_cutlist (front ∷ back ∷ []) ≡ true
-    → selected_lines pattern (front ++ back) ≡ selected_lines pattern front ++ selected_lines pattern back
-selected-cut pattern front back cut = ap (selected_of pattern) (lines_of_cut front back cut) ∙ flat_map-append (kept pattern) (lines front) (lines back)
-
-has_selected-cut : (pattern front back : List ℕ) → is_cutlist (front ∷ back ∷ []) ≡ true
-    → has_selected pattern (front ++ back) ≡ (has_selected pattern front || has_selected pattern back)
-has_selected-cut pattern front back cut = ap (list_any (has_part pattern)) (lines_of_cut front back cut) ∙ list_any-append (has_part pattern) (lines front) (lines back)
-
--- what is written of lines is closed
-kept-closed : (pattern line : List ℕ) → is_closed (kept pattern line) ≡ true
-kept-closed pattern line = by_part (has_part pattern line)
-  where
-    by_part : (has : Bool) → is_closed (if has then line ++ 10 ∷ [] else []) ≡ true
-    by_part true = is_closed-push line 10
-    by_part false = refl
-
-selected-closed : (pattern : List ℕ) (texts : List (List ℕ)) → is_closed (selected_of pattern texts) ≡ true
-selected-closed pattern [] = refl
-selected-closed pattern (line ∷ texts) = closed-append (kept pattern line) (selected_of pattern texts) (kept-closed pattern line) (selected-closed pattern texts)
-
 module _ (grep : GrepInv) where
-  abbrev pattern : List ℕ
-  pattern = pattern_of grep.args.patterns
+  abbrev label : List ℕ
+  label = label_in grep.args.operands
 
-  pub grep-lines : IsStateless seam.Lines (inv.Grep grep)
-  grep-lines =
-      stateless (inv.Grep grep) seam.Lines (λ built text. append-nil (selected_lines pattern text)) (λ built. selected-cut pattern)
-      (λ built front back cut. either-part (has_selected pattern (front ++ back)) (has_selected pattern front) (has_selected pattern back) (has_selected-cut pattern front back cut))
+  abbrev WritesOne : Type 0
+  WritesOne = is_built_of (inv.Grep grep) ≡ true → WritesPart (inv.Grep grep) (own (inv.Grep grep))
 
-  pub grep-closed : KeepsClosed (inv.Grep grep)
-  grep-closed =
-      keeps (inv.Grep grep) (λ built text. append-nil (selected_lines pattern text)) (λ built text closed. selected-closed pattern (lines text)) (λ built. refl)
+  grep-writes : WritesOne
+  grep-writes built text = append-nil (written grep.args label text)
 
-  by_report : (report : Report) (numbers : Bool) → IsOfClass (report_class report numbers) (inv.Grep grep)
-  by_report report.Lines true = tt
-  by_report report.Lines false = grep-lines
-  by_report report.Count numbers =
-      parallel (inv.Grep grep) (λ built text. append-nil (selected_lines pattern text)) (λ built. selected-cut pattern)
-      (λ built front back cut. either-part (has_selected pattern (front ++ back)) (has_selected pattern front) (has_selected pattern back) (has_selected-cut pattern front back cut))
-  by_report report.Path numbers = tt
-  by_report report.Nothing numbers = grep-lines
+  grep-selects : is_built_of (inv.Grep grep) ≡ true → SelectsPart (inv.Grep grep) seam.Lines (own (inv.Grep grep))
+  grep-selects built front back cut =
+      either-part (selects grep.args (front ++ back)) (selects grep.args front) (selects grep.args back) (selects-join grep.args label front back cut)
+
+  pub grep-closed : is_no_count grep.args.report ≡ true → KeepsClosed (inv.Grep grep)
+  grep-closed plain =
+      keeps (inv.Grep grep) grep-writes (λ built text closed. written-closed grep.args label plain text) (λ built. written-none grep.args label plain)
+
+  by_report : (report : Report) (numbers : Bool) → grep.args.report ≡ report → grep.args.numbers ≡ numbers → IsOfClass (report_class report numbers) (inv.Grep grep)
+  by_report report.Lines true is numbered = tt
+  by_report report.Lines false is plain = stateless (inv.Grep grep) seam.Lines grep-writes (λ built. lines-join grep.args label is plain) grep-selects
+  by_report report.Count numbers is numbered = parallel (inv.Grep grep) grep-writes (λ built. counts-join grep.args label is built) grep-selects
+  by_report report.Path numbers is numbered = tt
+  by_report report.Nothing numbers is numbered =
+      stateless (inv.Grep grep) seam.Lines grep-writes (λ built front back cut. nothing-joins grep.args label is front back) grep-selects
 
 -- tr
 tr-bytes : (tr : TrInv) (squeezes : Bool) → tr.args.squeezes ≡ squeezes → IsOfClass (if squeezes then class.P else class.S seam.Bytes) (inv.Tr tr)
@@ -258,7 +243,7 @@ sort-parallel sort =
 -- each invocation
 pub is-of-class : (inv : Inv) → IsOfClass (class_of inv) inv
 is-of-class (inv.Cat cat) = stateless (inv.Cat cat) seam.Bytes (λ built text. append-nil text) (λ built front back cut. refl) (λ built front back cut. refl)
-is-of-class (inv.Grep grep) = of-one (inv.Grep grep) grep.args.operands (report_class grep.args.report grep.args.numbers) (by_report grep grep.args.report grep.args.numbers)
+is-of-class (inv.Grep grep) = of-one (inv.Grep grep) grep.args.operands (report_class grep.args.report grep.args.numbers) (by_report grep grep.args.report grep.args.numbers refl refl)
 is-of-class (inv.Tr tr) = tr-bytes tr tr.args.squeezes refl
 is-of-class (inv.Cut cut) = cut-lines cut
 is-of-class (inv.Head head) = of-one (inv.Head head) head.args.operands class.P (head-parallel head)
@@ -270,7 +255,7 @@ is-of-class other = unbuilt other refl (class_of other)
 
 pub keeps-closed : (inv : Inv) → keeps_closed_of inv ≡ true → KeepsClosed inv
 keeps-closed (inv.Cat cat) keeps_it = keeps (inv.Cat cat) (λ built text. append-nil text) (λ built text closed. closed) (λ built. refl)
-keeps-closed (inv.Grep grep) keeps_it = grep-closed grep
+keeps-closed (inv.Grep grep) keeps_it = grep-closed grep (and_parts (has_at_most_one grep.args.operands) (is_no_count grep.args.report) keeps_it).1
 keeps-closed (inv.Tr tr) keeps_it = tr-keeps tr keeps_it
 keeps-closed (inv.Cut cut) keeps_it = cut-keeps cut
 keeps-closed (inv.Head head) keeps_it = absurd (true≢false (sym keeps_it))
@@ -284,8 +269,12 @@ keeps-closed other keeps_it = unbuilt-closed other refl
 pub built-utility : (inv : Inv) → is_built_of inv ≡ true → utility_of inv ≡ utility_by (command_of inv)
 built-utility inv built = cond-true (is_built_of inv) (utility_by (command_of inv)) silent built
 
-pub grep-map : (grep : GrepInv) → is_built_grep grep.args ≡ true → (text : List ℕ) → map_of (inv.Grep grep) text ≡ selected_lines (pattern_of grep.args.patterns) text
+pub grep-map : (grep : GrepInv) → is_built_grep grep.args ≡ true → (text : List ℕ) → map_of (inv.Grep grep) text ≡ written grep.args (label_in grep.args.operands) text
 grep-map grep built text = ap (λ utility. utility.part text) (built-utility (inv.Grep grep) built)
+
+pub grep-selected : (grep : GrepInv) → is_built_grep grep.args ≡ true → (text : List ℕ) → selects_of (inv.Grep grep) (text ∷ []) ≡ selects grep.args text
+grep-selected grep built text =
+    ap (λ utility. utility.selects (labelled (names_of (inv.Grep grep)) (text ∷ []))) (built-utility (inv.Grep grep) built) ∙ or-none (selects grep.args text)
 
 pub tr-map : (tr : TrInv) (text : List ℕ) → map_of (inv.Tr tr) text ≡ tr_output tr.args text
 tr-map tr text = ap (λ utility. utility.part text) (built-utility (inv.Tr tr) refl)

@@ -10,33 +10,42 @@ use Rattle.ut_args.specs.declared.commands.Command.TheVariants as command
 use Rattle.ut_args.specs.declared.invocations.Inv.{Inv}
 use Rattle.ut_args.proofs.OperandLemmas.{all-named, at_most_one-emptied, built-emptied, named-emptied, operands-emptied}
 use Rattle.ut_streams.specs.Utilities.{Input, Utility}
+use Rattle.ps_lines.specs.Lines.{lines}
+use Rattle.ut_grep.specs.Grep.{grep}
+use Rattle.ut_grep.specs.Output.{due_by}
+use Rattle.ut_grep.specs.Patterns.{first_number, head_by, is_selected, name_of}
 use Rattle.ut_groups.specs.Columns.{counts_line}
 use Rattle.ut_groups.specs.Wc.{columns_of, counts_of_all, name_in, wc, wc_line, with_name}
 use Rattle.ut_slices.specs.Ends.{first_lines}
 use Rattle.ut_slices.specs.Head.{head, headed}
 use Rattle.fl_classes.specs.Utilities.{names_of, silent, utility_by, utility_of}
 
--- all of a utility but its finish
-abbrev pub apart_from_finish : Utility → (List ℕ → List ℕ) → Utility
-apart_from_finish utility finish = record utility { finish = finish }
+-- all of a utility but its map and its finish
+abbrev pub apart_from_own : Utility → Utility → Utility
+apart_from_own utility other = record utility { part = other.part; finish = other.finish }
 
 module _ (flags : List Bool) where
-  -- a utility hangs on the number of its operands alone: what these name are its inputs. The finish of wc names its operand.
+  -- a utility hangs on the number of its operands alone: what these name are its inputs. The finish of wc names its operand, and the map of
+  -- grep too
   pub utility-emptied : (asked : Command)
       → utility_by (with_operands (emptied flags (operands_by asked)) asked)
-      ≡ apart_from_finish (utility_by asked) (utility_by (with_operands (emptied flags (operands_by asked)) asked)).finish
+      ≡ apart_from_own (utility_by asked) (utility_by (with_operands (emptied flags (operands_by asked)) asked))
   utility-emptied (command.Cat args) = refl
-  utility-emptied (command.Grep args) = refl
+  utility-emptied (command.Grep args) =
+      ap (λ alone. record (grep args) {
+        output = λ inputs. flat_map (λ input. due_by args.report (is_selected args) (head_by args.report alone (name_of input.label)) (first_number args) 0 false (lines input.text)) inputs;
+        part = (grep (record args { operands = emptied flags args.operands })).part;
+      }) (at_most_one-emptied flags args.operands)
   utility-emptied (command.Cut args) = refl
   utility-emptied (command.Head args) =
       ap (λ one. record (head args) {
-      output = λ inputs. if one then flat_map (λ (input : Input). first_lines args.count input.text) inputs else headed true args.count inputs;
+        output = λ inputs. if one then flat_map (λ (input : Input). first_lines args.count input.text) inputs else headed true args.count inputs;
       }) (at_most_one-emptied flags args.operands)
   utility-emptied (command.Tail args) = refl
   utility-emptied (command.Wc args) =
       ap (λ one. record (wc args) {
-      output = λ inputs. flat_map (λ input. wc_line args input.label input.text) inputs ++ (if one then [] else counts_line (columns_of args) (counts_of_all inputs) (codes "total"));
-      finish = with_name (name_in (emptied flags args.operands));
+        output = λ inputs. flat_map (λ input. wc_line args input.label input.text) inputs ++ (if one then [] else counts_line (columns_of args) (counts_of_all inputs) (codes "total"));
+        finish = with_name (name_in (emptied flags args.operands));
       }) (at_most_one-emptied flags args.operands)
   utility-emptied (command.Uniq args) = refl
   utility-emptied (command.Sort args) = refl
@@ -66,17 +75,16 @@ module _ (one other : Inv) (flags : List Bool) (is : command_of other ≡ with_o
   pub built-without : is_built_of other ≡ is_built_of one
   built-without = ap is_built_by is ∙ built-emptied flags (command_of one)
 
-  pub utility-without : utility_of other ≡ apart_from_finish (utility_of one) (utility_of other).finish
+  pub utility-without : utility_of other ≡ apart_from_own (utility_of one) (utility_of other)
   utility-without = by_built (is_built_of one) (is_built_of other) built-without
     where
       -- that of another command is the same but for its finish
-      told : utility_by (command_of other) ≡ apart_from_finish (utility_by (command_of one)) (utility_by (command_of other)).finish
-      told =
-          subst (λ asked. utility_by asked ≡ apart_from_finish (utility_by (command_of one)) (utility_by asked).finish) (sym is) (utility-emptied flags (command_of one))
+      told : utility_by (command_of other) ≡ apart_from_own (utility_by (command_of one)) (utility_by (command_of other))
+      told = subst (λ asked. utility_by asked ≡ apart_from_own (utility_by (command_of one)) (utility_by asked)) (sym is) (utility-emptied flags (command_of one))
 
       by_built : (built built' : Bool) → built' ≡ built
           → (if built' then utility_by (command_of other) else silent)
-          ≡ apart_from_finish (if built then utility_by (command_of one) else silent) (if built' then utility_by (command_of other) else silent).finish
+          ≡ apart_from_own (if built then utility_by (command_of one) else silent) (if built' then utility_by (command_of other) else silent)
       by_built true true same = told
       by_built false false same = refl
       by_built true false same = absurd (true≢false (sym same))

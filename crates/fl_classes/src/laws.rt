@@ -42,15 +42,15 @@ pub fn classes_go_over_cut_lists()
 {}
 
 /// An operand that lacks an input changes which inputs there are, and nothing else: with the empty text in its place an invocation
-/// writes and selects the same for the same inputs, and these have the names of the other operands. The finish of `wc` alone names its
-/// operand.
+/// writes and selects the same for the same inputs, and these have the names of the other operands. The finish of `wc` and the map of
+/// `grep` alone name their operand.
 pub fn operands_may_lack_an_input()
     ensures output { (asked : Command) (flags : List Bool) (inputs : List Input) →
         (utility_by (with_operands (emptied flags (operands_by asked)) asked)).output inputs ≡ (utility_by asked).output inputs }
     ensures selects { (asked : Command) (flags : List Bool) (inputs : List Input) →
         (utility_by (with_operands (emptied flags (operands_by asked)) asked)).selects inputs ≡ (utility_by asked).selects inputs }
     ensures utility { (one other : Inv) (flags : List Bool) → command_of other ≡ with_operands (emptied flags (operands_of one)) (command_of one) →
-        utility_of other ≡ record (utility_of one) { finish = (utility_of other).finish } }
+        utility_of other ≡ record (utility_of one) { part = (utility_of other).part; finish = (utility_of other).finish } }
     ensures names { (one other : Inv) (flags : List Bool) → command_of other ≡ with_operands (emptied flags (operands_of one)) (command_of one) →
         names_of other ≡ filter is_named (remaining flags (operands_of one)) }
 {}

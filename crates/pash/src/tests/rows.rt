@@ -133,7 +133,12 @@ fn texts_are_counted_and_searched(rt: HostRuntime) -> Result<(), Fail> {
             ("wc b", "2 2 5 b\n", "", 0),
             ("cat /dev/null | sort | uniq -c | wc", "0 0 0\n", "", 0),
             ("head -n 1 pairs; tail -n 1 pairs", "b:2\nc:1\n", "", 0),
-            ("tail -c 3 pairs; head missing", ":1\n", "head: missing: No such file or directory\n", 1),
+            (
+                "tail -c 3 pairs; head missing",
+                ":1\n",
+                "head: missing: No such file or directory\n",
+                1,
+            ),
             ("echo aabb | tr -s ab", "ab\n", "", 0),
             ("cat a b | grep x", "x1x2\n", "", 0),
             (
@@ -143,8 +148,18 @@ fn texts_are_counted_and_searched(rt: HostRuntime) -> Result<(), Fail> {
                 0,
             ),
             ("grep -E '^(a|b){2}$' words", "ab\n", "", 0),
-            ("grep -i -e X -e Q b; grep -x -v y b; grep z b; echo $?", "x2\nx2\n1\n", "", 0),
-            ("grep a missing; echo $?", "2\n", "grep: missing: No such file or directory\n", 0),
+            (
+                "grep -i -e X -e Q b; grep -x -v y b; grep z b; echo $?",
+                "x2\nx2\n1\n",
+                "",
+                0,
+            ),
+            (
+                "grep a missing; echo $?",
+                "2\n",
+                "grep: missing: No such file or directory\n",
+                0,
+            ),
             ("echo a | grep '['; echo $?", "2\n", "grep: bad usage\n", 0),
         ],
     )

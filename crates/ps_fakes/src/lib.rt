@@ -18,8 +18,6 @@ mod sink;
 mod source;
 mod standing;
 mod stored;
-#[cfg(test)]
-mod tests;
 mod tree;
 
 pub use gates::OpenGate;

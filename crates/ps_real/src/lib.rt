@@ -6,8 +6,6 @@
 
 mod names;
 mod reading;
-#[cfg(test)]
-mod tests;
 mod tree;
 mod writing;
 

@@ -4,7 +4,7 @@ ghost use Rattle.ps_world.specs.Files.{NoWriterOut};
 
 mod written;
 
-use super::*;
+use ps_fakes::{MemSink, MemSource, MemTree, OpenGate};
 use ps_lines::Memory;
 use ps_world::{Gate, Place, Reach, Sink, Source, Tree, WorldErr, look};
 use std::alloc::{AllocError, Global};

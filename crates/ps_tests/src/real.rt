@@ -1,5 +1,5 @@
 //! The machine's tree over a folder that each test makes for itself, and what the machine lets fail there.
-use crate::RealTree;
+use ps_real::RealTree;
 use ps_world::{Kind, Mode, Path, Tree, WorldErr, read_all, write_all};
 use std::process::Abort;
 use std::test::Fail;

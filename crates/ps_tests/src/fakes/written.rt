@@ -3,8 +3,15 @@ ghost use Rattle.std.specs.Prelude.{◌≡◌, IfOk, IfSome, IfNone, OnOk};
 ghost use Rattle.ps_world.specs.Files.{NoWriterOut};
 ghost use Rattle.ps_world.specs.TreeState.{lend, take_out};
 
-use super::*;
-use ps_world::{Kind, Mode, Path, read_all, read_front, read_line, write_all};
+use super::read_once;
+use ps_fakes::{MemSink, MemSource, MemTree, NoFailSink, NoFailSource, NoFailTree};
+use ps_lines::Memory;
+use ps_world::{
+    Kind, Mode, Path, Sink, Source, Tree, WorldErr, read_all, read_front, read_line, write_all,
+};
+use std::alloc::Global;
+use std::process::Abort;
+use std::test::Fail;
 
 /// The path that a text spells.
 fn path_of<R: Abort + AllocGlobal>(rt: &R, text: &[u8]) -> Result<Path, Fail> {

@@ -1,5 +1,5 @@
 use Rattle.ps_world.proofs.WritingLemmas.{whole_after}
-use Rattle.ps_fakes.proofs.tests.written.write_file.Goals as goal
+use Rattle.ps_tests.proofs.fakes.written.write_file.Goals as goal
 
 pub returns-in_ok-written-in-Some : goal.returns-in_ok-written-in-Some
 returns-in_ok-written-in-Some g c = record {

@@ -25,8 +25,6 @@ mod marks;
 mod parameters;
 mod separators;
 mod splitting;
-#[cfg(test)]
-mod tests;
 mod texts;
 mod values;
 

@@ -26,8 +26,6 @@ mod quotes;
 mod reading;
 mod refusals;
 mod runs;
-#[cfg(test)]
-mod tests;
 mod texts;
 mod tokens;
 mod words;

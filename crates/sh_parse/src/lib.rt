@@ -24,8 +24,6 @@ mod pieces;
 mod readers;
 mod refusals;
 mod scripts;
-#[cfg(test)]
-mod tests;
 mod text_words;
 mod texts;
 

@@ -1,5 +1,5 @@
 //! Texts and their tokens or refusals.
-use crate::{LexRefusal, Mark, Op, Static, TokenKind, lex, read_marks};
+use sh_lex::{LexRefusal, Mark, Op, Static, TokenKind, lex, read_marks};
 use std::alloc::{AllocError, Global};
 use std::process::Abort;
 use std::test::Fail;

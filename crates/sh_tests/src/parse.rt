@@ -13,11 +13,11 @@ mod rows;
 mod shown;
 mod texts;
 
-use crate::{
+use ps_lines::{Memory, Text};
+use sh_parse::{
     GrammarRefusal, Item, Look, Refusal, Reserved, Span, WordKind, WordReader, check, parse_items,
     word_kind,
 };
-use ps_lines::{Memory, Text};
 use sh_tree::{
     AndOr, Command, How, Join, List, Part, Pipeline, Redir, Script, Simple, Tail, Word, Words,
 };

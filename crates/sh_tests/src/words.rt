@@ -1,7 +1,7 @@
 //! Words and their trees.
-use crate::{ReadWord, assigns_in, read_assign, read_word};
 use ps_lines::Memory;
 use sh_tree::{Form, Param, Part, Word};
+use sh_words::{ReadWord, assigns_in, read_assign, read_word};
 use std::alloc::{AllocError, Global};
 use std::process::Abort;
 use std::test::Fail;

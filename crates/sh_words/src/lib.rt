@@ -21,8 +21,6 @@ pub mod laws;
 mod reading;
 mod steps;
 mod substitutions;
-#[cfg(test)]
-mod tests;
 
 pub use assigning::assigns_in;
 pub use reading::{MAX_LEVELS, ReadWord, read_assign, read_assign_in, read_word, read_word_in};

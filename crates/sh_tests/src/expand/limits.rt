@@ -1,8 +1,8 @@
 //! The most fields of one expansion.
-use crate::{ExpandFault, Frame, expand};
 use ps_fakes::MemTree;
 use ps_lines::{Memory, Text};
 use sh_arith::Env;
+use sh_expand::{ExpandFault, Frame, expand};
 use sh_tree::{Form, Param, Part, Word};
 use std::alloc::Global;
 use std::test::Fail;

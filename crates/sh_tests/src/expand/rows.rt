@@ -13,10 +13,10 @@
 //! may be empty.
 //!
 //! A row that isn't written so fails its test.
-use crate::{ExpandFault, Frame, expand, expand_one, has_pattern};
 use ps_fakes::{MemTree, is_tree};
 use ps_lines::Text;
 use sh_arith::{ArithFault, Env};
+use sh_expand::{ExpandFault, Frame, expand, expand_one, has_pattern};
 use sh_tree::{Form, Param, Part, Word};
 use std::alloc::Global;
 use std::test::Fail;
@@ -399,21 +399,34 @@ fn close(alloc: Global, opened: &mut Vec<Open>, words: &mut Vec<Word>) -> Result
         return malformed("a `)` closes nothing");
     };
     if open.kind == b'w' {
-        let word = Word { parts: open.parts };
-        match opened.pop() {
-            Some(mut outer) => {
-                outer.word = Some(word);
-                opened.push(outer)?;
-            }
-            None => words.push(word)?,
-        }
-        return Ok(());
+        let word = word_of(open)?;
+        return close_word(word, opened, words);
     }
     let part = part_of(alloc, open)?;
     let Some(mut outer) = opened.pop() else {
         return malformed("a part stands outside of a word");
     };
     outer.parts.push(part)?;
+    Ok(opened.push(outer)?)
+}
+
+/// The word that is closed.
+fn word_of(open: Open) -> Result<Word, Fail> {
+    if !open.atoms.is_empty() || open.word.is_some() {
+        return malformed("a word holds parts alone");
+    }
+    Ok(Word { parts: open.parts })
+}
+
+/// Hands a word to the part around it, or adds it to the words.
+fn close_word(word: Word, opened: &mut Vec<Open>, words: &mut Vec<Word>) -> Result<(), Fail> {
+    let Some(mut outer) = opened.pop() else {
+        return Ok(words.push(word)?);
+    };
+    if outer.word.is_some() {
+        return malformed("a part has one word at most");
+    }
+    outer.word = Some(word);
     Ok(opened.push(outer)?)
 }
 

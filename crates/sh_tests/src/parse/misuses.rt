@@ -1,7 +1,7 @@
 //! The first misuse in rows of items.
 use super::{item_of, word};
-use crate::{Item, Look, Misuse, Span, WordKind, WordReader, first_misuse};
 use ps_lines::{Memory, Text};
+use sh_parse::{Item, Look, Misuse, Span, WordKind, WordReader, first_misuse};
 use sh_tree::Word;
 use std::alloc::{AllocError, Global};
 use std::test::Fail;

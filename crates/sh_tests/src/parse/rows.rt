@@ -3,9 +3,9 @@
 //! A row is a text, ` => `, and its script as `shown` writes it, or the name of the refusal with its offset. In the text `\n`,
 //! `\t`, `\\` and `\xNN` are bytes, and `\e` is nothing.
 use super::shown::shown;
-use crate::{ParseRefusal, parse};
 use ps_lines::{Memory, decimal};
 use sh_lex::{LexRefusal, Static, lex};
+use sh_parse::{ParseRefusal, parse};
 use std::alloc::Global;
 use std::process::Abort;
 use std::test::Fail;

@@ -1,6 +1,6 @@
 //! Texts with their items, and whether they are scripts, as `dash -n` has it.
-use crate::{GrammarRefusal, Item, Refusal, check, read_items};
 use sh_lex::LexRefusal;
+use sh_parse::{GrammarRefusal, Item, Refusal, check, read_items};
 use std::alloc::{AllocError, Global};
 use std::process::Abort;
 use std::test::Fail;

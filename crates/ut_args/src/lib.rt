@@ -25,8 +25,6 @@ mod reading;
 mod rows;
 mod shell;
 mod strings;
-#[cfg(test)]
-mod tests;
 mod utilities;
 mod values;
 

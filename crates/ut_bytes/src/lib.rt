@@ -8,8 +8,6 @@ mod edits;
 pub mod laws;
 mod steps;
 mod tables;
-#[cfg(test)]
-mod tests;
 mod trs;
 
 pub use trs::Tr;

@@ -12,8 +12,6 @@ mod grouping;
 mod kept;
 mod named;
 mod skips;
-#[cfg(test)]
-mod tests;
 mod uniq;
 mod wc;
 

@@ -16,8 +16,6 @@ pub mod laws;
 mod runs;
 mod selections;
 mod tails;
-#[cfg(test)]
-mod tests;
 
 pub use cuts::Cut;
 pub use heads::Head;

@@ -16,8 +16,6 @@ mod orders;
 mod places;
 mod prefixes;
 mod sorter;
-#[cfg(test)]
-mod tests;
 mod writing;
 
 pub use fields::behind_fields;

@@ -15,8 +15,6 @@ mod cuttings;
 mod line_streams;
 mod puts;
 mod streams;
-#[cfg(test)]
-mod tests;
 
 pub use cuttings::cut_behind;
 pub use line_streams::{EachLine, LineStream, Lines, PerLine, cut_last_line};

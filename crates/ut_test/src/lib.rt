@@ -12,8 +12,6 @@ pub mod laws;
 mod operators;
 mod outcomes;
 mod questions;
-#[cfg(test)]
-mod tests;
 mod writing;
 
 pub use evaluation::test;

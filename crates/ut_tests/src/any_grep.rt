@@ -1,10 +1,11 @@
 //! `grep` over cuttings of short texts; what is wanted is what GNU grep writes in the C locale, each line with a newline.
 
-use crate::{AnyGrep, check};
+use crate::invocations::invocation_of;
 use ps_lines::Memory;
 use std::alloc::Global;
 use std::test::Fail;
-use ut_args::{ArgFault, GrepInv, Inv, read_inv};
+use ut_args::{GrepInv, Inv};
+use ut_grep::{AnyGrep, check};
 use ut_regex::ReFault;
 use ut_streams::{Stream, cut_behind, feed_all};
 
@@ -95,14 +96,9 @@ fn read_words(alloc: Global, words: &[&str]) -> Result<Option<GrepInv>, Memory> 
     for word in words {
         texts.push(Vec::from_slice(alloc, word.as_bytes())?)?;
     }
-    if texts.is_empty() {
-        return Ok(None);
-    }
-    match read_inv(alloc, texts.as_slice()) {
-        Ok(Inv::Grep(inv)) => Ok(Some(inv)),
-        Ok(_) => Ok(None),
-        Err(ArgFault::Memory) => Err(Memory),
-        Err(_) => Ok(None),
+    match invocation_of(alloc, texts.as_slice())? {
+        Some(Inv::Grep(inv)) => Ok(Some(inv)),
+        _ => Ok(None),
     }
 }
 

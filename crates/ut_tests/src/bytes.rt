@@ -1,26 +1,19 @@
 //! `tr` over every cutting of short texts; what is wanted is what the standard says, and GNU tr writes in the C locale.
 
-use crate::Tr;
+use crate::invocations::{invocation_of, words_of};
 use ps_lines::Memory;
 use std::alloc::Global;
 use std::test::Fail;
-use ut_args::{ArgFault, Inv, TrInv, read_inv};
+use ut_args::{Inv, TrInv};
+use ut_bytes::Tr;
 use ut_streams::{Stream, cut_behind, feed_all};
 
 /// The invocation of these words, where they are one of tr.
 fn read_words(alloc: Global, words: &[&[u8]]) -> Result<Option<TrInv>, Memory> {
-    let mut texts = Vec::new(alloc);
-    for word in words {
-        texts.push(Vec::from_slice(alloc, word)?)?;
-    }
-    if texts.is_empty() {
-        return Ok(None);
-    }
-    match read_inv(alloc, texts.as_slice()) {
-        Ok(Inv::Tr(inv)) => Ok(Some(inv)),
-        Ok(_) => Ok(None),
-        Err(ArgFault::Memory) => Err(Memory),
-        Err(_) => Ok(None),
+    let texts = words_of(alloc, words)?;
+    match invocation_of(alloc, texts.as_slice())? {
+        Some(Inv::Tr(inv)) => Ok(Some(inv)),
+        _ => Ok(None),
     }
 }
 

@@ -3,34 +3,20 @@
 ghost use Rattle.std.specs.Prelude.{◌≡◌, true, IfOk, IfSome};
 ghost use Rattle.ut_args.specs.Built.{is_built_of};
 
-use crate::Grep;
+use crate::invocations::{built_of, words_of};
 use ps_lines::Memory;
 use std::alloc::Global;
 use std::test::Fail;
-use ut_args::{ArgFault, Inv, is_built, read_inv};
+use ut_args::Inv;
+use ut_grep::Grep;
 use ut_streams::{Stream, cut_behind, feed_all};
 
 /// The invocation `grep -F PATTERN`, where it is one that is built.
 fn fixed(alloc: Global, pattern: &[u8]) -> Result<Option<Inv>, Memory>
     ensures { IfOk result (λ read. IfSome read (λ inv. is_built_of inv ≡ true)) }
 {
-    let mut words = Vec::new(alloc);
-    for word in [b"grep".as_slice(), b"-F".as_slice(), pattern] {
-        words.push(Vec::from_slice(alloc, word)?)?;
-    }
-    if words.is_empty() {
-        return Ok(None);
-    }
-    match read_inv(alloc, words.as_slice()) {
-        Ok(inv) => {
-            if is_built(&inv) {
-                return Ok(Some(inv));
-            }
-            Ok(None)
-        }
-        Err(ArgFault::Memory) => Err(Memory),
-        Err(_) => Ok(None),
-    }
+    let words = words_of(alloc, &[b"grep", b"-F", pattern])?;
+    built_of(alloc, words.as_slice())
 }
 
 /// Pattern, text, and what is written.

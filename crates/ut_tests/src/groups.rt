@@ -4,11 +4,14 @@
 ghost use Rattle.std.specs.Prelude.{◌≡◌, true, IfOk, IfSome};
 ghost use Rattle.ut_args.specs.Built.{is_built_of};
 
-use crate::{Columns, Counts, Kept, Named, Uniq, Wc, add_counts, add_sat, put_counts, read_counts};
+use crate::invocations::built_of;
 use ps_lines::Memory;
 use std::alloc::Global;
 use std::test::Fail;
-use ut_args::{ArgFault, Groups, Inv, is_built, read_inv};
+use ut_args::{Groups, Inv};
+use ut_groups::{
+    Columns, Counts, Kept, Named, Uniq, Wc, add_counts, add_sat, put_counts, read_counts,
+};
 use ut_streams::{Stream, cut_behind, feed_all};
 
 /// The invocation of these words, if they are one that is built.
@@ -19,19 +22,7 @@ fn read_words(alloc: Global, words: &str) -> Result<Option<Inv>, Memory>
     for word in words.split(' ') {
         texts.push(Vec::from_slice(alloc, word.as_bytes())?)?;
     }
-    if texts.is_empty() {
-        return Ok(None);
-    }
-    match read_inv(alloc, texts.as_slice()) {
-        Ok(inv) => {
-            if is_built(&inv) {
-                return Ok(Some(inv));
-            }
-            Ok(None)
-        }
-        Err(ArgFault::Memory) => Err(Memory),
-        Err(_) => Ok(None),
-    }
+    built_of(alloc, texts.as_slice())
 }
 
 /// Words, text, and what is written for the one input.
@@ -95,8 +86,7 @@ fn counts_are_the_same_over_every_cutting(rt: HostRuntime) -> Result<(), Fail> {
 fn words_are_counted_across_blocks(rt: HostRuntime) -> Result<(), Fail> {
     let alloc = rt.alloc();
     let Some(Inv::Wc(inv)) = read_words(alloc, "wc -w")? else {
-        assert!(rt; false, "no invocation that is built");
-        return Ok(());
+        return Err(Fail::new("no invocation that is built"));
     };
     for place in 1..399 {
         let mut text = [b'a'; 400];

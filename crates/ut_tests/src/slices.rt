@@ -1,26 +1,17 @@
 //! Slices of short texts over every cutting; what is wanted is what the standard says, and GNU's tools write in the C locale.
 
-use crate::{Cut, Head, Tail};
+use crate::invocations::{invocation_of, words_of};
 use ps_lines::Memory;
 use std::alloc::Global;
 use std::test::Fail;
-use ut_args::{ArgFault, Inv, read_inv};
+use ut_args::Inv;
+use ut_slices::{Cut, Head, Tail};
 use ut_streams::{Stream, cut_behind, feed_all};
 
 /// The invocation of these words.
-fn read_words(alloc: Global, words: &[&str]) -> Result<Option<Inv>, Memory> {
-    let mut texts = Vec::new(alloc);
-    for word in words {
-        texts.push(Vec::from_slice(alloc, word.as_bytes())?)?;
-    }
-    if texts.is_empty() {
-        return Ok(None);
-    }
-    match read_inv(alloc, texts.as_slice()) {
-        Ok(inv) => Ok(Some(inv)),
-        Err(ArgFault::Memory) => Err(Memory),
-        Err(_) => Ok(None),
-    }
+fn read_words(alloc: Global, words: &[&[u8]]) -> Result<Option<Inv>, Memory> {
+    let texts = words_of(alloc, words)?;
+    invocation_of(alloc, texts.as_slice())
 }
 
 /// How many lines, text, and what is written.
@@ -38,7 +29,7 @@ static HEADS: [(&str, &str, &str); 7] = [
 fn first_lines_are_written_over_every_cutting(rt: HostRuntime) -> Result<(), Fail> {
     let alloc = rt.alloc();
     for &(count, text, wanted) in HEADS.iter() {
-        let Some(Inv::Head(inv)) = read_words(alloc, &["head", "-n", count])? else {
+        let Some(Inv::Head(inv)) = read_words(alloc, &[b"head", b"-n", count.as_bytes()])? else {
             assert!(rt; false, "no invocation of head");
             continue;
         };
@@ -83,7 +74,11 @@ static TAILS: [(&str, &str, &str, &str); 17] = [
 fn ends_are_written_over_every_cutting(rt: HostRuntime) -> Result<(), Fail> {
     let alloc = rt.alloc();
     for &(option, count, text, wanted) in TAILS.iter() {
-        let Some(Inv::Tail(inv)) = read_words(alloc, &["tail", option, count])? else {
+        let Some(Inv::Tail(inv)) = read_words(
+            alloc,
+            &[b"tail", option.as_bytes(), count.as_bytes()],
+        )?
+        else {
             assert!(rt; false, "no invocation of tail");
             continue;
         };
@@ -125,7 +120,8 @@ static CUTS: [(&str, &str, &str, &str); 18] = [
 fn selected_parts_are_written_over_every_cutting(rt: HostRuntime) -> Result<(), Fail> {
     let alloc = rt.alloc();
     for &(list, option, text, wanted) in CUTS.iter() {
-        let Some(Inv::Cut(inv)) = read_words(alloc, &["cut", list, option])? else {
+        let Some(Inv::Cut(inv)) = read_words(alloc, &[b"cut", list.as_bytes(), option.as_bytes()])?
+        else {
             assert!(rt; false, "no invocation of cut");
             continue;
         };

@@ -1,8 +1,8 @@
 //! A utility of lines over every cutting of a text.
 
-use crate::{EachLine, Lines, PerLine, Stream, cut_behind, feed_all, put, put_line};
 use ps_lines::Memory;
 use std::test::Fail;
+use ut_streams::{EachLine, Lines, PerLine, Stream, cut_behind, feed_all, put, put_line};
 
 /// Writes each line behind a mark.
 #[derive(Drop)]
@@ -15,7 +15,7 @@ impl PerLine for Marked {
 
     ghost of = { λ marked line. (marked.mark ∷ []) ++ (line ++ 10 ∷ []) };
 
-    #[tactic(auto, using(crate::proofs::StreamLemmas::puts))]
+    #[tactic(auto, using(ut_streams::proofs::StreamLemmas::puts))]
     fn one(&self, line: &[u8], out: &mut Vec<u8>) -> Result<(), Memory> {
         match put(&[self.mark], out) {
             Ok(()) => put_line(line, out),

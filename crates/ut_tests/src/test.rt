@@ -2,9 +2,9 @@
 mod answers;
 mod lines;
 
-use crate::echo;
 use std::alloc::{AllocError, Global};
 use std::test::Fail;
+use ut_test::echo;
 
 /// Words, each behind a bar.
 fn words_of(alloc: Global, text: &str) -> Result<Vec<Vec<u8>>, AllocError> {

@@ -1,10 +1,10 @@
 //! What an invocation asks for, as the items of a row.
-use crate::{
+use ps_lines::{Memory, decimal};
+use std::alloc::Global;
+use ut_args::{
     CutArgs, GrepArgs, Groups, Inv, Key, KeyEnd, Ordering, Origin, Parts, PasteArgs, Report,
     SortArgs, Syntax, TailArgs, TrArgs, Unit,
 };
-use ps_lines::{Memory, decimal};
-use std::alloc::Global;
 use ut_options::Texts;
 
 /// Items of a row.
@@ -57,7 +57,9 @@ pub(super) fn options_of(alloc: Global, inv: &Inv) -> Result<Items, Memory> {
         Inv::Continue(exit) => add_given(alloc, &mut items, exit.args.depth)?,
         Inv::Exit(exit) => add_given(alloc, &mut items, exit.args.status.map(u64::from))?,
         Inv::Shift(shift) => add_given(alloc, &mut items, shift.args.count)?,
-        _ => {}
+        Inv::Cat(_) | Inv::True(_) | Inv::False(_) | Inv::Colon(_) => {}
+        Inv::Set(_) | Inv::Unset(_) | Inv::Read(_) | Inv::Echo(_) => {}
+        Inv::Test(_) | Inv::Bracket(_) => {}
     }
     Ok(items)
 }

@@ -1,22 +1,14 @@
 //! Rows of tables: an invocation of sort, and what it does.
 //!
-//! A row has columns with `|` between them. The first one has the words, with spaces between them. In a column `\n`, `\t`, `\\` and `\xNN`
-//! are bytes, and `\e` is nothing.
-use crate::{Sorter, merge, order};
+//! A row has columns with `|` between them, written as the module `columns` says. The first one has the words.
+use crate::columns::{items_of, unescaped};
+use crate::invocations::invocation_of;
 use ps_lines::{Memory, is_closed};
 use std::alloc::Global;
 use std::cmp::Ordering;
-use ut_args::{ArgFault, Inv, SortInv, read_inv};
+use ut_args::{Inv, SortInv};
+use ut_sort::{Sorter, merge, order};
 use ut_streams::{Stream, cut_behind, feed_all};
-
-/// Where the bytes of a column have come to.
-#[derive(Clone, Copy)]
-enum At {
-    Byte,
-    Backslash,
-    FirstDigit,
-    SecondDigit(u8),
-}
 
 /// Whether two lines have the order that the row says: words, one line, another, `Less`, `Equal` or `Greater`.
 pub(super) fn has_order(alloc: Global, row: &str) -> Result<bool, Memory> {
@@ -156,17 +148,6 @@ fn invocation_in(alloc: Global, row: &str) -> Result<Option<Inv>, Memory> {
     invocation_of(alloc, words.as_slice())
 }
 
-fn invocation_of(alloc: Global, words: &[Vec<u8>]) -> Result<Option<Inv>, Memory> {
-    if words.is_empty() {
-        return Ok(None);
-    }
-    match read_inv(alloc, words) {
-        Ok(inv) => Ok(Some(inv)),
-        Err(ArgFault::Memory) => Err(Memory),
-        Err(_) => Ok(None),
-    }
-}
-
 /// The bytes of each column.
 fn columns_of(alloc: Global, row: &str) -> Result<Vec<Vec<u8>>, Memory> {
     let mut columns = Vec::new(alloc);
@@ -174,52 +155,4 @@ fn columns_of(alloc: Global, row: &str) -> Result<Vec<Vec<u8>>, Memory> {
         columns.push(unescaped(alloc, column)?)?;
     }
     Ok(columns)
-}
-
-/// The items of a column.
-fn items_of(alloc: Global, column: &[u8]) -> Result<Vec<Vec<u8>>, Memory> {
-    let mut items = Vec::new(alloc);
-    for item in column.split(|byte| *byte == b' ') {
-        if !item.is_empty() {
-            items.push(unescaped(alloc, item)?)?;
-        }
-    }
-    Ok(items)
-}
-
-/// The bytes of a column.
-fn unescaped(alloc: Global, item: &[u8]) -> Result<Vec<u8>, Memory> {
-    let mut bytes = Vec::new(alloc);
-    let mut at = At::Byte;
-    for &byte in item {
-        let (next, done) = after(at, byte);
-        at = next;
-        if let Some(byte) = done {
-            bytes.push(byte)?;
-        }
-    }
-    Ok(bytes)
-}
-
-/// Where a byte leads to, and the byte that it ends.
-fn after(at: At, byte: u8) -> (At, Option<u8>) {
-    match (at, byte) {
-        (At::Byte, b'\\') => (At::Backslash, None),
-        (At::Byte, byte) => (At::Byte, Some(byte)),
-        (At::Backslash, b'n') => (At::Byte, Some(b'\n')),
-        (At::Backslash, b't') => (At::Byte, Some(b'\t')),
-        (At::Backslash, b'x') => (At::FirstDigit, None),
-        (At::Backslash, b'e') => (At::Byte, None),
-        (At::Backslash, byte) => (At::Byte, Some(byte)),
-        (At::FirstDigit, digit) => (At::SecondDigit(digit_of(digit)), None),
-        (At::SecondDigit(first), digit) => (At::Byte, Some((first << 4) | digit_of(digit))),
-    }
-}
-
-fn digit_of(byte: u8) -> u8 {
-    match byte {
-        b'0'..=b'9' => byte - b'0',
-        b'a'..=b'f' => byte - b'a' + 10,
-        _ => 0,
-    }
 }

@@ -1,11 +1,11 @@
 //! Arguments of `test` and its answers, as `dash` gives them where the rule isn't our own.
 use super::words_of;
-use crate::Tested::{self, BadUsage, No, Yes};
-use crate::test;
 use ps_fakes::MemTree;
 use ps_world::WorldErr;
 use std::process::Abort;
 use std::test::Fail;
+use ut_test::Tested::{self, BadUsage, No, Yes};
+use ut_test::test;
 
 /// Asks for each row in a tree of these files, from `/w`. A row has arguments, each behind a bar, and the answer.
 fn answers<R: Abort + AllocGlobal>(

@@ -1,8 +1,8 @@
 //! Lines, bytes of IFS, numbers of names and the fields that `read` gives to them, as `dash` does where the rule isn't our own.
-use crate::read_fields;
 use std::alloc::{AllocError, Global};
 use std::process::Abort;
 use std::test::Fail;
+use ut_test::read_fields;
 
 /// The fields with bars between them.
 fn joined(alloc: Global, fields: &[Vec<u8>]) -> Result<Vec<u8>, AllocError> {

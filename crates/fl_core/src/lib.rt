@@ -12,13 +12,9 @@
 //! `Engine` is what a caller is given to run graphs on: `specs/Engines.antt` says what comes of a graph that it runs.
 #![tactic(auto)]
 
-#[cfg(test)]
-mod end_list_tests;
 mod end_lists;
 mod ends;
 mod engine;
-#[cfg(test)]
-mod engine_tests;
 mod engines;
 mod finish;
 mod graph_nets;
@@ -26,8 +22,6 @@ mod inputs;
 mod kinds;
 pub mod laws;
 mod machines;
-#[cfg(test)]
-mod net_tests;
 mod nets;
 mod numbered_ends;
 mod outside;

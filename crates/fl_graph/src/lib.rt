@@ -9,8 +9,6 @@
 
 mod edges;
 mod graphs;
-#[cfg(test)]
-mod hand_on;
 mod kinds;
 pub mod laws;
 mod machines;
@@ -21,8 +19,6 @@ mod ports;
 mod runs;
 mod seqs;
 mod status;
-#[cfg(test)]
-mod tests;
 mod validity;
 
 pub use graphs::{Cell, Graph, Node, StatusRule};

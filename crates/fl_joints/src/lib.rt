@@ -13,8 +13,6 @@ mod joints;
 mod makers;
 mod splits;
 mod sums;
-#[cfg(test)]
-mod tests;
 
 pub use joints::Joint;
 pub use makers::joint;

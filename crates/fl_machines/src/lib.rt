@@ -8,8 +8,6 @@ mod any_stream;
 mod copies;
 mod kinds;
 mod machines;
-#[cfg(test)]
-mod tests;
 mod through;
 
 pub use any_stream::AnyStream;

@@ -1,8 +1,7 @@
 //! Commands over a tree in memory: what each writes, the status that it leaves, what it leaves of the input, and what is noted of it.
 //!
 //! What is written and the status are those of GNU coreutils and grep under `LC_ALL=C`.
-use crate::look_at;
-use crate::runs::{Commanded, Ended, run_command};
+use fl_commands::{Commanded, Ended, look_at, run_command};
 use fl_core::InTurn;
 use fl_segments::First;
 use ps_fakes::{MemSink, MemSource, MemTree, OpenGate};

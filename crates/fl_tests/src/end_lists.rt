@@ -1,5 +1,5 @@
 //! A small graph over lists of ends.
-use crate::{Ends, Ran, are_run, have_ends, run_in_turn};
+use fl_core::{Ends, Ran, are_run, have_ends, run_in_turn};
 use fl_graph::{From, Graph, Node, NodeKind, Seq, StatusRule, To, validate};
 use ps_fakes::{MemSink, MemSource};
 use ps_world::{Mode, Path};

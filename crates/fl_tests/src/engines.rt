@@ -1,5 +1,5 @@
 //! Graphs on an engine.
-use crate::{Came, Ends, Engine, InTurn, Over, are_run, number_ends, run_own};
+use fl_core::{Came, Ends, Engine, InTurn, Over, are_run, number_ends, run_own};
 use fl_graph::{From, Graph, Node, NodeKind, Seq, StatusRule, To, validate};
 use ps_fakes::{MemSink, MemSource, OpenGate};
 use ps_world::{Mode, Path};

@@ -2,8 +2,8 @@
 //!
 //! A graph is written as its nodes, parted by bars, each as its kind, its ins and its outs; a node's edges are digits, and a hyphen
 //! is none.
-use crate::laws::each_number_is_an_edge;
-use crate::{From, Graph, Node, NodeKind, Seq, StatusRule, To, validate};
+use fl_graph::laws::each_number_is_an_edge;
+use fl_graph::{From, Graph, Node, NodeKind, Seq, StatusRule, To, validate};
 use ps_lines::{Memory, Text};
 use ps_world::{Mode, Path};
 use std::alloc::{AllocError, Global};
@@ -195,6 +195,7 @@ fn valid_graphs_are_valid(rt: HostRuntime) -> Result<(), Fail> {
         ("text - 0|drain 0 -", "-"),
         ("read=/f - 0|whole=grep,-F,w 0 1|output 1 -", "1"),
         ("input - 0|whole=wc,-l 0 1|output 1 -", "-"),
+        ("input - 0|whole=wc,-w 0 1|output 1 -", "-"),
         ("whole=cat, - 0|output 0 -", "-"),
         ("input - 0|split 0 1|drain 1 -", "-"),
         ("input - 1|output 1 -|text - 0|drain 0 -", "-"),
@@ -210,6 +211,10 @@ fn valid_graphs_are_valid(rt: HostRuntime) -> Result<(), Fail> {
         ),
         (
             "input - 0|split 0 123|map=wc,-l 1 4|map=wc,-l 2 5|agg=wc,-l 45 6|map=wc,-l 3 7|agg=wc,-l 67 8|output 8 -",
+            "-",
+        ),
+        (
+            "input - 0|split 0 12|map=wc,-w 1 3|map=wc,-w 2 4|agg=wc,-w 34 5|output 5 -",
             "-",
         ),
         ("input - 0|tee=/f 0 1|tee=/g 1 2|output 2 -", "-"),
@@ -308,12 +313,12 @@ fn invocations_read_one_input_and_have_their_class(rt: HostRuntime) -> Result<()
 #[test]
 fn invocations_are_built(rt: HostRuntime) -> Result<(), Fail> {
     let cases = [
-        ("input - 0|whole=wc,-w 0 1|output 1 -", "-"),
+        ("input - 0|whole=tr,-s,a 0 1|output 1 -", "-"),
         ("input - 0|whole=grep,w 0 1|output 1 -", "-"),
         ("input - 0|map=tail 0 1|output 1 -", "-"),
         ("text - 0|drain 0 -|whole=echo - 1|output 1 -", "-"),
         (
-            "input - 0|split 0 12|map=wc,-w 1 3|map=wc,-w 2 4|agg=wc,-w 34 5|output 5 -",
+            "input - 0|split 0 12|map=grep,-c,w 1 3|map=grep,-c,w 2 4|agg=grep,-c,w 34 5|output 5 -",
             "-",
         ),
     ];

@@ -1,10 +1,8 @@
 //! A machine for tests, which hands the text of its one in on to its one out.
 ghost use Rattle.std.specs.Prelude.{◌≡◌, true, false, is_some};
 
-use crate::laws::{a_run_begins, a_stop_ends_a_run};
-use crate::machines::Machine;
-use crate::pieces::{Act, Bytes, Piece};
-use crate::runs::{break_machine, put_piece, take_piece};
+use fl_graph::laws::{a_run_begins, a_stop_ends_a_run};
+use fl_graph::{Act, Bytes, Machine, Piece, break_machine, put_piece, take_piece};
 use ps_lines::Memory;
 use std::alloc::Global;
 use std::test::Fail;

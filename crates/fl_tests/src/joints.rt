@@ -6,8 +6,8 @@
 ghost use Rattle.std.specs.Prelude.{◌≡◌, true, IfOk, IfSome};
 ghost use Rattle.ut_args.specs.Built.{is_built_of};
 
-use crate::{Joint, joint};
 use fl_graph::{Act, Bytes, MAX_PIECE, Machine, NodeKind, Piece};
+use fl_joints::{Joint, joint};
 use ps_lines::{Memory, Text};
 use std::alloc::Global;
 use std::test::Fail;
@@ -262,11 +262,7 @@ fn counts_are_summed(rt: HostRuntime) -> Result<(), Fail> {
             ("18446744073709551614\n", "1\n", "0\n"),
             "18446744073709551615\n.#",
         ),
-        (
-            "wc -l",
-            ("x\n", "7\n", "000000000000000000001\n"),
-            "7\n.#",
-        ),
+        ("wc -l", ("x\n", "7\n", "000000000000000000001\n"), "7\n.#"),
         ("wc -l", ("00000000000000000001\n", "7\n", ""), "8\n.#"),
         ("wc f", ("1 2 4\n", "0 1 1\n", "1 1 2\n"), "2 4 7\n.#"),
         ("wc -wc", ("2 4\n", "1 1\n", "0 0\n"), "3 5\n.#"),

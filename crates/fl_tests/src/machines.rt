@@ -1,7 +1,7 @@
 //! Machines of nodes, from their first piece to their end.
 
-use crate::{UtilMachine, is_utility_node, util_machine};
 use fl_graph::{Act, Bytes, Machine, NodeKind, Piece};
+use fl_machines::{UtilMachine, is_utility_node, util_machine};
 use ps_lines::Memory;
 use std::alloc::Global;
 use std::process::Abort;

@@ -4,7 +4,7 @@ ghost use Rattle.fl_graph.specs.Valid.{Valid};
 ghost use Rattle.fl_core.specs.Inputs.{CanStep};
 ghost use Rattle.fl_classes.specs.Kinds.{are_run as are_run_lem};
 
-use crate::{Net, NodeMachine, are_run, net_of};
+use fl_core::{Net, NodeMachine, are_run, net_of};
 use fl_graph::{From, Graph, Machine, Node, NodeKind, Piece, Seq, StatusRule, To, validate};
 use ps_lines::Memory;
 use std::alloc::{AllocError, Global};

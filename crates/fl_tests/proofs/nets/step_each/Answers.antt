@@ -4,7 +4,7 @@ use Rattle.fl_core.specs.Steps.{has_moved}
 use Rattle.fl_core.specs.declared.nets.Ports.{Ports}
 use Rattle.fl_core.proofs.GraphNetLemmas.{state_of}
 use Rattle.fl_core.proofs.NetLemmas.{goes_plain, goes_fits}
-use Rattle.fl_core.proofs.net_tests.step_each.Goals as goal
+use Rattle.fl_tests.proofs.nets.step_each.Goals as goal
 
 pub step-requires-clause-plain : goal.step-requires-clause-plain
 step-requires-clause-plain c =

@@ -1,0 +1,19 @@
+//! The rows of dataflow: graphs, the machines of their nodes, and runs over ends, over lists of ends and on an engine.
+#![tactic(auto)]
+
+#[cfg(test)]
+mod commands;
+#[cfg(test)]
+mod end_lists;
+#[cfg(test)]
+mod engines;
+#[cfg(test)]
+mod graph;
+#[cfg(test)]
+mod hand_on;
+#[cfg(test)]
+mod joints;
+#[cfg(test)]
+mod machines;
+#[cfg(test)]
+mod nets;

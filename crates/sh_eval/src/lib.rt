@@ -35,8 +35,6 @@ mod skipping;
 mod stops;
 mod streams;
 mod targets;
-#[cfg(test)]
-mod tests;
 mod top;
 mod utilities;
 mod writing;

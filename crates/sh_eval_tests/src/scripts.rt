@@ -1,8 +1,8 @@
 //! Small scripts over objects in memory: what each writes and tells, and the status that it leaves.
-use super::*;
 use fl_core::InTurn;
 use ps_fakes::{MemSink, MemSource, MemTree, OpenGate};
 use ps_lines::Memory;
+use sh_eval::{Flow, How, Played, Refusal, Shell, run_script};
 use sh_lex::lex;
 use sh_parse::parse;
 use sh_tree::Script;
@@ -34,10 +34,21 @@ fn script_of(alloc: Global, text: &[u8]) -> Result<Option<Script>, Memory> {
     Ok(Some(script))
 }
 
-/// Runs a script over an input, in a tree where `g` is a file, `d` a directory, and `f` missing.
+/// Runs a script in the shell `s` without arguments, over an input.
 fn run<H: Threads + Wait + Sync>(
+    rt: &H,
+    alloc: Global,
+    text: &str,
+    input: &str,
+) -> Result<Option<Ran>, Memory> {
+    run_in(rt, alloc, Shell::new(alloc, b"s", &[])?, text, input)
+}
+
+/// Runs a script in a shell, over an input, in a tree where `g` is a file, `d` a directory, and `f` missing.
+fn run_in<H: Threads + Wait + Sync>(
     _rt: &H,
     alloc: Global,
+    mut shell: Shell,
     text: &str,
     input: &str,
 ) -> Result<Option<Ran>, Memory> {
@@ -53,7 +64,6 @@ fn run<H: Threads + Wait + Sync>(
     else {
         return Ok(None);
     };
-    let mut shell = Shell::new(alloc, b"s", &[])?;
     let mut errors = MemSink::new(alloc, Vec::new(alloc));
     let input = Vec::from_slice(alloc, input.as_bytes())?;
     let Played { how, input: _, out } = run_script(
@@ -73,7 +83,7 @@ fn run<H: Threads + Wait + Sync>(
     };
     Ok(Some(Ran {
         how,
-        status: shell.status,
+        status: shell.status(),
         output: Vec::from_slice(alloc, out.taken())?,
         errors: Vec::from_slice(alloc, errors.taken())?,
         file,
@@ -112,10 +122,10 @@ fn a_shell_begins(rt: HostRuntime) -> Result<(), Fail> {
     let alloc = rt.alloc();
     let args = [Vec::from_slice(alloc, b"a b")?];
     let shell = Shell::new(alloc, b"script", &args)?;
-    assert_eq!(rt; shell.zero.as_slice(), b"script".as_slice());
-    assert_eq!(rt; shell.arguments.as_slice().len(), 1);
-    assert_eq!(rt; shell.status, 0);
-    assert!(rt; shell.variables.get(b"IFS").is_none());
+    assert_eq!(rt; shell.status(), 0);
+    let text = r#"echo "$0" "$#" "$1" "${IFS-none}""#;
+    let ran = run_in(&rt, alloc, shell, text, "")?.expect(&rt, text);
+    assert_eq!(rt; ran.output.as_slice(), b"script 1 a b none\n".as_slice());
     Ok(())
 }
 

@@ -1,0 +1,5 @@
+//! The rows of evaluation: small scripts over objects in memory.
+#![tactic(auto)]
+
+#[cfg(test)]
+mod scripts;

@@ -5,7 +5,7 @@ use Rattle.std.proofs.lemmas.Bool.{cond-true, true≢false, and_parts, eqb-true,
 use Rattle.std.proofs.Math.Dec.{eqb-suc-zero}
 use Rattle.ps_lines.specs.Lines.{is_empty}
 use Rattle.ut_streams.proofs.StreamLemmas.{Wrote-put}
-use Rattle.ut_args.specs.Built.{is_built_of, is_built_grep, is_built_head, is_one_pattern, is_fixed_syntax, is_of_lines}
+use Rattle.ut_args.specs.Built.{is_built_of}
 use Rattle.ut_args.specs.Inputs.{counted, inputs_of, is_named, joined_inputs, separate_inputs}
 use Rattle.ut_args.specs.Utilities.{has_at_most_one}
 use Rattle.ut_args.specs.declared.commands.GrepArgs.{GrepArgs}
@@ -26,7 +26,8 @@ use Rattle.fl_classes.specs.Aggregates.{finish_of, map_of}
 use Rattle.fl_classes.specs.Utilities.{labelled, names_of, output_of, selects_of, utility_by}
 use Rattle.fl_classes.proofs.ClassLemmas.{by_built, head-whole}
 use Rattle.ut_args.specs.Invocations.{command_of}
-use Rattle.ut_grep.specs.Fixed.{pattern_of, selected_lines}
+use Rattle.ut_grep.specs.Grep.{label_in}
+use Rattle.ut_grep.specs.Patterns.{written}
 use Rattle.ut_sort.specs.Order.{sorted_text}
 use Rattle.ut_bytes.specs.Tr.{tr_output}
 use Rattle.ut_slices.specs.Cut.{cut_output}
@@ -56,16 +57,9 @@ separate-few (operand ∷ []) few = by_name (is_named operand)
     by_name false = omega arith
 separate-few (operand ∷ another ∷ others) few = absurd (true≢false (sym few))
 
-grep-few : (args : GrepArgs) → is_built_grep args ≡ true → separate_inputs args.operands ≤ 1
-grep-few args built =
-    let one = and_parts (is_one_pattern args.patterns) _ built in
-    let two = and_parts (is_fixed_syntax args.syntax) _ one.1 in
-    let three = and_parts (is_of_lines args.report) _ two.1 in
-    separate-few args.operands (and_parts _ (has_at_most_one args.operands) three.1).1
-
 built-few : (command : Inv) → is_built_of command ≡ true → inputs_of command ≤ 1
 built-few (inv.Cat cat) built = joined-few cat.args.operands
-built-few (inv.Grep grep) built = grep-few grep.args built
+built-few (inv.Grep grep) built = separate-few grep.args.operands built
 built-few (inv.Tr tr) built = omega arith
 built-few (inv.Cut cut) built = joined-few cut.args.operands
 built-few (inv.Head head) built = separate-few head.args.operands built
@@ -92,7 +86,7 @@ whole-is-map command text one = by_built command (λ utility. utility.part text 
     by_command : (command : Inv) → is_built_of command ≡ true → whole_is_map command ≡ true
         → (utility_by (command_of command)).part text ≡ (utility_by (command_of command)).output (labelled (names_of command) (text ∷ []))
     by_command (inv.Cat cat) built one = sym (append-nil text)
-    by_command (inv.Grep grep) built one = sym (append-nil (selected_lines (pattern_of grep.args.patterns) text))
+    by_command (inv.Grep grep) built one = sym (append-nil (written grep.args (label_in grep.args.operands) text))
     by_command (inv.Tr tr) built one = sym (append-nil (tr_output tr.args text))
     by_command (inv.Cut cut) built one = sym (append-nil (cut_output cut.args text))
     by_command (inv.Head head) built one = sym (head-whole head built text)

@@ -51,7 +51,7 @@ impl AnyStream {
         }
     }
 
-    /// The stream of the map of an invocation that is built.
+    /// The stream of the map of an invocation that is built. There is none of a `grep` whose patterns can't be read, and `Memory` is told.
     fn of_map(alloc: Global, inv: &Inv) -> Result<AnyStream, Memory>
         requires { is_built_of inv.now ≡ true }
         ensures due { IfOk result (λ stream. (text : List ℕ) → ⟦<AnyStream as Stream>⟧.due stream text ≡ map_of inv.now text) }
@@ -60,7 +60,7 @@ impl AnyStream {
     {
         match inv {
             Inv::Cat(_) => Ok(AnyStream::Copy(Copy::new())),
-            Inv::Grep(grep) => match Grep::new(alloc, grep, &[]) {
+            Inv::Grep(grep) => match Grep::of_one(alloc, grep) {
                 Ok(grep) => Ok(AnyStream::Grep(grep)),
                 Err(memory) => Err(memory),
             },

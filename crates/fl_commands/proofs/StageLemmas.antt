@@ -26,7 +26,7 @@ use Rattle.fl_classes.specs.Kinds.{are_run}
 use Rattle.fl_classes.specs.Sources.{source_texts}
 use Rattle.fl_classes.specs.Used.{is_cat, words_used, words_with}
 use Rattle.fl_classes.specs.Utilities.{labelled, names_of, output_of, selects_of, silent, utility_by, utility_of}
-use Rattle.fl_classes.proofs.OperandLemmas.{apart_from_finish, built-without, names-left, operands-without, utility-without}
+use Rattle.fl_classes.proofs.OperandLemmas.{apart_from_own, built-without, names-left, operands-without, utility-without}
 use Rattle.fl_segments.specs.Chains.{begins_with, chain_means, grep_status, is_quiet, joined_text, joined_texts, reports_nothing, stage_means, status_by, text_in, texts_by}
 use Rattle.fl_segments.specs.Stages.{closes_by, file_in, files_read, files_written, fits, gives_output, reads_input, is_stage, is_stream, is_tee, joins_by, read_of, times, words_at}
 use Rattle.fl_segments.specs.declared.stages.Does.TheVariants as does
@@ -304,10 +304,10 @@ module _ (inv' : Inv) (operands : List Operand) (stage : Stage) (one : IsStageOf
         (ap (λ asked. texts_by asked its-texts) one.asks ∙ texts-emptied (emptied (map lacks operands) (operands_of inv')) (command_of inv') its-texts)
         ∙ joined-read (command_of inv') (remaining (map lacks operands) (operands_of inv')) its-texts
 
-    utility-so : utility_of one.without ≡ apart_from_finish (utility_by (command_of inv')) (utility_of one.without).finish
+    utility-so : utility_of one.without ≡ apart_from_own (utility_by (command_of inv')) (utility_of one.without)
     utility-so =
         utility-without inv' one.without (map lacks operands) one.asks
-        ∙ ap (λ (is : Bool). apart_from_finish (if is then utility_by (command_of inv') else silent) (utility_of one.without).finish) built
+        ∙ ap (λ (is : Bool). apart_from_own (if is then utility_by (command_of inv') else silent) (utility_of one.without)) built
 
     output-so : output_of one.without (texts_by (command_of one.without) its-texts) ≡ output_for (command_of inv') its-inputs
     output-so = ap (λ (it : Utility). it.output (labelled (names_of one.without) (texts_by (command_of one.without) its-texts))) utility-so

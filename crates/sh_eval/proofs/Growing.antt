@@ -490,7 +490,7 @@ module _ (expansions : Expansions) where
     adds-where_few called next adds =
         adds-choice (λ state. nat_lt most_operands (length (operands_by called.command) + length (files_by called.command))) (refused refusal.ArgsTooMany) next (λ state. grows-self state) adds
 
-    adds-by_patterns : (name : List ℕ) (called : Called) (assigns : List (List ℕ × WordTree)) (targets : List Target) (patterns : Patterns) → Adds (by_patterns expansions pages name called assigns targets patterns)
+    pub adds-by_patterns : (name : List ℕ) (called : Called) (assigns : List (List ℕ × WordTree)) (targets : List Target) (patterns : Patterns) → Adds (by_patterns expansions pages name called assigns targets patterns)
     adds-by_patterns name called assigns targets read state =
         adds-where_few called (done expansions false assigns (uses_by_operands pages called) targets (runs_utility pages name called))
         (adds-done false assigns (uses_by_operands pages called) targets (runs_utility pages name called) (adds-runs_utility pages name called)) state

@@ -41,9 +41,9 @@ use Rattle.sh_eval.specs.Inner.Opening.{FindsUses, opened}
 use Rattle.sh_eval.specs.Redirections.{Use}
 use Rattle.sh_eval.specs.Targets.{Target}
 use Rattle.sh_eval.specs.Simple.{assigned_for, by_patterns, checked, done, most_operands, restored, undone}
-use Rattle.sh_eval.specs.Table.{pages}
-use Rattle.sh_eval.specs.Utilities.{deals, read, read_use, runs_utility, uses_by_operands, written_use}
-use Rattle.sh_eval.proofs.Growing.{grows-self, AddsAsked, does-adds, asked-adds, adds-misused, adds-assigned_for, adds-checked, adds-runs_utility, adds-with_targets}
+use Rattle.sh_eval.specs.Table.{pages, patterns_of}
+use Rattle.sh_eval.specs.Utilities.{Patterns, deals, read, read_use, refers_back, runs_utility, uses_by_operands, written_use, wrong}
+use Rattle.sh_eval.proofs.Growing.{grows-self, AddsAsked, does-adds, asked-adds, adds-misused, adds-assigned_for, adds-by_patterns, adds-checked, adds-runs_utility, adds-with_targets}
 use Rattle.sh_eval.proofs.Steps.{changed, meant-at}
 
 -- what goes on with fields
@@ -172,21 +172,54 @@ writes-none it is = (built-so (command_of it) is).0
 pub deals-not : (it : Inv) → is_built_of it ≡ true → deals (command_of it) ≡ false
 deals-not it is = (built-so (command_of it) is).1
 
-module _ (name : List ℕ) (it : Inv) (assigns : List (List ℕ × WordTree)) (targets : List Target) (other : is_own (does name (words_of it) (command_of it)) ≡ false) where
+module _ (name : List ℕ) (it : Inv) (assigns : List (List ℕ × WordTree)) (targets : List Target) where
   abbrev checks : Asked → Meaning
   checks asked expansions = checked expansions pages assigns targets asked
 
   abbrev the_utility : Asked
   the_utility = utility name (called_by it)
 
-  -- a utility that has no stream is refused
-  pub unbuilt : (shell : Shell) (session : Session) (tree : TreeState) (seen : Seen) (faults : Faults) → is_built_of it ≡ false
-      → Evaluates (checks (does name (words_of it) (command_of it))) (point_of shell session tree seen faults) (how.Gone (flow.Refused refusal.NotBuilt)) (point_of shell session tree seen faults)
-  unbuilt shell session tree seen faults is =
-      subst (λ (it : Asked). Evaluates (checks it) (point_of shell session tree seen faults) (how.Gone (flow.Refused refusal.NotBuilt)) (point_of shell session tree seen faults))
-      (sym (utility-so name (words_of it) (command_of it) other))
-      (refused-so refusal.NotBuilt (checks the_utility) shell session tree seen faults
-      (λ expansions state. sym (cond-false (is_built_of it) (by_patterns expansions pages name (called_by it) assigns targets read state) (refused refusal.NotBuilt state) is)))
+  -- by what was found of its patterns
+  abbrev pub found_so : Patterns → Meaning
+  found_so found expansions = by_patterns expansions pages name (called_by it) assigns targets found
+
+  module _ (other : is_own (does name (words_of it) (command_of it)) ≡ false) where
+    as-utility : (old new : Point) (came : How) → Evaluates (checks the_utility) old came new → Evaluates (checks (does name (words_of it) (command_of it))) old came new
+    as-utility old new came one = subst (λ (it : Asked). Evaluates (checks it) old came new) (sym (utility-so name (words_of it) (command_of it) other)) one
+
+    -- a utility that has no stream is refused
+    pub unbuilt : (shell : Shell) (session : Session) (tree : TreeState) (seen : Seen) (faults : Faults) → is_built_of it ≡ false
+        → Evaluates (checks (does name (words_of it) (command_of it))) (point_of shell session tree seen faults) (how.Gone (flow.Refused refusal.NotBuilt)) (point_of shell session tree seen faults)
+    unbuilt shell session tree seen faults is =
+        as-utility (point_of shell session tree seen faults) (point_of shell session tree seen faults) (how.Gone (flow.Refused refusal.NotBuilt))
+        (refused-so refusal.NotBuilt (checks the_utility) shell session tree seen faults
+        (λ expansions state. sym (cond-false (is_built_of it) (found_so (patterns_of (command_of it)) expansions state) (refused refusal.NotBuilt state) is)))
+
+    -- and of another the patterns are looked at
+    pub built-found : (old new : Point) (came : How) → is_built_of it ≡ true → Evaluates (found_so (patterns_of (command_of it))) old came new
+        → Evaluates (checks (does name (words_of it) (command_of it))) old came new
+    built-found old new came is one =
+        as-utility old new came
+        (meant-at (checks the_utility) (found_so (patterns_of (command_of it))) old new came
+        (λ expansions base state has. cond-true (is_built_of it) (found_so (patterns_of (command_of it)) expansions state) (refused refusal.NotBuilt state) is) one)
+
+  -- what was found of the patterns is what they are
+  pub found-so : (found found' : Patterns) (old new : Point) (came : How) → found ≡ found' → Evaluates (found_so found) old came new → Evaluates (found_so found') old came new
+  found-so found found' old new came is one = subst (λ (it : Patterns). Evaluates (found_so it) old came new) is one
+
+  -- a back-reference is refused
+  pub refers-so : (pattern : List ℕ) (shell : Shell) (session : Session) (tree : TreeState) (seen : Seen) (faults : Faults)
+      → Evaluates (found_so (refers_back pattern)) (point_of shell session tree seen faults) (how.Gone (flow.Refused (refusal.UnsupportedPattern pattern))) (point_of shell session tree seen faults)
+  refers-so pattern shell session tree seen faults =
+      refused-so (refusal.UnsupportedPattern pattern) (found_so (refers_back pattern)) shell session tree seen faults (λ expansions state. refl)
+
+  -- every other fault is bad usage
+  pub wrong-so : (old new : Point) (came : How) → Evaluates (done_so assigns targets (unusable false name)) old came new → Evaluates (found_so wrong) old came new
+  wrong-so old new came one = one
+
+  -- whatever was found, what stands already is no longer
+  pub found-adds : (found : Patterns) (expansions : Expansions) → Adds (found_so found expansions)
+  found-adds found expansions = adds-by_patterns expansions pages name (called_by it) assigns targets found
 
   abbrev by_count : Expansions → Means
   by_count expansions = done expansions false assigns (uses_by_operands pages (called_by it)) targets (runs_utility pages name (called_by it))
@@ -197,28 +230,23 @@ module _ (name : List ℕ) (it : Inv) (assigns : List (List ℕ × WordTree)) (t
       add-none : (number : ℕ) → number + 0 ≡ number
       add-none number = omega arith
 
-  built-means : (expansions : Expansions) (state : State) → is_built_of it ≡ true → checks the_utility expansions state
+  read-means : (expansions : Expansions) (state : State) → is_built_of it ≡ true → found_so read expansions state
       ≡ (if nat_lt most_operands (length (operands_of it)) then refused refusal.ArgsTooMany state else by_count expansions state)
-  built-means expansions state is =
-      cond-true (is_built_of it) (by_patterns expansions pages name (called_by it) assigns targets read state) (refused refusal.NotBuilt state) is
-      ∙ ap (λ (it : Bool). if it then refused refusal.ArgsTooMany state else by_count expansions state) (few-so (files_of it) (writes-none it is))
+  read-means expansions state is = ap (λ (it : Bool). if it then refused refusal.ArgsTooMany state else by_count expansions state) (few-so (files_of it) (writes-none it is))
 
-  -- one with too many operands too
+  -- one with too many operands is refused
   pub too-many : (shell : Shell) (session : Session) (tree : TreeState) (seen : Seen) (faults : Faults) → is_built_of it ≡ true → nat_lt most_operands (length (operands_of it)) ≡ true
-      → Evaluates (checks (does name (words_of it) (command_of it))) (point_of shell session tree seen faults) (how.Gone (flow.Refused refusal.ArgsTooMany)) (point_of shell session tree seen faults)
+      → Evaluates (found_so read) (point_of shell session tree seen faults) (how.Gone (flow.Refused refusal.ArgsTooMany)) (point_of shell session tree seen faults)
   too-many shell session tree seen faults is many =
-      subst (λ (it : Asked). Evaluates (checks it) (point_of shell session tree seen faults) (how.Gone (flow.Refused refusal.ArgsTooMany)) (point_of shell session tree seen faults))
-      (sym (utility-so name (words_of it) (command_of it) other))
-      (refused-so refusal.ArgsTooMany (checks the_utility) shell session tree seen faults
-      (λ expansions state. sym (built-means expansions state is ∙ cond-true (nat_lt most_operands (length (operands_of it))) (refused refusal.ArgsTooMany state) (by_count expansions state) many)))
+      refused-so refusal.ArgsTooMany (found_so read) shell session tree seen faults
+      (λ expansions state. sym (read-means expansions state is ∙ cond-true (nat_lt most_operands (length (operands_of it))) (refused refusal.ArgsTooMany state) (by_count expansions state) many))
 
   -- and any other is run
   pub utility-runs : (old new : Point) (came : How) → is_built_of it ≡ true → nat_lt most_operands (length (operands_of it)) ≡ false
-      → Evaluates (done_so assigns targets the_utility) old came new → Evaluates (checks (does name (words_of it) (command_of it))) old came new
+      → Evaluates (done_so assigns targets the_utility) old came new → Evaluates (found_so read) old came new
   utility-runs old new came is few one =
-      subst (λ (it : Asked). Evaluates (checks it) old came new) (sym (utility-so name (words_of it) (command_of it) other))
-      (meant-at (checks the_utility) (done_so assigns targets the_utility) old new came
-      (λ expansions base state has. built-means expansions state is ∙ cond-false (nat_lt most_operands (length (operands_of it))) (refused refusal.ArgsTooMany state) (by_count expansions state) few) one)
+      meant-at (found_so read) (done_so assigns targets the_utility) old new came
+      (λ expansions base state has. read-means expansions state is ∙ cond-false (nat_lt most_operands (length (operands_of it))) (refused refusal.ArgsTooMany state) (by_count expansions state) few) one
 
 -- the words of one of the shell's own commands don't count beside its options and operands
 same-own : (name : List ℕ) (words others : List (List ℕ)) (asked : Command) → is_own (does name words asked) ≡ true → does name words asked ≡ does name others asked
@@ -315,6 +343,7 @@ pub doing-adds : (it : Doing) → Adds (own_means (asked_of it))
 doing-adds doing.Nothing = own-adds no_name tt
 doing-adds (doing.Builtin name inv) = own-adds (asked_of (doing.Builtin name inv)) (does-adds name.now [] (command_of inv.now))
 doing-adds (doing.Misuse name) = own-adds (asked_of (doing.Misuse name)) tt
+doing-adds (doing.WrongPatterns name) = own-adds (asked_of (doing.WrongPatterns name)) tt
 doing-adds (doing.Utility name inv) = own-adds (asked_of (doing.Utility name inv)) tt
 
 pub done-adds : (assigns : List (List ℕ × WordTree)) (it : Doing) (expansions : Expansions) → Adds (assigned_for expansions (stays_of (asked_of it)) assigns (own_means (asked_of it)))
@@ -326,6 +355,7 @@ Runs doing.Nothing old came new = Evaluates (λ expansions. own_means no_name) o
 Runs (doing.Builtin name inv) old came new =
     (words : List (List ℕ)) (is_special : Bool) (means : Means) → does name.now words (command_of inv.now) ≡ builtin is_special means → Evaluates (λ expansions. means) old came new
 Runs (doing.Misuse name) old came new = Evaluates (λ expansions. misused (at_fault (is_special name.now)) name.now) old came new
+Runs (doing.WrongPatterns name) old came new = Evaluates (λ expansions. misused flow.On name.now) old came new
 Runs (doing.Utility name inv) old came new = Evaluates (λ expansions. runs_utility pages name.now (called_by inv.now)) old came new
 
 pub runs-own : (it : Doing) (old new : Point) (came : How) → can_be_done it ≡ true → Runs it old came new → Evaluates (λ expansions. own_means (asked_of it)) old came new
@@ -335,6 +365,7 @@ runs-own (doing.Builtin name inv) old new came own run = by_own (own-so (does na
     by_own : (is_special : Bool) × (means : Means) × (does name.now [] (command_of inv.now) ≡ builtin is_special means) → Evaluates (λ expansions. own_means (does name.now [] (command_of inv.now))) old came new
     by_own (is_special, means, is) = subst (λ (it : Asked). Evaluates (λ expansions. own_means it) old came new) (sym is) (run [] is_special means is)
 runs-own (doing.Misuse name) old new came own run = run
+runs-own (doing.WrongPatterns name) old new came own run = run
 runs-own (doing.Utility name inv) old new came own run = run
 
 pub misuse-runs : (way : Flow) (name : List ℕ) (old new : Point) (came : How) → way ≡ at_fault (is_special name) → Evaluates (λ expansions. misused way name) old came new

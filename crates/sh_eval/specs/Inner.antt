@@ -2,6 +2,7 @@
 pub mod Bodies
 pub mod Loops
 pub mod Doing
+pub mod Checks
 pub mod Faults
 pub mod Opening
 pub mod Inputs

@@ -24,6 +24,7 @@ mod lists;
 mod newlines;
 mod opening;
 mod outcomes;
+mod patterns;
 mod reading;
 mod redirections;
 mod refusals;

@@ -13,9 +13,9 @@ ghost use Rattle.sh_eval.specs.Inner.Bodies.{assign_tree};
 ghost use Rattle.sh_eval.specs.Inner.Doing.{asked_of, can_be_done, is_own, own_means, stays_of, uses_own, way_of as way_of_lem};
 ghost use Rattle.sh_eval.specs.Inner.Inputs.{called_by};
 ghost use Rattle.sh_eval.specs.Inner.Opening.{FindsUses, LooksInVain, opened};
-ghost use Rattle.sh_eval.specs.Simple.{assigned_for, checked, runs_simple};
-ghost use Rattle.sh_eval.specs.Table.{pages};
-ghost use Rattle.sh_eval.specs.Utilities.{uses_by_operands};
+ghost use Rattle.sh_eval.specs.Simple.{assigned_for, by_patterns, checked, runs_simple};
+ghost use Rattle.sh_eval.specs.Table.{pages, patterns_of};
+ghost use Rattle.sh_eval.specs.Utilities.{read, uses_by_operands};
 
 use crate::builtins::{misuse, run_builtin};
 use crate::busy::{Use, add_operands};
@@ -23,6 +23,7 @@ use crate::expanding::{assign_all, expand_targets, expand_words, restore};
 use crate::flows::Flow;
 use crate::opening::{close, open};
 use crate::outcomes::{How, Played, how_of};
+use crate::patterns::{Checked, check_patterns};
 use crate::refusals::Refusal;
 use crate::session::Session;
 use crate::shell::Shell;
@@ -47,6 +48,8 @@ pub(crate) enum Doing<'name, 'inv> {
     Builtin(&'name [u8], &'inv Inv),
     /// The command of this name tells that its words can't be used.
     Misuse(&'name [u8]),
+    /// The utility of this name tells that its patterns can't be read.
+    WrongPatterns(&'name [u8]),
     /// A utility, by its name.
     Utility(&'name [u8], &'inv Inv),
 }
@@ -103,7 +106,7 @@ fn stays(doing: Doing<'_, '_>) -> bool
                 | Inv::Unset(_)
         ),
         Doing::Misuse(name) => is_special_name(name),
-        Doing::Utility(_, _) => false,
+        Doing::WrongPatterns(_) | Doing::Utility(_, _) => false,
     }
 }
 
@@ -123,7 +126,7 @@ fn way_of(doing: Doing<'_, '_>) -> Flow
     ensures { result ≡ way_of_lem (asked_of doing.entry) }
 {
     match doing {
-        Doing::Nothing | Doing::Utility(_, _) => Flow::On,
+        Doing::Nothing | Doing::WrongPatterns(_) | Doing::Utility(_, _) => Flow::On,
         Doing::Builtin(_, _) | Doing::Misuse(_) => {
             if stays(doing) { Flow::Exit } else { Flow::On }
         }
@@ -270,7 +273,7 @@ fn run_named<T: Tree, I: Source + Send, O: Sink + Send, E: Sink, G: Gate, X: Eng
     }
 }
 
-/// Runs an invocation in its redirections and behind its assignments, where it is built and hasn't too many operands.
+/// Runs an invocation in its redirections and behind its assignments, where it is built.
 fn run_inv<T: Tree, I: Source + Send, O: Sink + Send, E: Sink, G: Gate, X: Engine>(
     alloc: Global,
     assigns: &[(Text, Word)],
@@ -317,6 +320,97 @@ fn run_inv<T: Tree, I: Source + Send, O: Sink + Send, E: Sink, G: Gate, X: Engin
             out,
         };
     }
+    run_built(
+        alloc, assigns, targets, name, inv, shell, session, tree, input, out, err, gate, engine,
+    )
+}
+
+/// Runs a utility in its redirections and behind its assignments, where its patterns can be read.
+fn run_built<T: Tree, I: Source + Send, O: Sink + Send, E: Sink, G: Gate, X: Engine>(
+    alloc: Global,
+    assigns: &[(Text, Word)],
+    targets: &[Target],
+    name: &[u8],
+    inv: &Inv,
+    shell: &mut Shell,
+    session: &mut Session,
+    tree: &mut T,
+    input: I,
+    out: O,
+    err: &mut E,
+    gate: &G,
+    engine: &mut X,
+) -> Played<I, O>
+    requires built { is_built_of inv.now ≡ true }
+    requires sound { IsSound session.old (T.state tree.old) }
+    ensures { Evaluates (λ expansions. by_patterns expansions pages name.now (called_by inv.now) (map assign_tree assigns.now) targets.now (patterns_of (command_of inv.now)))
+        (point_of shell.old session.old (T.state tree.old) (seen_of (drawn_of (I.left input) (X.used engine.old)) (O.taken out) (E.taken err.old))
+        (faults_of (I.faults input) (O.faults out) (E.faults err.old) (T.faults tree.old)))
+        result.how
+        (point_of shell.new session.new (T.state tree.new) (seen_of (drawn_of (I.left result.input) (X.used engine.new)) (O.taken result.out) (E.taken err.new))
+        (faults_of (I.faults result.input) (O.faults result.out) (E.faults err.new) (T.faults tree.new))) }
+{
+    let checked = match check_patterns(alloc, inv) {
+        Ok(checked) => checked,
+        Err(_) => {
+            return Played {
+                how: How::Memory,
+                input,
+                out,
+            };
+        }
+    };
+    match checked {
+        Checked::Read => run_read(
+            alloc, assigns, targets, name, inv, shell, session, tree, input, out, err, gate, engine,
+        ),
+        Checked::Wrong => run_in_redirections(
+            alloc,
+            assigns,
+            targets,
+            Doing::WrongPatterns(name),
+            shell,
+            session,
+            tree,
+            input,
+            out,
+            err,
+            gate,
+            engine,
+        ),
+        Checked::RefersBack(pattern) => Played {
+            how: How::Gone(Flow::Refused(Refusal::UnsupportedPattern(pattern))),
+            input,
+            out,
+        },
+    }
+}
+
+/// Runs a utility in its redirections and behind its assignments, where it hasn't too many operands.
+fn run_read<T: Tree, I: Source + Send, O: Sink + Send, E: Sink, G: Gate, X: Engine>(
+    alloc: Global,
+    assigns: &[(Text, Word)],
+    targets: &[Target],
+    name: &[u8],
+    inv: &Inv,
+    shell: &mut Shell,
+    session: &mut Session,
+    tree: &mut T,
+    input: I,
+    out: O,
+    err: &mut E,
+    gate: &G,
+    engine: &mut X,
+) -> Played<I, O>
+    requires built { is_built_of inv.now ≡ true }
+    requires sound { IsSound session.old (T.state tree.old) }
+    ensures { Evaluates (λ expansions. by_patterns expansions pages name.now (called_by inv.now) (map assign_tree assigns.now) targets.now read)
+        (point_of shell.old session.old (T.state tree.old) (seen_of (drawn_of (I.left input) (X.used engine.old)) (O.taken out) (E.taken err.old))
+        (faults_of (I.faults input) (O.faults out) (E.faults err.old) (T.faults tree.old)))
+        result.how
+        (point_of shell.new session.new (T.state tree.new) (seen_of (drawn_of (I.left result.input) (X.used engine.new)) (O.taken result.out) (E.taken err.new))
+        (faults_of (I.faults result.input) (O.faults result.out) (E.faults err.new) (T.faults tree.new))) }
+{
     if MAX_OPERANDS < inv.operands().len() {
         return Played {
             how: How::Gone(Flow::Refused(Refusal::ArgsTooMany)),
@@ -450,7 +544,9 @@ fn uses_of<T: Tree>(alloc: Global, doing: Doing<'_, '_>, tree: &mut T) -> Result
     ensures err { IfErr result (λ how. LooksInVain how (T.state tree.old) (T.state tree.new) (T.faults tree.old) (T.faults tree.new)) }
 {
     match doing {
-        Doing::Nothing | Doing::Builtin(_, _) | Doing::Misuse(_) => Ok(Vec::new(alloc)),
+        Doing::Nothing | Doing::Builtin(_, _) | Doing::Misuse(_) | Doing::WrongPatterns(_) => {
+            Ok(Vec::new(alloc))
+        }
         Doing::Utility(_, inv) => uses_of_operands(alloc, inv, tree),
     }
 }
@@ -566,6 +662,10 @@ fn run_assigned<T: Tree, I: Source + Send, O: Sink + Send, E: Sink, G: Gate, X: 
         Doing::Misuse(name) => {
             let flow = flow_at_fault(name);
             let how = misuse(alloc, name, flow, shell, session, tree, &mut out, err);
+            Played { how, input, out }
+        }
+        Doing::WrongPatterns(name) => {
+            let how = misuse(alloc, name, Flow::On, shell, session, tree, &mut out, err);
             Played { how, input, out }
         }
         Doing::Utility(name, inv) => run_utility(

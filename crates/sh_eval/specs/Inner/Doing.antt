@@ -71,6 +71,7 @@ abbrev pub asked_of : Doing → Asked
 asked_of doing.Nothing = no_name
 asked_of (doing.Builtin name inv) = does name.now [] (command_of inv.now)
 asked_of (doing.Misuse name) = unusable (is_special name.now) name.now
+asked_of (doing.WrongPatterns name) = unusable false name.now
 asked_of (doing.Utility name inv) = utility name.now (called_by inv.now)
 
 -- where it is said to be one of them, it is
@@ -78,4 +79,5 @@ abbrev pub can_be_done : Doing → Bool
 can_be_done doing.Nothing = true
 can_be_done (doing.Builtin name inv) = is_own (does name.now [] (command_of inv.now))
 can_be_done (doing.Misuse name) = true
+can_be_done (doing.WrongPatterns name) = true
 can_be_done (doing.Utility name inv) = can_run inv.now

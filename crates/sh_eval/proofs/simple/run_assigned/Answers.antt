@@ -22,6 +22,11 @@ returns-in-Misuse g c =
     c.in-Ok.ensures.ok _ _ (λ expansions given. own_means (asked_of c.args.doing)) _ _
     (runs-own c.args.doing _ _ _ c.requires.own (rw c.in-Misuse.is (misuse-runs _ _ _ _ _ c.flow_at_fault-flow.ensures (c.misuse-how.ensures _ _))))
 
+pub returns-in-WrongPatterns : goal.returns-in-WrongPatterns
+returns-in-WrongPatterns g c =
+    c.in-Ok.ensures.ok _ _ (λ expansions given. own_means (asked_of c.args.doing)) _ _
+    (runs-own c.args.doing _ _ _ c.requires.own (rw c.in-WrongPatterns.is (c.misuse-how-in-WrongPatterns.ensures _ _)))
+
 pub returns-in-Utility : goal.returns-in-Utility
 returns-in-Utility g c =
     c.in-Ok.ensures.ok _ _ (λ expansions given. own_means (asked_of c.args.doing)) _ _ (runs-own c.args.doing _ _ _ c.requires.own (rw c.in-Utility.is c.run_utility.ensures))

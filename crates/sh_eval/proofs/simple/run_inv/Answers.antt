@@ -1,6 +1,6 @@
 use Rattle.std.proofs.Common.{◌∙◌, [], map, sym}
 use Rattle.sh_eval.specs.Inner.Bodies.{assign_tree}
-use Rattle.sh_eval.proofs.SimpleSteps.{few-counted, few-enough, many-so, own-named, too-many, unbuilt, utility-runs}
+use Rattle.sh_eval.proofs.SimpleSteps.{built-found, own-named, unbuilt}
 use Rattle.sh_eval.proofs.simple.run_inv.Goals as goal
 
 pub returns-then-is_builtin : goal.returns-then-is_builtin
@@ -10,12 +10,7 @@ pub returns-then-not-is_built : goal.returns-then-not-is_built
 returns-then-not-is_built g c =
     unbuilt _ c.args.inv.now (map assign_tree c.args.assigns.now) c.args.targets.now (sym (c.is_builtin.ensures _ _) ∙ c.if-is_builtin.false) _ _ _ _ _ (sym c.is_built.ensures ∙ c.if-not-is_built.true)
 
-pub returns-then-operands-gt-MAX_OPERANDS : goal.returns-then-operands-gt-MAX_OPERANDS
-returns-then-operands-gt-MAX_OPERANDS g c =
-    too-many _ c.args.inv.now (map assign_tree c.args.assigns.now) c.args.targets.now (sym (c.is_builtin.ensures _ _) ∙ c.if-is_builtin.false) _ _ _ _ _ (sym c.is_built.ensures ∙ c.if-not-is_built.false)
-    (many-so c.args.inv.now _ c.operands.ensures c.if-operands-gt-MAX_OPERANDS.true)
-
 pub returns : goal.returns
 returns g c =
-    utility-runs _ c.args.inv.now (map assign_tree c.args.assigns.now) c.args.targets.now (sym (c.is_builtin.ensures _ _) ∙ c.if-is_builtin.false) _ _ _ (sym c.is_built.ensures ∙ c.if-not-is_built.false)
-    (few-counted c.args.inv.now (few-enough c.args.inv.now _ c.operands.ensures c.if-operands-gt-MAX_OPERANDS.false)) c.run_in_redirections-2.ensures
+    built-found _ c.args.inv.now (map assign_tree c.args.assigns.now) c.args.targets.now (sym (c.is_builtin.ensures _ _) ∙ c.if-is_builtin.false) _ _ _ (sym c.is_built.ensures ∙ c.if-not-is_built.false)
+    c.run_built.ensures

@@ -196,6 +196,9 @@ fn valid_graphs_are_valid(rt: HostRuntime) -> Result<(), Fail> {
         ("read=/f - 0|whole=grep,-F,w 0 1|output 1 -", "1"),
         ("input - 0|whole=wc,-l 0 1|output 1 -", "-"),
         ("input - 0|whole=wc,-w 0 1|output 1 -", "-"),
+        ("input - 0|whole=tr,-s,a 0 1|output 1 -", "-"),
+        ("input - 0|whole=grep,-n,w 0 1|output 1 -", "1"),
+        ("input - 0|map=tail 0 1|output 1 -", "-"),
         ("whole=cat, - 0|output 0 -", "-"),
         ("input - 0|split 0 1|drain 1 -", "-"),
         ("input - 1|output 1 -|text - 0|drain 0 -", "-"),
@@ -313,14 +316,10 @@ fn invocations_read_one_input_and_have_their_class(rt: HostRuntime) -> Result<()
 #[test]
 fn invocations_are_built(rt: HostRuntime) -> Result<(), Fail> {
     let cases = [
-        ("input - 0|whole=tr,-s,a 0 1|output 1 -", "-"),
-        ("input - 0|whole=grep,w 0 1|output 1 -", "-"),
-        ("input - 0|map=tail 0 1|output 1 -", "-"),
+        ("input - 0|whole=paste,- 0 1|output 1 -", "-"),
+        ("input - 0|whole=tee 0 1|output 1 -", "-"),
+        ("input - 0|text - 1|whole=wc,a,b 01 2|output 2 -", "-"),
         ("text - 0|drain 0 -|whole=echo - 1|output 1 -", "-"),
-        (
-            "input - 0|split 0 12|map=grep,-c,w 1 3|map=grep,-c,w 2 4|agg=grep,-c,w 34 5|output 5 -",
-            "-",
-        ),
     ];
     expect_all(&rt, rt.alloc(), &cases, false)
 }

@@ -11,7 +11,7 @@ use std::rt::Clock;
 use std::time::Instant;
 use ut_args::{ArgFault, Inv, is_built, read_inv};
 use ut_bytes::Tr;
-use ut_grep::{AnyGrep, Grep, check};
+use ut_grep::{Grep, check};
 use ut_groups::{Uniq, Wc};
 use ut_regex::{Matcher, Regex, compile, read_bre, read_ere};
 use ut_slices::{Cut, Head, Tail};
@@ -153,7 +153,7 @@ fn time_inv<R: Read>(
 ) -> io::Result<Timed> {
     match inv {
         Inv::Grep(inv) => match check(rt.alloc(), inv) {
-            Ok(()) => time_made(rt, reader, AnyGrep::new(rt.alloc(), inv, b"")),
+            Ok(()) => time_made(rt, reader, Grep::new(rt.alloc(), inv, b"")),
             Err(_) => Err(io::Error::from(ErrorKind::InvalidInput)),
         },
         Inv::Tr(inv) => time_made(rt, reader, Tr::new(rt.alloc(), inv)),

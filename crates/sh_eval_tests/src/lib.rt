@@ -2,4 +2,6 @@
 #![tactic(auto)]
 
 #[cfg(test)]
+mod greps;
+#[cfg(test)]
 mod scripts;

@@ -14,8 +14,8 @@ use std::thread::Threads;
 
 /// What came of a script.
 #[derive(Drop)]
-struct Ran {
-    how: How,
+pub(crate) struct Ran {
+    pub(crate) how: How,
     status: u8,
     output: Vec<u8>,
     errors: Vec<u8>,
@@ -35,7 +35,7 @@ fn script_of(alloc: Global, text: &[u8]) -> Result<Option<Script>, Memory> {
 }
 
 /// Runs a script in the shell `s` without arguments, over an input.
-fn run<H: Threads + Wait + Sync>(
+pub(crate) fn run<H: Threads + Wait + Sync>(
     rt: &H,
     alloc: Global,
     text: &str,
@@ -98,7 +98,7 @@ fn is_as(ran: &Ran, output: &str, errors: &str, status: u8) -> bool {
 }
 
 /// A script over an input writes and tells this, and leaves this status.
-fn expect<H: Abort + Threads + Wait + Sync>(
+pub(crate) fn expect<H: Abort + Threads + Wait + Sync>(
     rt: &H,
     alloc: Global,
     text: &str,
@@ -427,7 +427,7 @@ fn busy_paths_are_refused(rt: HostRuntime) -> Result<(), Fail> {
 fn what_is_refused_ends_the_run(rt: HostRuntime) -> Result<(), Fail> {
     let texts = [
         "echo a; sleep 1; echo b",
-        "echo a; (head g); echo b",
+        "echo a; (paste g g); echo b",
         "echo a; x=$(tr -Q a); echo b",
         "echo a; i=0; x=; while test $i -lt 257; do x=\"$x g\"; i=$((i+1)); done; cat $x",
     ];

@@ -5,7 +5,7 @@ use ps_lines::Memory;
 use std::alloc::Global;
 use std::test::Fail;
 use ut_args::{GrepInv, Inv};
-use ut_grep::{AnyGrep, check};
+use ut_grep::{Grep, check};
 use ut_regex::ReFault;
 use ut_streams::{Stream, cut_behind, feed_all};
 
@@ -114,7 +114,7 @@ fn run_over(
     if check(alloc, inv).is_err() {
         return Ok(None);
     }
-    let mut grep = AnyGrep::new(alloc, inv, label.as_bytes())?;
+    let mut grep = Grep::new(alloc, inv, label.as_bytes())?;
     let pieces = cut_behind(alloc, text.as_bytes(), cuts)?;
     feed_all(&mut grep, pieces.as_slice(), out)?;
     Ok(Some(grep.has_selected()))

@@ -159,6 +159,16 @@ fn commands_are_refused_in_the_middle(rt: HostRuntime) -> Result<(), Fail> {
             Refusal::UnsupportedFlag(sort, b'c'),
         ),
     )?;
+    let pattern = Text::copy_of(rt.alloc(), b"\\(a\\)\\1")?;
+    tells_behind(
+        &rt,
+        b"echo aa | grep '\\(a\\)\\1'",
+        &refused(
+            b"",
+            b"pash: refused: UnsupportedPattern \\(a\\)\\1\n",
+            Refusal::UnsupportedPattern(pattern),
+        ),
+    )?;
     tells_behind(
         &rt,
         b"echo a; cat f | tee g; echo b",

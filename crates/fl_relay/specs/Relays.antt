@@ -1,0 +1,27 @@
+-- The two halves of a relay, as their callers see them (own): which relay they belong to, what was given and what was taken.
+use Rattle.std.specs.Prelude.{List}
+use Rattle.atomic_table.specs.Seated.{TableId}
+use Rattle.atomic_table.specs.declared.badge.Badge.{Badge}
+use Rattle.crossbeam_channel.specs.Claims.{view}
+use Rattle.crossbeam_channel.specs.declared.flavors.array.Key.{Key}
+use Rattle.fl_graph.specs.declared.pieces.Piece.{Piece}
+use Rattle.fl_relay.specs.declared.halves.Giver.{Giver}
+use Rattle.fl_relay.specs.declared.halves.Taker.{Taker}
+
+-- what names a relay
+abbrev pub Id : Type 0
+Id = TableId × Badge (Key Piece)
+
+-- the relay into which a giver puts, and the one from which a taker takes
+abbrev pub gives_on : Giver → Id
+gives_on giver = (giver.pass.table_id, giver.pass.me.0.of)
+
+abbrev pub takes_on : Taker → Id
+takes_on taker = (taker.pass.table_id, taker.pass.me.0.of)
+
+-- what a giver has put so far, in order, and what a taker has taken
+abbrev pub given : Giver → List Piece
+given giver = (view giver.pass).given
+
+abbrev pub taken : Taker → List Piece
+taken taker = (view taker.pass).taken

@@ -1,0 +1,205 @@
+//! A relay between two threads.
+ghost use Rattle.std.specs.Prelude.{◌≡◌, ◌<◌, [], true, false, IfOk};
+ghost use Rattle.fl_graph.specs.Machines.{closes};
+ghost use Rattle.fl_graph.specs.Runs.{are_closed};
+ghost use Rattle.fl_relay.specs.Relays.{gives_on, takes_on, given, taken};
+
+use crate::laws::settle;
+use crate::{Giver, Taker, bounded};
+use fl_graph::{Bytes, Piece};
+use ps_lines::Memory;
+use std::alloc::Global;
+use std::sync::Wait;
+use std::test::Fail;
+use std::thread;
+use std::thread::Threads;
+use std::time::{Clock, CpuClock, Duration};
+
+/// How many pieces go through a relay, besides its end.
+const PIECES: u32 = 10_000;
+
+/// A piece with the bytes of its number.
+fn numbered(alloc: Global, number: u32) -> Result<Piece, Memory>
+    ensures { IfOk result (λ piece. closes piece ≡ false) }
+{
+    let bytes = Vec::from_slice(alloc, number.to_be_bytes().as_slice())?;
+    Ok(Piece::Bytes(Bytes::new(bytes)))
+}
+
+/// Puts the pieces of all numbers, and the end behind them; or Broken, where memory is refused.
+fn put_all<R: Wait>(rt: &R, alloc: Global, mut giver: Giver) -> Giver
+    requires { given giver ≡ [] }
+    ensures { gives_on result ≡ gives_on giver }
+{
+    for number in 0..PIECES {
+        let Ok(piece) = numbered(alloc, number) else {
+            giver.put(rt, Piece::Broken);
+            return giver;
+        };
+        giver.put(rt, piece);
+    }
+    giver.put(rt, Piece::End);
+    giver
+}
+
+/// Takes all pieces up to the end, and counts those that come in their numbers' order.
+fn take_all<R: Wait>(rt: &R, mut taker: Taker) -> (Taker, u32)
+    requires { taken taker ≡ [] }
+    ensures { takes_on result.0 ≡ takes_on taker }
+{
+    let mut in_order = 0u32;
+    for _ in rt.forever() {
+        match taker.take(rt) {
+            Piece::Bytes(bytes) => {
+                if bytes.as_slice() == in_order.to_be_bytes().as_slice() {
+                    in_order = in_order.wrapping_add(1);
+                }
+            }
+            Piece::Mark => {}
+            Piece::End => return (taker, in_order),
+            Piece::Broken => return (taker, 0),
+        }
+    }
+    unreachable!()
+}
+
+/// How many pieces come in order through a relay that holds so many, from one thread to another.
+fn count_through<R: Threads + Wait + Sync>(
+    rt: &R,
+    alloc: Global,
+    capacity: u32,
+) -> Result<u32, Memory>
+    requires { 0 < capacity }
+{
+    let (giver, taker) = bounded(alloc, capacity)?;
+    let (giver, (taker, in_order)) = thread::join(
+        rt,
+        move ||
+            requires { given giver ≡ [] }
+            ensures { gives_on result ≡ gives_on giver }
+        { put_all(rt, alloc, giver) },
+        move ||
+            requires { taken taker ≡ [] }
+            ensures { takes_on result.0 ≡ takes_on taker }
+        { take_all(rt, taker) },
+    );
+    settle(giver, taker);
+    Ok(in_order)
+}
+
+#[test]
+fn all_pieces_come_in_order(rt: HostRuntime) -> Result<(), Fail> {
+    for capacity in [1, 2, 8, 100] {
+        assert_eq!(rt;
+            count_through(&rt, rt.alloc(), capacity)?,
+            PIECES,
+            "at {capacity}"
+        );
+    }
+    Ok(())
+}
+
+/// Lets the other half wait.
+fn wait_half_a_second<R: Clock>(rt: &R) {
+    thread::sleep(rt, Duration::from_millis(500));
+}
+
+/// The processor time that this thread has used since then; none where the clock can't be read.
+fn used_since<R: CpuClock>(rt: &R, before: Option<Duration>) -> Option<Duration> {
+    rt.thread_cpu_time().ok()?.checked_sub(before?)
+}
+
+/// Fills a relay of one place, and puts an end, which has to wait; tells the processor time that this took.
+fn put_timed<R: Wait + CpuClock>(rt: &R, mut giver: Giver) -> (Giver, Option<Duration>)
+    requires { given giver ≡ [] }
+    ensures { gives_on result.0 ≡ gives_on giver }
+{
+    let before = rt.thread_cpu_time().ok();
+    giver.put(rt, Piece::Mark);
+    giver.put(rt, Piece::End);
+    (giver, used_since(rt, before))
+}
+
+/// Takes a piece, but not at once, and tells whether it is a mark.
+fn take_late<R: Wait + Clock>(rt: &R, mut taker: Taker) -> (Taker, bool)
+    requires { taken taker ≡ [] }
+    ensures { takes_on result.0 ≡ takes_on taker }
+{
+    wait_half_a_second(rt);
+    let is_mark = matches!(taker.take(rt), Piece::Mark);
+    (taker, is_mark)
+}
+
+/// Puts an end, but not at once.
+fn put_late<R: Wait + Clock>(rt: &R, mut giver: Giver) -> Giver
+    requires { given giver ≡ [] }
+    ensures { gives_on result ≡ gives_on giver }
+{
+    wait_half_a_second(rt);
+    giver.put(rt, Piece::End);
+    giver
+}
+
+/// Takes a piece, which has to come first; tells the processor time that this took.
+fn take_timed<R: Wait + CpuClock>(rt: &R, mut taker: Taker) -> (Taker, Option<Duration>)
+    requires { taken taker ≡ [] }
+    ensures { takes_on result.0 ≡ takes_on taker }
+{
+    let before = rt.thread_cpu_time().ok();
+    taker.take(rt);
+    (taker, used_since(rt, before))
+}
+
+/// What a taker uses of the processor that waits half a second for a piece.
+fn used_by_taker<R: Threads + Wait + Clock + CpuClock + Sync>(
+    rt: &R,
+    alloc: Global,
+) -> Result<Option<Duration>, Memory> {
+    let (giver, taker) = bounded(alloc, 1)?;
+    let (giver, (taker, used)) = thread::join(
+        rt,
+        move ||
+            requires { given giver ≡ [] }
+            ensures { gives_on result ≡ gives_on giver }
+        { put_late(rt, giver) },
+        move ||
+            requires { taken taker ≡ [] }
+            ensures { takes_on result.0 ≡ takes_on taker }
+        { take_timed(rt, taker) },
+    );
+    settle(giver, taker);
+    Ok(used)
+}
+
+/// What a giver uses of the processor that waits half a second for room.
+fn used_by_giver<R: Threads + Wait + Clock + CpuClock + Sync>(
+    rt: &R,
+    alloc: Global,
+) -> Result<Option<Duration>, Memory> {
+    let (giver, taker) = bounded(alloc, 1)?;
+    let ((giver, used), (taker, is_mark)) = thread::join(
+        rt,
+        move ||
+            requires { given giver ≡ [] }
+            ensures { gives_on result.0 ≡ gives_on giver }
+        { put_timed(rt, giver) },
+        move ||
+            requires { taken taker ≡ [] }
+            ensures { takes_on result.0 ≡ takes_on taker }
+        { take_late(rt, taker) },
+    );
+    settle(giver, taker);
+    Ok(if is_mark { used } else { None })
+}
+
+#[test]
+fn a_half_that_waits_sleeps(rt: HostRuntime) -> Result<(), Fail> {
+    let little = Some(Duration::from_millis(100));
+    for used in [
+        used_by_taker(&rt, rt.alloc())?,
+        used_by_giver(&rt, rt.alloc())?,
+    ] {
+        assert!(rt; used.is_some() && used < little, "{used:?}");
+    }
+    Ok(())
+}

@@ -220,6 +220,10 @@ fn valid_graphs_are_valid(rt: HostRuntime) -> Result<(), Fail> {
             "input - 0|split 0 12|map=wc,-w 1 3|map=wc,-w 2 4|agg=wc,-w 34 5|output 5 -",
             "-",
         ),
+        (
+            "input - 0|split 0 12|map=grep,-c,w 1 3|map=grep,-c,w 2 4|agg=grep,-c,w 34 5|output 5 -",
+            "23",
+        ),
         ("input - 0|tee=/f 0 1|tee=/g 1 2|output 2 -", "-"),
     ];
     expect_all(&rt, rt.alloc(), &cases, true)
@@ -309,6 +313,7 @@ fn invocations_read_one_input_and_have_their_class(rt: HostRuntime) -> Result<()
             "-",
         ),
         ("input - 0|map=cat 0 1|finish=cat 1 2|output 2 -", "-"),
+        ("input - 0|map=tail,-n,+2 0 1|output 1 -", "-"),
     ];
     expect_all(&rt, rt.alloc(), &cases, false)
 }
@@ -320,6 +325,10 @@ fn invocations_are_built(rt: HostRuntime) -> Result<(), Fail> {
         ("input - 0|whole=tee 0 1|output 1 -", "-"),
         ("input - 0|text - 1|whole=wc,a,b 01 2|output 2 -", "-"),
         ("text - 0|drain 0 -|whole=echo - 1|output 1 -", "-"),
+        (
+            "input - 0|split 0 12|map=paste,- 1 3|map=paste,- 2 4|agg=paste,- 34 5|output 5 -",
+            "-",
+        ),
     ];
     expect_all(&rt, rt.alloc(), &cases, false)
 }

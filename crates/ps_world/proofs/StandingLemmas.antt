@@ -1,15 +1,16 @@
 -- What a path names is there, and hangs on the kinds of things alone.
-use Rattle.std.proofs.Common.{◌≡◌, ℕ, List, [], ◌∷◌, ◌++◌, Option, Some, None, Bool, true, false, cond, refl, sym, ap, subst}
+use Rattle.std.proofs.Common.{◌≡◌, ℕ, List, [], ◌∷◌, ◌++◌, Option, Some, None, Bool, true, false, not, ◌&&◌, ◌||◌, codes, cond, refl, sym, ap, subst, ◌∙◌}
+use Rattle.std.proofs.lemmas.Bool.{false≢true}
 use Rattle.std.specs.Option.{IfSome, option_map_or}
 use Rattle.std.specs.FinMap as map
-use Rattle.ps_world.specs.Paths.{components, Components, parent_of, path_cmp, stays, goes_up}
-use Rattle.ps_world.specs.Files.{AreOfOneKind, Files, kind_at, kind_of}
+use Rattle.ps_world.specs.Paths.{components, Components, has_slash, is_name, is_slash, parent_of, path_cmp, stays, goes_up}
+use Rattle.ps_world.specs.Files.{AreOfOneKind, Files, IsDirAt, kind_at, kind_of}
 use Rattle.ps_world.specs.Places.{StandsIn, directory, ending_at, enter, is_null_path, is_null_text, last_place, makeable, named, nulled, resolve, resolve_from, start_of}
 use Rattle.ps_world.specs.declared.places.Place.{Place}
 use Rattle.ps_world.specs.declared.places.Place.TheVariants as place
 use Rattle.ps_world.specs.declared.tree.Kind.{Kind}
 use Rattle.ps_world.specs.declared.tree.Kind.TheVariants as kind
-use Rattle.ps_world.proofs.PlacesLemmas.{parent_of_child}
+use Rattle.ps_world.proofs.PlacesLemmas.{parent_of_child, slice_split-alone}
 use Rattle.ps_world.proofs.WritingLemmas.{is_dir_at, is_file_in, made_new, made_over}
 
 module _ (files : Files) where
@@ -122,3 +123,47 @@ pub resolve-empty : (home : Components) (text : List ℕ) → resolve map.empty 
 resolve-empty home [] = refl
 resolve-empty home (byte ∷ bytes) =
     ap (λ (found : Place). cond (is_null_text (byte ∷ bytes)) place.Null (nulled found)) (nowhere_from (start_of home (byte ∷ bytes)) (components (byte ∷ bytes)))
+
+-- files in which home is no directory
+module _ (files : Files) (home : Components) (no_home : IsDirAt files home → ⊥) where
+  never_ends : (found : Kind) (path : Components) → kind_at files home ≡ found → ending_at found path ≡ place.Missing
+  never_ends kind.Missing path is = refl
+  never_ends kind.File path is = refl
+  never_ends kind.Dir path is = absurd (no_home (is_dir_at files home is))
+
+  never_made : (found : Kind) (path : Components) → kind_at files home ≡ found → makeable found path ≡ place.Missing
+  never_made kind.Missing path is = refl
+  never_made kind.File path is = refl
+  never_made kind.Dir path is = absurd (no_home (is_dir_at files home is))
+
+  pub here-no_home : resolve files home (codes ".") ≡ place.Missing
+  unfolding stays
+  here-no_home = ap nulled (never_ends (kind_at files home) home refl)
+
+  last-no_home : (stay up slashed : Bool) (name : List ℕ) → stays name ≡ stay → goes_up name ≡ up → (not stay && (not up && not slashed)) ≡ true
+      → kind_at files (home ++ name ∷ []) ≡ kind.Missing → last_place files home name ≡ place.Missing
+  last-no_home true up slashed name is_stay is_up is_named is = absurd (false≢true is_named)
+  last-no_home false true slashed name is_stay is_up is_named is = absurd (false≢true is_named)
+  last-no_home false false slashed name is_stay is_up is_named is = rw (is_stay, is_up, is) (never_made (kind_at files home) (home ++ name ∷ []) refl)
+
+  without_slash : (stay up slashed : Bool) → (not stay && (not up && not slashed)) ≡ true → slashed ≡ false
+  without_slash true up slashed is_named = absurd (false≢true is_named)
+  without_slash false true slashed is_named = absurd (false≢true is_named)
+  without_slash false false true is_named = absurd (false≢true is_named)
+  without_slash false false false is_named = refl
+
+  named_from : (byte : ℕ) (bytes : List ℕ) (slashed : Bool) → is_slash byte ≡ slashed → (slashed || has_slash bytes) ≡ false
+      → has_slash (byte ∷ bytes) ≡ false → is_name (byte ∷ bytes) ≡ true → kind_at files (home ++ (byte ∷ bytes) ∷ []) ≡ kind.Missing
+      → resolve files home (byte ∷ bytes) ≡ place.Missing
+  named_from byte bytes true at none part is_named is = absurd (false≢true (sym none))
+  named_from byte bytes false at none part is_named is =
+      ap (λ (parts : List (List ℕ)). cond (is_null_text (byte ∷ bytes)) place.Null (nulled (resolve_from files (start_of home (byte ∷ bytes)) parts)))
+      (slice_split-alone is_slash (byte ∷ bytes) part)
+      ∙ rw at (ap nulled (last-no_home (stays (byte ∷ bytes)) (goes_up (byte ∷ bytes)) (has_slash (byte ∷ bytes)) (byte ∷ bytes) refl refl is_named is))
+
+  -- a name that nothing has
+  pub name-no_home : (name : List ℕ) → is_name name ≡ true → kind_at files (home ++ name ∷ []) ≡ kind.Missing → resolve files home name ≡ place.Missing
+  name-no_home [] is_named is = refl
+  name-no_home (byte ∷ bytes) is_named is =
+      let part = without_slash (stays (byte ∷ bytes)) (goes_up (byte ∷ bytes)) (has_slash (byte ∷ bytes)) is_named in
+      named_from byte bytes (is_slash byte) refl part part is_named is

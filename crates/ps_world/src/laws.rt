@@ -1,12 +1,13 @@
 //! Laws of files: each function's contract is the law, and no function does anything.
-ghost use Rattle.std.specs.Prelude.{◌≡◌, [], ◌∷◌, ◌↔◌, ℕ, suc, List, Option, Some, IfSome, if◌then◌else◌};
+ghost use Rattle.std.specs.Prelude.{◌≡◌, [], ◌∷◌, ◌++◌, ◌↔◌, codes, true, ℕ, suc, List, Option, Some, IfSome, if◌then◌else◌};
 ghost use Rattle.std.specs.FinMap as map;
-ghost use Rattle.ps_world.specs.Files.{AreOfOneKind, AreOutWithin, Bytes, Files, IsFileAt, IsSetAt, NoWriterOut, WriterOut};
-ghost use Rattle.ps_world.specs.Paths.{Components};
+ghost use Rattle.ps_world.specs.Files.{AreOfOneKind, AreOutWithin, Bytes, Files, IsDirAt, IsFileAt, IsSetAt, NoWriterOut, WriterOut, kind_at};
+ghost use Rattle.ps_world.specs.Paths.{Components, is_name};
 ghost use Rattle.ps_world.specs.Places.{is_null_text, resolve};
 ghost use Rattle.ps_world.specs.TreeState.{AreOut, Balanced, IsFilled, OnlyLent, TreeState, lend, take_back, take_out};
 
 use crate::places::Place;
+use crate::tree::Kind;
 
 /// Where a text leads hangs on the kinds of things alone.
 pub fn places_hang_on_kinds()
@@ -17,6 +18,13 @@ pub fn places_hang_on_kinds()
 /// Where nothing is, not even the root, no text names anything but the null device, and nothing can be made.
 pub fn nothing_is_named_where_nothing_is()
     ensures { (home : Components) (text : List ℕ) → resolve map.empty home text ≡ (if is_null_text text then Place.Null else Place.Missing) }
+{}
+
+/// Where home is no directory, `.` names nothing, and a name that nothing has there can't be made.
+pub fn nothing_can_be_made_where_home_is_no_directory()
+    ensures here { (files : Files) (home : Components) → (IsDirAt files home → ⊥) → resolve files home (codes ".") ≡ Place.Missing }
+    ensures name { (files : Files) (home : Components) (name : List ℕ) → (IsDirAt files home → ⊥) → is_name name ≡ true
+        → kind_at files (home ++ name ∷ []) ≡ Kind.Missing → resolve files home name ≡ Place.Missing }
 {}
 
 /// A file whose writer is out is of the kind of every file that may come of it. So all texts name the same places.

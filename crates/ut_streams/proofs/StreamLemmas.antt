@@ -55,6 +55,26 @@ module _ {Input : Type 0} where
         part = λ more. rw (due more, ← append_assoc old text (now more)) (begins-more (old ++ text) new (now more) put.part);
       }
 
+  -- a step where more is due behind what it writes
+  pub Wrote-behind : (was now : Input → List ℕ) (rest old new : List ℕ) (whole : Bool) → Wrote was now old new whole → Wrote (λ more. was more ++ rest) (λ more. now more ++ rest) old new whole
+  Wrote-behind was now rest old new whole wrote =
+      record {
+        kept = wrote.kept;
+        grew = λ ok more. sym (append_assoc new (now more) rest) ∙ ap (λ text. text ++ rest) (wrote.grew ok more) ∙ append_assoc old (was more) rest;
+        part = λ more. rw (← append_assoc old (was more) rest) (begins-more (old ++ was more) new rest (wrote.part more));
+      }
+
+  -- a text that is put before a step
+  pub Wrote-put_then : (was now : Input → List ℕ) (text old half new : List ℕ) (whole : Bool) → Put text old half true → Wrote was now half new whole
+      → Wrote (λ more. text ++ was more) now old new whole
+  Wrote-put_then was now text old half new whole put wrote =
+      Wrote-trans (λ more. text ++ was more) was now old half new whole (Wrote-put (λ more. text ++ was more) was text old half true (λ more. refl) put) wrote
+
+  -- and one for which memory was wanted
+  pub Wrote-put_stopped : (was now : Input → List ℕ) (text old new : List ℕ) → Put text old new false → Wrote (λ more. text ++ was more) now old new false
+  Wrote-put_stopped was now text old new put =
+      Wrote-broken (λ more. text ++ was more) was now old new (Wrote-put (λ more. text ++ was more) was text old new false (λ more. refl) put)
+
 -- texts that are put
 pub Put-whole : (text old : List ℕ) → Put text old (old ++ text) true
 Put-whole text old = record { kept = begins-append old text; grew = λ ok. refl; part = begins-self (old ++ text) }
@@ -112,7 +132,8 @@ Wrote-stopped first due due' piece rest old half new fed wrote =
     Wrote-broken first (λ more. due' (rest ++ more)) due' old new (Wrote-next first due due' piece rest old half new false fed wrote)
 
 -- memory was wanted before the end
-pub Put-stopped : (due due' : List ℕ → List ℕ) (text old new : List ℕ) → Wrote (λ more. due (text ++ more)) due' old new false → Put (due text) old new false
+pub Put-stopped : {Item : Type 0} (due due' : List Item → List ℕ) (text : List Item) (old new : List ℕ)
+    → Wrote (λ more. due (text ++ more)) due' old new false → Put (due text) old new false
 Put-stopped due due' text old new broken =
     record {
       kept = broken.kept;

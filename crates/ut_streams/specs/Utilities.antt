@@ -1,12 +1,17 @@
 -- What a utility means for whole inputs (XCU, each utility's page), and how its work on the parts of one input is put together (own; PaSh's
 -- maps and aggregators). A stream does it piece by piece. Each utility's definition stands in its own crate, over its own record.
-use Rattle.std.specs.Prelude.{ℕ, List, ◌++◌, Bool, false}
+use Rattle.std.specs.Prelude.{ℕ, List, [], ◌∷◌, ◌++◌, Bool, false, drop, get_or}
 use Rattle.std.specs.List.{flat_map, list_any}
 
 -- an input: the operand that names it, which is empty where none does, and its text
 pub record Input : Type 0 where
   pub label : List ℕ
   pub text : List ℕ
+
+-- texts with the names of their inputs, in order; where there are fewer names, those of the others are empty
+abbrev pub labelled : List (List ℕ) → List (List ℕ) → List Input
+labelled names [] = []
+labelled names (text ∷ texts) = record { label = get_or names 0 []; text = text } ∷ labelled (drop 1 names) texts
 
 pub record Utility : Type 0 where
   -- what is written for the inputs in their order, and whether something in them is selected

@@ -6,17 +6,22 @@
 //! input, and all of it after `finish`; a stream says only what is due at its beginning.
 //!
 //! `Stream` is over bytes. A utility that works line by line is a `LineStream`, which `Lines` makes a `Stream`, and one that does
-//! each line by itself a `PerLine`, which `EachLine` makes a `LineStream`.
+//! each line by itself a `PerLine`, which `EachLine` makes a `LineStream`. One that reads several inputs, one after another, is a
+//! `Series`, and one that reads them at once a `PortStream`.
 //!
 //! `specs/Streams.antt` has the words, and `specs/Utilities.antt` what a utility means for whole inputs.
 #![tactic(auto)]
 
 mod cuttings;
 mod line_streams;
+mod port_streams;
 mod puts;
+mod series;
 mod streams;
 
 pub use cuttings::cut_behind;
 pub use line_streams::{EachLine, LineStream, Lines, PerLine, cut_last_line};
+pub use port_streams::PortStream;
 pub use puts::{put, put_line};
+pub use series::{Series, feed_inputs};
 pub use streams::{Stream, feed_all};

@@ -1,5 +1,5 @@
 //! Streams of lines.
-ghost use Rattle.std.specs.Prelude.{◌≡◌, ◌+◌, ℕ, length, ◌∷◌, ◌++◌, List, [], Bool, false, true, OnOk, OnErr};
+ghost use Rattle.std.specs.Prelude.{◌≡◌, ◌+◌, ℕ, length, ◌∷◌, ◌++◌, List, [], Bool, false, true, not, OnOk, OnErr};
 ghost use Rattle.std.specs.List.{flat_map};
 ghost use Rattle.std.specs.Result.{is_ok};
 ghost use Rattle.ps_lines.specs.Lines.{has_newline, is_closed, lines};
@@ -18,11 +18,14 @@ pub trait LineStream: Drop {
     ghost line_selects: { Self → List (List ℕ) → Bool };
     /// Whether something has been selected.
     ghost line_selected: { Self → Bool };
+    /// Whether a line is selected, taken by itself: no call changes that.
+    ghost line_test: { Self → List ℕ → Bool };
 
     /// Takes the next line, and appends what is determined by now.
     fn line(&mut self, line: &[u8], out: &mut Vec<u8>) -> Result<(), Memory>
         ensures wrote { Wrote (λ more. line_due self.old (line.now ∷ more)) (line_due self.new) out.old.items out.new.items (is_ok result) }
-        ensures selects { OnOk result ((more : List (List ℕ)) → line_selects self.new more ≡ line_selects self.old (line.now ∷ more)) };
+        ensures selects { OnOk result ((more : List (List ℕ)) → line_selects self.new more ≡ line_selects self.old (line.now ∷ more)) }
+        ensures tested { (other : List ℕ) → line_test self.new other ≡ line_test self.old other };
 
     /// Takes the lines of a closed text, one after another. A utility that can look for what it wants without going from line to
     /// line has a body of its own here.
@@ -30,6 +33,7 @@ pub trait LineStream: Drop {
         requires { is_closed text.now ≡ true }
         ensures wrote { Wrote (λ more. line_due self.old (lines text.now ++ more)) (line_due self.new) out.old.items out.new.items (is_ok result) }
         ensures selects { OnOk result ((more : List (List ℕ)) → line_selects self.new more ≡ line_selects self.old (lines text.now ++ more)) }
+        ensures tested { (other : List ℕ) → line_test self.new other ≡ line_test self.old other }
     {
         let mut left = text;
         while let Some((line, rest)) = cut_line(left) {
@@ -44,7 +48,8 @@ pub trait LineStream: Drop {
     /// There are no more lines: appends the rest of the output.
     fn end(&mut self, out: &mut Vec<u8>) -> Result<(), Memory>
         ensures wrote { Put (line_due self.old []) out.old.items out.new.items (is_ok result) }
-        ensures selected { OnOk result (line_selected self.new ≡ line_selects self.old []) };
+        ensures selected { OnOk result (line_selected self.new ≡ line_selects self.old []) }
+        ensures tested { (other : List ℕ) → line_test self.new other ≡ line_test self.old other };
 
     /// Whether something has been selected.
     fn has_selected(&self) -> bool
@@ -73,6 +78,8 @@ impl<P: PerLine> LineStream for EachLine<P> {
     ghost line_selects = { λ _ _. false };
 
     ghost line_selected = { λ _. false };
+
+    ghost line_test = { λ _ _. false };
 
     #[tactic(auto, using(crate::proofs::StreamLemmas::each_line))]
     fn line(&mut self, line: &[u8], out: &mut Vec<u8>) -> Result<(), Memory> {
@@ -111,6 +118,41 @@ impl<L: LineStream> Lines<L> {
             spent: false,
         }
     }
+
+    /// Takes the next piece as `feed` does. A line is selected as before.
+    pub fn take_piece(&mut self, piece: &[u8], out: &mut Vec<u8>) -> Result<(), Memory>
+        ensures wrote { Wrote (λ more. L.line_due self.old.each (lines (self.old.held.items ++ (piece.now ++ more))))
+            (λ more. L.line_due self.new.each (lines (self.new.held.items ++ more))) out.old.items out.new.items (is_ok result) }
+        ensures selects { OnOk result ((more : List ℕ) → L.line_selects self.new.each (lines (self.new.held.items ++ more)) ≡ L.line_selects self.old.each (lines (self.old.held.items ++ (piece.now ++ more)))) }
+        ensures spent { self.new.spent ≡ not (is_ok result) }
+        ensures tested { (line : List ℕ) → L.line_test self.new.each line ≡ L.line_test self.old.each line }
+    {
+        let fed = feed_lines(&mut self.each, &mut self.held, piece, out);
+        self.spent = fed.is_err();
+        fed
+    }
+
+    /// Ends the lines as `finish` does. A line is selected as before.
+    pub fn end(&mut self, out: &mut Vec<u8>) -> Result<(), Memory>
+        ensures wrote { Put (L.line_due self.old.each (lines (self.old.held.items ++ []))) out.old.items out.new.items (is_ok result) }
+        ensures selected { OnOk result (L.line_selected self.new.each ≡ L.line_selects self.old.each (lines (self.old.held.items ++ []))) }
+        ensures spent { self.new.spent ≡ not (is_ok result) }
+        ensures tested { (line : List ℕ) → L.line_test self.new.each line ≡ L.line_test self.old.each line }
+    {
+        let ended = finish_lines(&mut self.each, self.held.as_slice(), out);
+        self.spent = ended.is_err();
+        ended
+    }
+
+    /// Begins anew with another input: what is held of a line goes.
+    pub fn begin_anew(&mut self)
+        ensures each { self.new.each ≡ self.old.each }
+        ensures held { self.new.held.items ≡ [] }
+        ensures spent { self.new.spent ≡ false }
+    {
+        self.held.clear();
+        self.spent = false;
+    }
 }
 
 impl<L: LineStream> Stream for Lines<L> {
@@ -123,15 +165,11 @@ impl<L: LineStream> Stream for Lines<L> {
     ghost spent = { λ stream. stream.spent };
 
     fn feed(&mut self, piece: &[u8], out: &mut Vec<u8>) -> Result<(), Memory> {
-        let fed = feed_lines(&mut self.each, &mut self.held, piece, out);
-        self.spent = fed.is_err();
-        fed
+        self.take_piece(piece, out)
     }
 
     fn finish(&mut self, out: &mut Vec<u8>) -> Result<(), Memory> {
-        let finished = finish_lines(&mut self.each, self.held.as_slice(), out);
-        self.spent = finished.is_err();
-        finished
+        self.end(out)
     }
 
     fn has_selected(&self) -> bool {
@@ -155,6 +193,7 @@ fn feed_lines<L: LineStream>(
         (λ more. L.line_due each.new (lines (held.new.items ++ more))) out.old.items out.new.items (is_ok result) }
     ensures selects { OnOk result ((more : List ℕ) → L.line_selects each.new (lines (held.new.items ++ more)) ≡ L.line_selects each.old (lines (held.old.items ++ (piece.now ++ more)))) }
     ensures plain { has_newline held.new.items ≡ false }
+    ensures tested { (other : List ℕ) → L.line_test each.new other ≡ L.line_test each.old other }
 {
     let Some((line, rest)) = cut_line(piece) else {
         return hold(held, piece);
@@ -190,6 +229,7 @@ fn end_line<L: LineStream>(
     ensures selects { OnOk result ((more : List (List ℕ)) → L.line_selects each.new more ≡ L.line_selects each.old ((held.old.items ++ line.now) ∷ more)) }
     ensures empty { OnOk result (held.new.items ≡ []) }
     ensures plain { has_newline held.new.items ≡ false }
+    ensures tested { (other : List ℕ) → L.line_test each.new other ≡ L.line_test each.old other }
 {
     if held.is_empty() {
         return each.line(line, out);
@@ -215,6 +255,7 @@ fn feed_whole_lines<L: LineStream>(
         (λ more. L.line_due each.new (lines (held.new.items ++ more))) out.old.items out.new.items (is_ok result) }
     ensures selects { OnOk result ((more : List ℕ) → L.line_selects each.new (lines (held.new.items ++ more)) ≡ L.line_selects each.old (lines (text.now ++ more))) }
     ensures plain { has_newline held.new.items ≡ false }
+    ensures tested { (other : List ℕ) → L.line_test each.new other ≡ L.line_test each.old other }
 {
     let (whole, rest) = cut_last_line(text);
     match each.whole_lines(whole, out) {
@@ -239,6 +280,7 @@ fn finish_lines<L: LineStream>(each: &mut L, held: &[u8], out: &mut Vec<u8>) -> 
     requires { has_newline held.now ≡ false }
     ensures wrote { Put (L.line_due each.old (lines (held.now ++ []))) out.old.items out.new.items (is_ok result) }
     ensures selected { OnOk result (L.line_selected each.new ≡ L.line_selects each.old (lines (held.now ++ []))) }
+    ensures tested { (other : List ℕ) → L.line_test each.new other ≡ L.line_test each.old other }
 {
     if held.is_empty() {
         return each.end(out);

@@ -14,6 +14,7 @@ loop-line-preserved g c = (
       ∙ ap (λ coming. g.Self.LineStream.line_selects c.loop-line.self (coming ++ more)) (sym (lines-first c.loop-line.left.now c.in-Some.line.now c.in-Some.rest.now c.in-Some.ensures.cut))
       ∙ c.loop-line.invariant.1 more,
   closed-rest c.loop-line.left.now c.in-Some.line.now c.in-Some.rest.now c.in-Some.ensures.cut c.loop-line.invariant.2,
+  λ other. c.in-Ok.ensures.tested other ∙ c.loop-line.invariant.3 other,
 )
 
 pub returns-in-Err-clause-wrote : goal.returns-in-Err-clause-wrote

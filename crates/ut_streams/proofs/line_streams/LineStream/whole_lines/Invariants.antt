@@ -9,6 +9,7 @@ invariant-loop-line g l =
     l.initial.out.items l.out.items true
     × ((more : List (List ℕ)) → g.Self.LineStream.line_selects l.self (lines l.left ++ more) ≡ g.Self.LineStream.line_selects l.initial.self (lines l.initial.left ++ more))
     × (is_closed l.left ≡ true)
+    × ((other : List ℕ) → g.Self.LineStream.line_test l.self other ≡ g.Self.LineStream.line_test l.initial.self other)
 
 abbrev pub decreases-loop-line : goal.decreases-loop-line
 decreases-loop-line g l = length l.left

@@ -3,3 +3,4 @@ pub mod PieceLemmas
 pub mod ListLemmas
 pub mod WordLemmas
 pub mod OperandLemmas
+pub mod LabelLemmas

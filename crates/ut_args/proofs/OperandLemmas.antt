@@ -455,10 +455,7 @@ module _ (flags : List Bool) where
   operands-emptied other = refl
 
   pub built-emptied : (asked : Command) → is_built_by (with_operands (emptied flags (operands_by asked)) asked) ≡ is_built_by asked
-  built-emptied (command.Grep args) = at_most_one-emptied flags args.operands
-  built-emptied (command.Head args) = at_most_one-emptied flags args.operands
   built-emptied (command.Tail args) = at_most_one-emptied flags args.operands
-  built-emptied (command.Wc args) = at_most_one-emptied flags args.operands
   built-emptied (command.Uniq args) = at_most_one-emptied flags args.operands
   built-emptied other = refl
 

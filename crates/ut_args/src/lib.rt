@@ -16,6 +16,7 @@ mod faults;
 mod inputs;
 mod invocations;
 mod keys;
+mod labels;
 pub mod laws;
 mod lists;
 mod names;
@@ -42,7 +43,9 @@ pub use invocations::{
     GrepInv, HeadInv, Inv, PasteInv, ReadInv, SetInv, ShiftInv, SortInv, TailInv, TeeInv, TestInv,
     TrInv, TrueInv, UniqInv, UnsetInv, WcInv,
 };
+pub use labels::{Labels, first_name};
 pub use lists::{Delimiters, Key, KeyEnd, Keys, Ordering, Range, Ranges};
 pub use names::Name;
 pub use operators::{Asked, Binary, Relation, Unary, binary_of, is_not, unary_of};
 pub use reading::read_inv;
+pub use utilities::has_at_most_one;

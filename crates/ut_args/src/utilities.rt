@@ -242,7 +242,7 @@ fn groups_by(counted: bool, repeated: bool, single: bool) -> Option<Groups>
 }
 
 /// Whether there is at most one operand.
-pub(crate) fn has_at_most_one(operands: &Texts) -> bool
+pub fn has_at_most_one(operands: &Texts) -> bool
     ensures { result ≡ has_at_most_one_lem operands.now }
 {
     match operands.as_slice() {

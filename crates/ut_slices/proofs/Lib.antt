@@ -5,3 +5,9 @@ pub mod FieldLemmas
 pub mod CutLemmas
 pub mod PartLemmas
 pub mod LastLemmas
+pub mod HeadLemmas
+pub mod SideLemmas
+pub mod WalkLemmas
+pub mod PortLemmas
+pub mod ColumnLemmas
+pub mod SideStepLemmas

@@ -4,3 +4,4 @@ pub mod BytesLemmas
 pub mod TallyLemmas
 pub mod SelectionLemmas
 pub mod PatternLemmas
+pub mod SeriesLemmas

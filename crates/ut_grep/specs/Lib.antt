@@ -3,3 +3,4 @@ pub mod Tallies
 pub mod Patterns
 pub mod Faults
 pub mod Grep
+pub mod Series

@@ -1,18 +1,24 @@
-//! The stream of any invocation of grep.
-ghost use Rattle.std.specs.Prelude.{◌≡◌, ℕ, List, false, true, IfOk};
-ghost use Rattle.ps_lines.specs.Texts.{texts_of};
-ghost use Rattle.ut_args.specs.Utilities.{has_at_most_one as has_at_most_one_lem};
+//! The streams of any invocation of grep.
+ghost use Rattle.std.specs.Prelude.{◌≡◌, ◌∷◌, ◌&&◌, ℕ, List, [], false, IfOk, OnOk};
+ghost use Rattle.std.specs.List.{filter, flat_map, list_any};
+ghost use Rattle.std.specs.Result.{is_ok};
+ghost use Rattle.ut_args.specs.Inputs.{is_named};
+ghost use Rattle.ut_regex.specs.Answers.{answers};
+ghost use Rattle.ut_streams.specs.Streams.{Wrote};
+ghost use Rattle.ut_streams.specs.Utilities.{labelled};
 ghost use Rattle.ut_grep.specs.Grep.{label_in};
-ghost use Rattle.ut_grep.specs.Patterns.{first_number as first_number_lem, head_of as head_of_lem, name_of as name_of_lem, selects, written};
+ghost use Rattle.ut_grep.specs.Output.{picked_by};
+ghost use Rattle.ut_grep.specs.Patterns.{first_number as first_number_lem, head_by as head_by_lem, head_of as head_of_lem, is_selected, name_of as name_of_lem, selects, written};
+ghost use Rattle.ut_grep.specs.Series.{is_silent};
 
 use crate::patterns::read_patterns;
 use crate::selection::Selection;
 use crate::tally::Tally;
 use ps_lines::{Memory, NEWLINE};
 use std::alloc::Global;
-use ut_args::{GrepArgs, GrepInv, Report};
+use ut_args::{GrepArgs, GrepInv, Labels, Report, first_name, has_at_most_one};
 use ut_regex::compile_any;
-use ut_streams::{Lines, Stream};
+use ut_streams::{Lines, Series, Stream};
 
 /// What `grep` writes of one of its inputs.
 #[derive(Drop)]
@@ -30,42 +36,21 @@ impl Grep {
         ensures selects { IfOk result (λ grep. (text : List ℕ) → ⟦<Grep as Stream>⟧.selects grep text ≡ selects inv.now.args text) }
         ensures unspent { IfOk result (λ grep. ⟦<Grep as Stream>⟧.spent grep ≡ false) }
     {
-        let args = &inv.args;
-        let Ok(expressions) = read_patterns(alloc, args.syntax, args.patterns.as_slice()) else {
-            return Err(Memory);
-        };
-        let matcher = compile_any(
-            alloc,
-            expressions.as_slice(),
-            args.ignores_case,
-            args.whole_lines,
-        )?;
-        let head = head_of(alloc, args, label)?;
-        let tally = Tally {
-            report: args.report,
-            head,
-            number: first_number(args),
-            count: 0,
-            selected: false,
-        };
-        let selection = Selection {
-            matcher,
-            inverts: args.inverts,
-            tally,
-        };
-        Ok(Grep {
-            lines: Lines::new(alloc, selection),
-        })
+        match selection_of(alloc, &inv.args, label) {
+            Ok(selection) => Ok(Grep {
+                lines: Lines::new(alloc, selection),
+            }),
+            Err(memory) => Err(memory),
+        }
     }
 
-    /// The stream of the one input of an invocation with at most one operand, which names it.
-    pub fn of_one(alloc: Global, inv: &GrepInv) -> Result<Grep, Memory>
-        requires one { has_at_most_one_lem inv.now.args.operands ≡ true }
+    /// The stream of the map of an invocation, from the beginning of its one input.
+    pub fn of_part(alloc: Global, inv: &GrepInv) -> Result<Grep, Memory>
         ensures due { IfOk result (λ grep. (text : List ℕ) → ⟦<Grep as Stream>⟧.due grep text ≡ written inv.now.args (label_in inv.now.args.operands) text) }
         ensures selects { IfOk result (λ grep. (text : List ℕ) → ⟦<Grep as Stream>⟧.selects grep text ≡ selects inv.now.args text) }
         ensures unspent { IfOk result (λ grep. ⟦<Grep as Stream>⟧.spent grep ≡ false) }
     {
-        Grep::new(alloc, inv, label_of(inv.args.operands.as_slice()))
+        Grep::new(alloc, inv, first_name(&inv.args.operands))
     }
 
     /// Whether a line was selected; after `finish` this is whether the input has such a line.
@@ -76,16 +61,37 @@ impl Grep {
     }
 }
 
-/// The operand that names the one input, where there is one; else nothing.
-#[tactic(auto, using(crate::proofs::UtilityLemmas::labels))]
-fn label_of(operands: &[Vec<u8>]) -> &[u8]
-    requires one { has_at_most_one_lem (texts_of operands.now) ≡ true }
-    ensures { result.now ≡ label_in (texts_of operands.now) }
+/// The lines that an invocation selects, before the first line of an input with this name.
+fn selection_of(alloc: Global, args: &GrepArgs, label: &[u8]) -> Result<Selection, Memory>
+    ensures test { IfOk result (λ selection. picked_by selection.inverts (answers selection.matcher) ≡ is_selected args.now) }
+    ensures report { IfOk result (λ selection. selection.tally.report ≡ args.now.report) }
+    ensures head { IfOk result (λ selection. selection.tally.head.items ≡ head_of_lem args.now label.now) }
+    ensures number { IfOk result (λ selection. selection.tally.number ≡ first_number_lem args.now) }
+    ensures count { IfOk result (λ selection. selection.tally.count ≡ 0) }
+    ensures selected { IfOk result (λ selection. selection.tally.selected ≡ false) }
 {
-    match operands {
-        [operand] => operand.as_slice(),
-        _ => &[],
-    }
+    let Ok(expressions) = read_patterns(alloc, args.syntax, args.patterns.as_slice()) else {
+        return Err(Memory);
+    };
+    let matcher = compile_any(
+        alloc,
+        expressions.as_slice(),
+        args.ignores_case,
+        args.whole_lines,
+    )?;
+    let head = head_by(alloc, args.report, has_at_most_one(&args.operands), label)?;
+    let tally = Tally {
+        report: args.report,
+        head,
+        number: first_number(args),
+        count: 0,
+        selected: false,
+    };
+    Ok(Selection {
+        matcher,
+        inverts: args.inverts,
+        tally,
+    })
 }
 
 /// The number of the first line, where lines are numbered.
@@ -96,13 +102,15 @@ fn first_number(args: &GrepArgs) -> Option<u64>
 }
 
 /// What stands before the lines and counts of an input, or what is written of one that has a selected line.
-fn head_of(alloc: Global, args: &GrepArgs, label: &[u8]) -> Result<Vec<u8>, Memory>
-    ensures { IfOk result (λ head. head.items ≡ head_of_lem args.now label.now) }
+///
+/// `alone` says that no name stands before lines and counts, as with at most one operand.
+fn head_by(alloc: Global, report: Report, alone: bool, label: &[u8]) -> Result<Vec<u8>, Memory>
+    ensures { IfOk result (λ head. head.items ≡ head_by_lem report alone (name_of_lem label.now)) }
 {
     let mut head = Vec::new(alloc);
-    match args.report {
+    match report {
         Report::Lines | Report::Count => {
-            if !has_at_most_one(args.operands.as_slice()) {
+            if !alone {
                 head.extend_from_slice(name_of(label))?;
                 head.push(b':')?;
             }
@@ -124,16 +132,6 @@ fn name_of(label: &[u8]) -> &[u8]
         return b"(standard input)".as_slice();
     }
     label
-}
-
-/// Whether there is at most one operand.
-fn has_at_most_one(operands: &[Vec<u8>]) -> bool
-    ensures { result ≡ has_at_most_one_lem (texts_of operands.now) }
-{
-    match operands {
-        [] | [_] => true,
-        _ => false,
-    }
 }
 
 impl Stream for Grep {
@@ -159,5 +157,142 @@ impl Stream for Grep {
 
     fn is_spent(&self) -> bool {
         self.lines.is_spent()
+    }
+}
+
+/// What `grep` writes of its inputs, one after another. The expression is compiled once.
+#[derive(Drop)]
+pub struct GrepSeries {
+    alloc: Global,
+    lines: Lines<Selection>,
+    /// The names of the inputs to come, of which the first is that of the input whose turn it is.
+    labels: Labels,
+    report: Report,
+    /// Whether no name stands before lines and counts, as with at most one operand.
+    alone: bool,
+    /// The number of an input's first line, where lines are numbered.
+    first: Option<u64>,
+    /// Whether a line of an input that has ended is selected.
+    selected: bool,
+    spent: bool,
+    ghost usable: { spent ≡ false → lines.spent ≡ false },
+}
+
+impl GrepSeries {
+    /// The series of an invocation, from the beginning of its inputs.
+    ///
+    /// Where a pattern is none that can be read there is no series, and `Memory` is told: `check` says before whether that is so.
+    pub fn new(alloc: Global, inv: &GrepInv) -> Result<GrepSeries, Memory>
+        ensures due { IfOk result (λ series. (texts : List (List ℕ)) → ⟦<GrepSeries as Series>⟧.due series texts
+            ≡ flat_map (λ input. written inv.now.args input.label input.text) (labelled (filter is_named inv.now.args.operands) texts)) }
+        ensures selects { IfOk result (λ series. (texts : List (List ℕ)) → ⟦<GrepSeries as Series>⟧.selects series texts
+            ≡ list_any (λ input. selects inv.now.args input.text) (labelled (filter is_named inv.now.args.operands) texts)) }
+        ensures unspent { IfOk result (λ series. ⟦<GrepSeries as Series>⟧.spent series ≡ false) }
+    {
+        let labels = match Labels::of(alloc, &inv.args.operands) {
+            Ok(labels) => labels,
+            Err(memory) => return Err(memory),
+        };
+        let selection = match selection_of(alloc, &inv.args, labels.first()) {
+            Ok(selection) => selection,
+            Err(memory) => return Err(memory),
+        };
+        Ok(GrepSeries {
+            alloc,
+            lines: Lines::new(alloc, selection),
+            labels,
+            report: inv.args.report,
+            alone: has_at_most_one(&inv.args.operands),
+            first: first_number(&inv.args),
+            selected: false,
+            spent: false,
+        })
+    }
+
+    /// Ends the lines of an input, and begins the next.
+    #[tactic(auto, using(crate::proofs::SeriesLemmas::ends))]
+    fn end_lines(&mut self, out: &mut Vec<u8>) -> Result<(), Memory>
+        requires { ⟦<GrepSeries as Series>⟧.spent self.old ≡ false }
+        ensures wrote { Wrote (λ others. ⟦<GrepSeries as Series>⟧.due self.old ([] ∷ others)) (⟦<GrepSeries as Series>⟧.due self.new) out.old.items out.new.items (is_ok result) }
+        ensures selects { OnOk result ((others : List (List ℕ)) → ⟦<GrepSeries as Series>⟧.selects self.new others ≡ ⟦<GrepSeries as Series>⟧.selects self.old ([] ∷ others)) }
+        ensures usable { OnOk result (self.new.lines.spent ≡ false) }
+    {
+        match self.lines.end(out) {
+            Ok(()) => {}
+            Err(memory) => {
+                self.spent = true;
+                return Err(memory);
+            }
+        }
+        self.labels.pass();
+        let head = match head_by(self.alloc, self.report, self.alone, self.labels.first()) {
+            Ok(head) => head,
+            Err(memory) => return Err(memory),
+        };
+        self.selected |= self.lines.each.tally.selected;
+        begin_next(&mut self.lines, self.report, head, self.first);
+        Ok(())
+    }
+}
+
+/// The lines of the next input begin, with this report and head, and this number of its first line.
+fn begin_next(lines: &mut Lines<Selection>, report: Report, head: Vec<u8>, number: Option<u64>)
+    ensures test { picked_by lines.new.each.inverts (answers lines.new.each.matcher) ≡ picked_by lines.old.each.inverts (answers lines.old.each.matcher) }
+    ensures report { lines.new.each.tally.report ≡ report }
+    ensures head { lines.new.each.tally.head.items ≡ head.items }
+    ensures number { lines.new.each.tally.number ≡ number }
+    ensures count { lines.new.each.tally.count ≡ 0 }
+    ensures selected { lines.new.each.tally.selected ≡ (is_silent report && lines.old.each.tally.selected) }
+    ensures held { lines.new.held.items ≡ [] }
+    ensures spent { lines.new.spent ≡ false }
+{
+    lines.each.tally.begin_next(report, head, number);
+    lines.begin_anew();
+}
+
+impl Series for GrepSeries {
+    ghost use Rattle.ut_regex.specs.Answers.{answers};
+    ghost use Rattle.ut_grep.specs.Output.{picked_by};
+    ghost use Rattle.ut_grep.specs.Series.{due_in_order, has_selected, selects_in_order, written_by};
+
+    ghost due = { λ series texts. due_in_order (⟦<Lines<Selection> as Stream>⟧.due series.lines)
+        (written_by series.report series.alone series.first (picked_by series.lines.each.inverts (answers series.lines.each.matcher))) series.labels texts };
+
+    ghost selects = { λ series texts. selects_in_order series.selected (⟦<Lines<Selection> as Stream>⟧.selects series.lines)
+        (has_selected (picked_by series.lines.each.inverts (answers series.lines.each.matcher))) series.labels texts };
+
+    ghost selected = { λ series. series.selected };
+
+    ghost spent = { λ series. series.spent };
+
+    /// An input isn't looked at any more once nothing is written of it whatever comes.
+    #[tactic(auto, using(crate::proofs::SeriesLemmas::feeds))]
+    fn feed(&mut self, piece: &[u8], out: &mut Vec<u8>) -> Result<(), Memory> {
+        if self.lines.each.tally.is_done() {
+            return Ok(());
+        }
+        let fed = self.lines.take_piece(piece, out);
+        self.spent = fed.is_err();
+        fed
+    }
+
+    fn end_input(&mut self, out: &mut Vec<u8>) -> Result<(), Memory> {
+        let ended = self.end_lines(out);
+        self.spent = ended.is_err();
+        ended
+    }
+
+    /// Takes no memory, and so never answers Memory.
+    #[tactic(auto, using(ut_streams::proofs::StreamLemmas::puts))]
+    fn finish(&mut self, _out: &mut Vec<u8>) -> Result<(), Memory> {
+        Ok(())
+    }
+
+    fn has_selected(&self) -> bool {
+        self.selected
+    }
+
+    fn is_spent(&self) -> bool {
+        self.spent
     }
 }

@@ -28,6 +28,8 @@ impl LineStream for Selection {
 
     ghost line_selected = { λ selection. selection.tally.selected };
 
+    ghost line_test = { λ selection. picked_by selection.inverts (answers selection.matcher) };
+
     fn line(&mut self, line: &[u8], out: &mut Vec<u8>) -> Result<(), Memory> {
         take_line(&mut self.matcher, self.inverts, &mut self.tally, line, out)
     }
@@ -64,6 +66,7 @@ fn take_line(
         out.old.items out.new.items (is_ok result) }
     ensures selects { OnOk result ((more : List (List ℕ)) → selects_of tally.new (picked_by inverts (answers matcher.new)) more
         ≡ selects_of tally.old (picked_by inverts (answers matcher.old)) (line.now ∷ more)) }
+    ensures tested { (other : List ℕ) → answers matcher.new other ≡ answers matcher.old other }
 {
     let found = matcher.has(line);
     tally.take_line(line, is_picked(inverts, found), out)
@@ -82,6 +85,7 @@ fn take_lines(
         out.old.items out.new.items (is_ok result) }
     ensures selects { OnOk result ((more : List (List ℕ)) → selects_of tally.new (picked_by inverts (answers matcher.new)) more
         ≡ selects_of tally.old (picked_by inverts (answers matcher.old)) (lines text.now ++ more)) }
+    ensures tested { (other : List ℕ) → answers matcher.new other ≡ answers matcher.old other }
 {
     let mut left = text;
     while !tally.is_done() {

@@ -30,6 +30,7 @@ impl Tally {
     ghost use Rattle.ps_lines.specs.Lines.{is_closed, lines};
     ghost use Rattle.ut_streams.specs.Streams.{Put, Wrote};
     ghost use Rattle.ut_grep.specs.Output.{AllAre, is_brief};
+    ghost use Rattle.ut_grep.specs.Series.{is_silent};
     ghost use Rattle.ut_grep.specs.Tallies.{due_of, selects_of};
 
     /// Takes the lines of a closed text, which are all selected, or all not.
@@ -113,6 +114,22 @@ impl Tally {
             Report::Count => put_count(&self.head, self.count, out),
             Report::Lines | Report::Path | Report::Nothing => Ok(()),
         }
+    }
+
+    /// The next input begins, with this report and head, and this number of its first line. Where nothing is written one selected line is enough, and
+    /// stays selected.
+    pub(crate) fn begin_next(&mut self, report: Report, head: Vec<u8>, number: Option<u64>)
+        ensures report { self.new.report ≡ report }
+        ensures head { self.new.head.items ≡ head.items }
+        ensures number { self.new.number ≡ number }
+        ensures count { self.new.count ≡ 0 }
+        ensures selected { self.new.selected ≡ (is_silent report && self.old.selected) }
+    {
+        self.report = report;
+        self.selected = matches!(report, Report::Nothing) && self.selected;
+        self.head = head;
+        self.number = number;
+        self.count = 0;
     }
 
     /// Whether a line is selected, and nothing is written whatever comes.

@@ -13,15 +13,14 @@ use Rattle.std.specs.Option.{is_some, unwrap_or}
 use Rattle.ps_lines.specs.Lines.{is_empty}
 use Rattle.ps_lines.specs.Numbers.{number_of}
 use Rattle.ps_lines.proofs.NumberLemmas.{number_of-decimal}
-use Rattle.ut_args.specs.Inputs.{is_named}
-use Rattle.ut_args.specs.Utilities.{has_at_most_one}
+use Rattle.ut_streams.specs.Streams.{Wrote}
 use Rattle.ut_streams.proofs.StreamLemmas.{Put-whole, Put-none, Put-after, Put-broken, Wrote-same}
 use Rattle.ut_groups.specs.declared.counting.Counts.{Counts}
 use Rattle.ut_groups.specs.declared.columns.Columns.{Columns}
 use Rattle.ut_groups.specs.Counting.{counts_of, newlines, saturated, words_behind}
 use Rattle.ut_groups.specs.Columns.{asked, behind_number, behind_space, chosen, counts_line, is_space, number_before, without_last}
 use Rattle.ut_groups.specs.Inner.Columns.{column, counts_behind, counts_text, last_behind}
-use Rattle.ut_groups.specs.Wc.{name_in}
+use Rattle.ut_groups.specs.Inner.Series.{PrintAlike}
 use Rattle.ut_groups.proofs.CountingLemmas.{newlines-append, saturated-more, saturated-self, words-append}
 
 pub ruleset puts = (Put-whole, Put-none, Put-after, Put-broken, saturated-self, append_assoc, append-nil)
@@ -130,24 +129,36 @@ line-alike columns one other name lines words bytes =
     ∙ ap (λ third. join_with_byte 32 (asked columns.lines other.lines ++ (asked columns.words other.words ++ third)) ++ (behind_space name ++ 10 ∷ [])) (asked-alike columns.bytes one.bytes other.bytes bytes)
 
 -- a piece is counted
-pub counted-piece : (columns : Columns) (counts now : Counts) (before : ℕ) (piece name more : List ℕ)
+pub counted-piece : (columns : Columns) (counts now : Counts) (before : ℕ) (piece more : List ℕ)
     → (columns.lines ≡ true → now.lines ≡ saturated (counts.lines + newlines piece))
     → (columns.words ≡ true → now.words ≡ saturated (counts.words + words_behind before piece))
     → now.bytes ≡ saturated (counts.bytes + length piece)
-    → counts_line columns (counts_behind now (last_behind before piece) more) name ≡ counts_line columns (counts_behind counts before (piece ++ more)) name
-counted-piece columns counts now before piece name more lines words bytes =
-    line-alike columns (counts_behind now (last_behind before piece) more) (counts_behind counts before (piece ++ more)) name
-    (λ is. ap (λ count. saturated (count + newlines more)) (lines is) ∙ saturated-more (counts.lines + newlines piece) (newlines more)
-    ∙ ap saturated (omega arith ∙ ap (λ all. counts.lines + all) (sym (newlines-append piece more))))
-    (λ is. ap (λ count. saturated (count + words_behind (last_behind before piece) more)) (words is)
-    ∙ saturated-more (counts.words + words_behind before piece) (words_behind (last_behind before piece) more)
-    ∙ ap saturated (omega arith ∙ ap (λ all. counts.words + all) (sym (words-append before piece more))))
-    (λ is. ap (λ count. saturated (count + length more)) bytes ∙ saturated-more (counts.bytes + length piece) (length more)
-    ∙ ap saturated (omega arith ∙ ap (λ all. counts.bytes + all) (sym (length-append piece more))))
+    → PrintAlike columns (counts_behind now (last_behind before piece) more) (counts_behind counts before (piece ++ more))
+counted-piece columns counts now before piece more lines words bytes = record {
+  lines = λ is.
+      ap (λ count. saturated (count + newlines more)) (lines is) ∙ saturated-more (counts.lines + newlines piece) (newlines more)
+      ∙ ap saturated (omega arith ∙ ap (λ all. counts.lines + all) (sym (newlines-append piece more)));
+  words = λ is.
+      ap (λ count. saturated (count + words_behind (last_behind before piece) more)) (words is)
+      ∙ saturated-more (counts.words + words_behind before piece) (words_behind (last_behind before piece) more)
+      ∙ ap saturated (omega arith ∙ ap (λ all. counts.words + all) (sym (words-append before piece more)));
+  bytes = λ is.
+      ap (λ count. saturated (count + length more)) bytes ∙ saturated-more (counts.bytes + length piece) (length more)
+      ∙ ap saturated (omega arith ∙ ap (λ all. counts.bytes + all) (sym (length-append piece more)));
+}
 
 pub ruleset counted = counted-piece
 
-pub ruleset feeds = Wrote-same
+pub line-printed : (columns : Columns) (one other : Counts) (name : List ℕ) → PrintAlike columns one other → counts_line columns one name ≡ counts_line columns other name
+line-printed columns one other name alike = line-alike columns one other name alike.lines alike.words alike.bytes
+
+-- and nothing is written for it
+pub Wrote-counted : (columns : Columns) (counts now : Counts) (before last : ℕ) (piece out : List ℕ) (whole : Bool)
+    → ((more : List ℕ) → PrintAlike columns (counts_behind now last more) (counts_behind counts before (piece ++ more)))
+    → Wrote (λ more. counts_line columns (counts_behind counts before (piece ++ more)) []) (λ more. counts_line columns (counts_behind now last more) []) out out whole
+Wrote-counted columns counts now before last piece out whole alike =
+    Wrote-same (λ more. counts_line columns (counts_behind counts before (piece ++ more)) []) (λ more. counts_line columns (counts_behind now last more) []) out whole
+    (λ ok more. line-printed columns (counts_behind now last more) (counts_behind counts before (piece ++ more)) [] (alike more))
 
 -- from the beginning all of a text is to be counted
 pub counts-begin : (columns : Columns) (text name : List ℕ) (counts : Counts) → counts.lines ≡ 0 → counts.words ≡ 0 → counts.bytes ≡ 0
@@ -159,10 +170,3 @@ counts-begin columns text name counts lines words bytes =
     (λ is. ap (λ count. saturated (count + length text)) bytes ∙ omega arith)
 
 pub ruleset begins = counts-begin
-
--- the name of an input
-pub name-first : (operand : List ℕ) → name_in (operand ∷ []) ≡ operand
-name-first [] = refl
-name-first (byte ∷ operand) = refl
-
-pub ruleset names = name-first

@@ -4,3 +4,4 @@ pub mod NamedLemmas
 pub mod GroupingLemmas
 pub mod UniqLemmas
 pub mod WcLemmas
+pub mod SeriesLemmas

@@ -27,6 +27,9 @@ counts_of_all (input ∷ others) = added (counts_of input.text) (counts_of_all o
 abbrev pub total : WcArgs → List Input → List ℕ
 total args inputs = if has_at_most_one args.operands then [] else counts_line (columns_of args) (counts_of_all inputs) (codes "total")
 
+abbrev pub wc_output : WcArgs → List Input → List ℕ
+wc_output args inputs = flat_map (λ input. wc_line args input.label input.text) inputs ++ total args inputs
+
 -- the name of the one input of an invocation with at most one operand; standard input has none where it isn't an operand
 abbrev pub name_in : List (List ℕ) → List ℕ
 name_in operands = get_or (filter is_named operands) 0 []
@@ -38,7 +41,7 @@ with_name name text = without_last text ++ (behind_space name ++ NEWLINE ∷ [])
 -- the counts of parts are added up, column by column, and the name comes at last
 abbrev pub wc : WcArgs → Utility
 wc args = record {
-  output = λ inputs. flat_map (λ input. wc_line args input.label input.text) inputs ++ total args inputs;
+  output = wc_output args;
   selects = λ inputs. false;
   part = wc_line args [];
   aggregate = λ first second. counts_line (columns_of args) (added (counts_on (columns_of args) first) (counts_on (columns_of args) second)) [];

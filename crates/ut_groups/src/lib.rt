@@ -1,5 +1,5 @@
-//! Utilities that count and group lines, as streams: `wc` of one input and `uniq` (XCU wc, uniq), with what joins their work on the
-//! parts of an input.
+//! Utilities that count and group lines, as streams: `wc` and `uniq` (XCU wc, uniq), with what joins their work on the parts of an
+//! input. `WcSeries` is `wc` over several inputs.
 //!
 //! `specs/Counting.antt` and `specs/Groups.antt` say what a count and a group of lines are, and `specs/Wc.antt` and `specs/Uniq.antt`
 //! what that makes of the utilities. `specs/Inner` has words that only streams need.
@@ -21,4 +21,4 @@ pub use forms::Form;
 pub use kept::Kept;
 pub use named::Named;
 pub use uniq::Uniq;
-pub use wc::Wc;
+pub use wc::{Wc, WcSeries};

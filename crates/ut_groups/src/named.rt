@@ -1,9 +1,8 @@
 //! A name that is added to a line of counts.
-ghost use Rattle.std.specs.Prelude.{◌≡◌, ◌++◌, ℕ, List, true, false, IfOk};
+ghost use Rattle.std.specs.Prelude.{◌≡◌, ◌++◌, ℕ, List, false, IfOk};
 ghost use Rattle.std.specs.Option.{option_to_list};
 ghost use Rattle.std.specs.Result.{is_ok};
 ghost use Rattle.ut_streams.specs.Streams.{Put};
-ghost use Rattle.ut_args.specs.Built.{is_built_wc};
 ghost use Rattle.ut_groups.specs.Wc.{name_in, with_name};
 
 use crate::columns::put_name;
@@ -25,7 +24,6 @@ pub struct Named {
 impl Named {
     /// The finish of one invocation, from the beginning of the counts.
     pub fn new(alloc: Global, inv: &WcInv) -> Result<Named, Memory>
-        requires built { is_built_wc inv.now.args ≡ true }
         ensures due { IfOk result (λ named. (text : List ℕ) → ⟦<Named as Stream>⟧.due named text ≡ with_name (name_in inv.now.args.operands) text) }
         ensures unspent { IfOk result (λ named. ⟦<Named as Stream>⟧.spent named ≡ false) }
     {

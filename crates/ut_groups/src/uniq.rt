@@ -193,6 +193,8 @@ impl LineStream for GroupLines {
 
     ghost line_selected = { λ _. false };
 
+    ghost line_test = { λ _ _. false };
+
     fn line(&mut self, line: &[u8], out: &mut Vec<u8>) -> Result<(), Memory> {
         if !self.is_open {
             return self.begin(line, out);

@@ -1,26 +1,27 @@
-//! The stream of `wc`.
-ghost use Rattle.std.specs.Prelude.{◌≡◌, ◌+◌, ◌++◌, ℕ, List, [], Ok, true, false, not, IfOk, OnOk};
+//! The streams of `wc`.
+ghost use Rattle.std.specs.Prelude.{◌≡◌, ◌+◌, ◌++◌, ◌∷◌, ℕ, List, [], Ok, true, false, not, codes, IfOk, OnOk};
+ghost use Rattle.std.specs.List.{filter};
 ghost use Rattle.std.specs.Result.{is_ok};
-ghost use Rattle.ut_streams.specs.Streams.{Wrote};
-ghost use Rattle.ut_args.specs.Built.{is_built_wc};
+ghost use Rattle.ut_args.specs.Inputs.{is_named};
+ghost use Rattle.ut_streams.specs.Streams.{Put, Wrote};
+ghost use Rattle.ut_streams.specs.Utilities.{labelled};
 ghost use Rattle.ut_groups.specs.Counting.{counts_of, newlines as newlines_lem, saturated, words_behind};
 ghost use Rattle.ut_groups.specs.Columns.{counts_line};
 ghost use Rattle.ut_groups.specs.Inner.Columns.{counts_behind, last_behind};
-ghost use Rattle.ut_groups.specs.Wc.{name_in as name_in_lem, wc_line};
+ghost use Rattle.ut_groups.specs.Inner.Series.{PrintAlike, total_line};
+ghost use Rattle.ut_groups.specs.Wc.{name_in as name_in_lem, wc_line, wc_output};
 
 use crate::columns::{Columns, put_counts};
-use crate::counting::{Counts, SPACE, add_sat, last_byte, newlines, words};
+use crate::counting::{Counts, SPACE, add_counts, add_sat, last_byte, newlines, words};
 use ps_lines::Memory;
 use std::alloc::Global;
-use ut_args::{WcArgs, WcInv};
-use ut_streams::Stream;
+use ut_args::{Labels, WcArgs, WcInv, first_name, has_at_most_one};
+use ut_streams::{Series, Stream};
 
-/// The counts of one input.
+/// The counts of one input, without its name: the map of `wc`.
 #[derive(Drop)]
 pub struct Wc {
     columns: Columns,
-    /// The input's name, or nothing.
-    name: Vec<u8>,
     /// The counts so far of those that are asked for.
     counts: Counts,
     /// The byte before what comes next: a space at the beginning.
@@ -29,32 +30,14 @@ pub struct Wc {
 }
 
 impl Wc {
-    /// The stream of one invocation, from the beginning of its input.
-    pub fn new(alloc: Global, inv: &WcInv) -> Result<Wc, Memory>
-        requires built { is_built_wc inv.now.args ≡ true }
-        ensures due { IfOk result (λ wc. (text : List ℕ) → ⟦<Wc as Stream>⟧.due wc text ≡ wc_line inv.now.args (name_in_lem inv.now.args.operands) text) }
-        ensures unspent { IfOk result (λ wc. ⟦<Wc as Stream>⟧.spent wc ≡ false) }
-    {
-        Ok(Wc::named(Columns::of(&inv.args), name_of(alloc, &inv.args)?))
-    }
-
-    /// The stream of its map, which has no name.
-    pub fn of_part(alloc: Global, inv: &WcInv) -> Wc
+    /// The stream of the map of one invocation, from the beginning of its input.
+    #[tactic(auto, using(crate::proofs::ColumnLemmas::begins))]
+    pub fn of_part(inv: &WcInv) -> Wc
         ensures due { (text : List ℕ) → ⟦<Wc as Stream>⟧.due result text ≡ wc_line inv.now.args [] text }
         ensures unspent { ⟦<Wc as Stream>⟧.spent result ≡ false }
     {
-        Wc::named(Columns::of(&inv.args), Vec::new(alloc))
-    }
-
-    /// The counts of a text with a name.
-    #[tactic(auto, using(crate::proofs::ColumnLemmas::begins))]
-    fn named(columns: Columns, name: Vec<u8>) -> Wc
-        ensures due { (text : List ℕ) → ⟦<Wc as Stream>⟧.due result text ≡ counts_line columns (counts_of text) name.items }
-        ensures unspent { ⟦<Wc as Stream>⟧.spent result ≡ false }
-    {
         Wc {
-            columns,
-            name,
+            columns: Columns::of(&inv.args),
             counts: Counts::default(),
             before: SPACE,
             spent: false,
@@ -63,7 +46,7 @@ impl Wc {
 }
 
 impl Stream for Wc {
-    ghost due = { λ wc more. counts_line wc.columns (counts_behind wc.counts wc.before more) wc.name.items };
+    ghost due = { λ wc more. counts_line wc.columns (counts_behind wc.counts wc.before more) [] };
 
     ghost selects = { λ _ _. false };
 
@@ -72,22 +55,20 @@ impl Stream for Wc {
     ghost spent = { λ wc. wc.spent };
 
     /// Takes no memory, and so never answers Memory.
-    #[tactic(auto, using(crate::proofs::ColumnLemmas::feeds))]
     fn feed(&mut self, piece: &[u8], out: &mut Vec<u8>) -> Result<(), Memory>
         requires { self.old.spent ≡ false }
-        ensures wrote { Wrote (λ more. counts_line self.old.columns (counts_behind self.old.counts self.old.before (piece.now ++ more)) self.old.name.items)
-            (λ more. counts_line self.new.columns (counts_behind self.new.counts self.new.before more) self.new.name.items) out.old.items out.new.items (is_ok result) }
+        ensures wrote { Wrote (λ more. counts_line self.old.columns (counts_behind self.old.counts self.old.before (piece.now ++ more)) [])
+            (λ more. counts_line self.new.columns (counts_behind self.new.counts self.new.before more) []) out.old.items out.new.items (is_ok result) }
         ensures selects { OnOk result (List ℕ → false ≡ false) }
         ensures spent { self.new.spent ≡ not (is_ok result) }
         ensures no_memory { result ≡ Ok tt }
     {
-        self.counts = counted(self.columns, self.counts, self.before, piece);
-        self.before = last_byte(self.before, piece);
+        count_piece(self.columns, &mut self.counts, &mut self.before, piece);
         Ok(())
     }
 
     fn finish(&mut self, out: &mut Vec<u8>) -> Result<(), Memory> {
-        let finished = put_counts(self.columns, self.counts, self.name.as_slice(), out);
+        let finished = put_counts(self.columns, self.counts, &[], out);
         self.spent = finished.is_err();
         finished
     }
@@ -101,22 +82,121 @@ impl Stream for Wc {
     }
 }
 
-/// A copy of the name of its input, where it has one.
-#[tactic(auto, using(crate::proofs::ColumnLemmas::names))]
+/// The counts of each of the inputs of an invocation, and behind two operands or more the sums of all.
+#[derive(Drop)]
+pub struct WcSeries {
+    columns: Columns,
+    /// Whether a line of sums stands behind those of the inputs.
+    has_total: bool,
+    /// The sums of the inputs that have ended.
+    sums: Counts,
+    /// The names of the inputs to come, of which the first is that of the input whose turn it is.
+    labels: Labels,
+    /// The counts so far of that input, of those that are asked for.
+    counts: Counts,
+    /// The byte before what comes next of it: a space at its beginning.
+    before: u8,
+    spent: bool,
+}
+
+impl WcSeries {
+    /// The series of one invocation, from the beginning of its inputs.
+    #[tactic(auto, using(crate::proofs::SeriesLemmas::begins))]
+    pub fn new(alloc: Global, inv: &WcInv) -> Result<WcSeries, Memory>
+        ensures due { IfOk result (λ series. (texts : List (List ℕ)) → ⟦<WcSeries as Series>⟧.due series texts ≡ wc_output inv.now.args (labelled (filter is_named inv.now.args.operands) texts)) }
+        ensures selects { IfOk result (λ series. (texts : List (List ℕ)) → ⟦<WcSeries as Series>⟧.selects series texts ≡ false) }
+        ensures unspent { IfOk result (λ series. ⟦<WcSeries as Series>⟧.spent series ≡ false) }
+    {
+        let labels = Labels::of(alloc, &inv.args.operands)?;
+        Ok(WcSeries {
+            columns: Columns::of(&inv.args),
+            has_total: !has_at_most_one(&inv.args.operands),
+            sums: Counts::default(),
+            labels,
+            counts: Counts::default(),
+            before: SPACE,
+            spent: false,
+        })
+    }
+}
+
+impl Series for WcSeries {
+    ghost use Rattle.ut_groups.specs.Inner.Series.{wc_due};
+
+    ghost due = { λ series texts. wc_due series.has_total series.columns series.sums series.counts series.before series.labels texts };
+
+    ghost selects = { λ _ _. false };
+
+    ghost selected = { λ _. false };
+
+    ghost spent = { λ series. series.spent };
+
+    /// Takes no memory, and so never answers Memory.
+    fn feed(&mut self, piece: &[u8], _out: &mut Vec<u8>) -> Result<(), Memory> {
+        count_piece(self.columns, &mut self.counts, &mut self.before, piece);
+        Ok(())
+    }
+
+    fn end_input(&mut self, out: &mut Vec<u8>) -> Result<(), Memory> {
+        let ended = put_counts(self.columns, self.counts, self.labels.first(), out);
+        self.labels.pass();
+        self.sums = add_counts(self.sums, self.counts);
+        self.counts = Counts::default();
+        self.before = SPACE;
+        self.spent = ended.is_err();
+        ended
+    }
+
+    fn finish(&mut self, out: &mut Vec<u8>) -> Result<(), Memory> {
+        let finished = put_total(self.has_total, self.columns, self.sums, out);
+        self.spent = finished.is_err();
+        finished
+    }
+
+    fn has_selected(&self) -> bool {
+        false
+    }
+
+    fn is_spent(&self) -> bool {
+        self.spent
+    }
+}
+
+/// Appends the line of the sums, where there is one.
+#[tactic(auto, using(ut_streams::proofs::StreamLemmas::puts))]
+fn put_total(
+    has_total: bool,
+    columns: Columns,
+    sums: Counts,
+    out: &mut Vec<u8>,
+) -> Result<(), Memory>
+    ensures { Put (total_line has_total columns sums) out.old.items out.new.items (is_ok result) }
+{
+    if !has_total {
+        return Ok(());
+    }
+    put_counts(columns, sums, b"total", out)
+}
+
+/// A copy of the name of the one input of an invocation with at most one operand, where it has one.
 pub(crate) fn name_of(alloc: Global, args: &WcArgs) -> Result<Vec<u8>, Memory>
-    requires { is_built_wc args.now ≡ true }
     ensures { IfOk result (λ name. name.items ≡ name_in_lem args.now.operands) }
 {
-    match args.operands.as_slice() {
-        [operand] => Ok(Vec::from_slice(alloc, operand.as_slice())?),
-        _ => Ok(Vec::new(alloc)),
-    }
+    Ok(Vec::from_slice(alloc, first_name(&args.operands))?)
+}
+
+/// Counts a piece, which stands behind this byte, and keeps its last one.
+fn count_piece(columns: Columns, counts: &mut Counts, before: &mut u8, piece: &[u8])
+    ensures { (more : List ℕ) → PrintAlike columns (counts_behind counts.new before.new more) (counts_behind counts.old before.old (piece.now ++ more)) }
+{
+    *counts = counted(columns, *counts, *before, piece);
+    *before = last_byte(*before, piece);
 }
 
 /// The counts with those of a piece, which stands behind this byte: of those that are asked for.
 #[tactic(auto, using(crate::proofs::ColumnLemmas::counted))]
 fn counted(columns: Columns, counts: Counts, before: u8, piece: &[u8]) -> Counts
-    ensures { (name more : List ℕ) → counts_line columns (counts_behind result (last_behind before piece.now) more) name ≡ counts_line columns (counts_behind counts before (piece.now ++ more)) name }
+    ensures { (more : List ℕ) → PrintAlike columns (counts_behind result (last_behind before piece.now) more) (counts_behind counts before (piece.now ++ more)) }
 {
     Counts {
         lines: lines_with(columns.lines, counts.lines, piece),

@@ -10,9 +10,9 @@ use std::alloc::Global;
 use std::test::Fail;
 use ut_args::{Groups, Inv};
 use ut_groups::{
-    Columns, Counts, Kept, Named, Uniq, Wc, add_counts, add_sat, put_counts, read_counts,
+    Columns, Counts, Kept, Named, Uniq, Wc, WcSeries, add_counts, add_sat, put_counts, read_counts,
 };
-use ut_streams::{Stream, cut_behind, feed_all};
+use ut_streams::{Series, Stream, cut_behind, feed_all, feed_inputs};
 
 /// The invocation of these words, if they are one that is built.
 fn read_words(alloc: Global, words: &str) -> Result<Option<Inv>, Memory>
@@ -56,15 +56,15 @@ fn counts_are_the_same_over_every_cutting(rt: HostRuntime) -> Result<(), Fail> {
         };
         for cuts in 0..2048 {
             let pieces = cut_behind(alloc, text.as_bytes(), cuts)?;
-            let mut wc = Wc::new(alloc, &inv)?;
+            let mut wc = WcSeries::new(alloc, &inv)?;
             let mut out = Vec::new(alloc);
-            feed_all(&mut wc, pieces.as_slice(), &mut out)?;
+            feed_inputs(&mut wc, &[pieces], &mut out)?;
             assert_eq!(rt; out.as_slice(), wanted.as_bytes(), "{words}, cut {cuts}");
             assert!(rt; !wc.is_spent() && !wc.has_selected());
         }
         let text = Vec::from_slice(alloc, text.as_bytes())?;
         let mut part = Vec::new(alloc);
-        feed_all(&mut Wc::of_part(alloc, &inv), &[text], &mut part)?;
+        feed_all(&mut Wc::of_part(&inv), &[text], &mut part)?;
         for cuts in 0..64 {
             let pieces = cut_behind(alloc, part.as_slice(), cuts)?;
             let mut named = Named::new(alloc, &inv)?;
@@ -93,7 +93,7 @@ fn words_are_counted_across_blocks(rt: HostRuntime) -> Result<(), Fail> {
         text[place] = b' ';
         let mut out = Vec::new(alloc);
         feed_all(
-            &mut Wc::new(alloc, &inv)?,
+            &mut Wc::of_part(&inv),
             &[Vec::from_slice(alloc, &text)?],
             &mut out,
         )?;

@@ -38,7 +38,7 @@ fn first_lines_are_written_over_every_cutting(rt: HostRuntime) -> Result<(), Fai
             continue;
         }
         for cuts in 0..2048 {
-            let mut head = Head::new(alloc, &inv)?;
+            let mut head = Head::of(inv.args.count);
             let pieces = cut_behind(alloc, text.as_bytes(), cuts)?;
             let mut out = Vec::new(alloc);
             feed_all(&mut head, pieces.as_slice(), &mut out)?;

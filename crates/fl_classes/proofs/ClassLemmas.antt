@@ -1,6 +1,6 @@
 -- The laws of the classes.
 use Rattle.std.proofs.Common.{◌≡◌, ℕ, ◌+◌, ◌-◌, ◌||◌, ◌&&◌, Bool, true, false, not, List, [], ◌∷◌, ◌++◌, length, take, decimal, if◌then◌else◌, refl, ap, sym, ◌∙◌, subst, append-nil, length-append, arith}
-use Rattle.std.specs.List.{list_any}
+use Rattle.std.specs.List.{filter, flat_map, list_any}
 use Rattle.std.specs.Option.{unwrap_or}
 use Rattle.std.proofs.lemmas.Bool.{and_parts, cond-true, true≢false}
 use Rattle.std.proofs.Math.Seq.{take-append_seam}
@@ -12,8 +12,9 @@ use Rattle.ps_lines.specs.Numbers.{number_of}
 use Rattle.ps_lines.proofs.ClosedLemmas.{closed-append}
 use Rattle.ps_lines.proofs.LineLemmas.{lines_of_cut, is_closed-push}
 use Rattle.ps_lines.proofs.NumberLemmas.{number_of-decimal}
-use Rattle.ut_args.specs.Built.{is_built_of, is_built_grep, is_built_head, is_built_tail, is_built_uniq, is_built_wc}
+use Rattle.ut_args.specs.Built.{is_built_of, is_built_tail, is_built_uniq}
 use Rattle.ut_args.specs.Classes.{class_of, is_no_count, keeps_closed_of, of_one, origin_class, report_class}
+use Rattle.ut_args.specs.Inputs.{is_named}
 use Rattle.ut_args.specs.Strings.{keeps_newline}
 use Rattle.ut_args.specs.Invocations.{command_of}
 use Rattle.ut_args.specs.Utilities.{has_at_most_one}
@@ -36,21 +37,21 @@ use Rattle.ut_args.specs.declared.invocations.UniqInv.{UniqInv}
 use Rattle.ut_args.specs.declared.invocations.WcInv.{WcInv}
 use Rattle.ut_args.specs.declared.invocations.Inv.{Inv}
 use Rattle.ut_args.specs.declared.invocations.Inv.TheVariants as inv
-use Rattle.ut_streams.specs.Utilities.{Utility}
+use Rattle.ut_streams.specs.Utilities.{Input, Utility}
 use Rattle.ut_grep.specs.Grep.{label_in}
 use Rattle.ut_grep.specs.Patterns.{selects, written}
 use Rattle.ut_grep.proofs.UtilityLemmas.{counts-join, lines-join, nothing-joins, selects-join, written-closed, written-none}
 use Rattle.ut_bytes.specs.Tr.{tr_output}
 use Rattle.ut_slices.specs.Cut.{cut_output}
 use Rattle.ut_slices.specs.Ends.{first_lines}
-use Rattle.ut_slices.specs.Head.{headed}
+use Rattle.ut_slices.specs.Head.{head_output, headed}
 use Rattle.ut_slices.specs.Tail.{tail_by, tail_output}
 use Rattle.ut_slices.proofs.LastLemmas.{last-of-parts}
 use Rattle.ut_slices.proofs.PartLemmas.{first-of_parts}
 use Rattle.ut_groups.specs.Columns.{counts_line, counts_on}
 use Rattle.ut_groups.specs.Counting.{added, counts_of}
 use Rattle.ut_groups.specs.Uniq.{uniq_finish, uniq_joined, uniq_output, uniq_part}
-use Rattle.ut_groups.specs.Wc.{columns_of, name_in, wc_line, with_name}
+use Rattle.ut_groups.specs.Wc.{columns_of, name_in, wc_line, wc_output, with_name}
 use Rattle.ut_groups.proofs.UniqLemmas.{uniq-joins as uniq-joined, uniq-finished}
 use Rattle.ut_groups.proofs.WcLemmas.{line-named, total-none, wc-joins as wc-joined}
 use Rattle.ut_sort.specs.Order.{sorted_text}
@@ -139,12 +140,13 @@ module _ (inv : Inv) where
     unbuilt-closed = keeps never never never
 
 -- the class of an invocation with at most one operand
-of-one : (inv : Inv) (operands : List (List ℕ)) (of_single : Class) → IsOfClass of_single inv → IsOfClass (of_one operands of_single) inv
-of-one inv operands of_single is = either (has_at_most_one operands)
+of-one : (inv : Inv) (operands : List (List ℕ)) (of_single : Class) → (has_at_most_one operands ≡ true → IsOfClass of_single inv)
+    → IsOfClass (of_one operands of_single) inv
+of-one inv operands of_single is = either (has_at_most_one operands) refl
   where
-    either : (one : Bool) → IsOfClass (if one then of_single else class.N) inv
-    either true = is
-    either false = tt
+    either : (one : Bool) → has_at_most_one operands ≡ one → IsOfClass (if one then of_single else class.N) inv
+    either true few = is few
+    either false many = tt
 
 -- grep
 module _ (grep : GrepInv) where
@@ -165,12 +167,13 @@ module _ (grep : GrepInv) where
   grep-closed plain =
       keeps (inv.Grep grep) grep-writes (λ built text closed. written-closed grep.args label plain text) (λ built. written-none grep.args label plain)
 
-  by_report : (report : Report) (numbers : Bool) → grep.args.report ≡ report → grep.args.numbers ≡ numbers → IsOfClass (report_class report numbers) (inv.Grep grep)
-  by_report report.Lines true is numbered = tt
-  by_report report.Lines false is plain = stateless (inv.Grep grep) seam.Lines grep-writes (λ built. lines-join grep.args label is plain) grep-selects
-  by_report report.Count numbers is numbered = parallel (inv.Grep grep) grep-writes (λ built. counts-join grep.args label is built) grep-selects
-  by_report report.Path numbers is numbered = tt
-  by_report report.Nothing numbers is numbered =
+  by_report : (report : Report) (numbers : Bool) → grep.args.report ≡ report → grep.args.numbers ≡ numbers → has_at_most_one grep.args.operands ≡ true
+      → IsOfClass (report_class report numbers) (inv.Grep grep)
+  by_report report.Lines true is numbered few = tt
+  by_report report.Lines false is plain few = stateless (inv.Grep grep) seam.Lines grep-writes (λ built. lines-join grep.args label is plain) grep-selects
+  by_report report.Count numbers is numbered few = parallel (inv.Grep grep) grep-writes (λ built. counts-join grep.args label is few) grep-selects
+  by_report report.Path numbers is numbered few = tt
+  by_report report.Nothing numbers is numbered few =
       stateless (inv.Grep grep) seam.Lines grep-writes (λ built front back cut. nothing-joins grep.args label is front back) grep-selects
 
 -- tr
@@ -195,15 +198,15 @@ cut-keeps cut =
     keeps (inv.Cut cut) (λ built text. append-nil (cut_output cut.args text)) (λ built text closed. cut-closed cut.args text) (λ built. refl)
 
 -- head of one input
-pub head-whole : (head : HeadInv) → is_built_head head.args ≡ true → (text : List ℕ)
+head-whole : (head : HeadInv) → has_at_most_one head.args.operands ≡ true → (text : List ℕ)
     → (utility_by (command.Head head.args)).output (labelled (names_of (inv.Head head)) (text ∷ [])) ≡ first_lines head.args.count text
-head-whole head built text =
-    cond-true (has_at_most_one head.args.operands) (first_lines head.args.count text ++ []) (headed true head.args.count (labelled (names_of (inv.Head head)) (text ∷ []))) built
+head-whole head few text =
+    cond-true (has_at_most_one head.args.operands) (first_lines head.args.count text ++ []) (headed true head.args.count (labelled (names_of (inv.Head head)) (text ∷ []))) few
     ∙ append-nil (first_lines head.args.count text)
 
-head-parallel : (head : HeadInv) → IsParallel (inv.Head head)
-head-parallel head =
-    parallel (inv.Head head) (head-whole head) (λ built front back cut. first-of_parts head.args.count front back cut) (λ built front back cut. refl)
+head-parallel : (head : HeadInv) → has_at_most_one head.args.operands ≡ true → IsParallel (inv.Head head)
+head-parallel head few =
+    parallel (inv.Head head) (λ built. head-whole head few) (λ built front back cut. first-of_parts head.args.count front back cut) (λ built front back cut. refl)
 
 -- tail from the end
 tail-origin : (tail : TailInv) (from : Origin) → tail.args.part.origin ≡ from → IsOfClass (origin_class from) (inv.Tail tail)
@@ -217,15 +220,15 @@ tail-origin tail (origin.End number) is =
         (sym is) (last-of-parts tail.args.part.unit number front back cut)
 
 -- wc
-wc-whole : (wc : WcInv) → is_built_wc wc.args ≡ true → (text : List ℕ)
+wc-whole : (wc : WcInv) → has_at_most_one wc.args.operands ≡ true → (text : List ℕ)
     → (utility_by (command.Wc wc.args)).output (labelled (names_of (inv.Wc wc)) (text ∷ [])) ≡ wc_line wc.args (name_in wc.args.operands) text
-wc-whole wc built text =
-    ap (λ sums. (wc_line wc.args (name_in wc.args.operands) text ++ []) ++ sums) (total-none wc.args (labelled (names_of (inv.Wc wc)) (text ∷ [])) built)
+wc-whole wc few text =
+    ap (λ sums. (wc_line wc.args (name_in wc.args.operands) text ++ []) ++ sums) (total-none wc.args (labelled (names_of (inv.Wc wc)) (text ∷ [])) few)
     ∙ append-nil (wc_line wc.args (name_in wc.args.operands) text ++ []) ∙ append-nil (wc_line wc.args (name_in wc.args.operands) text)
 
-pub wc-parallel : (wc : WcInv) → IsParallel (inv.Wc wc)
-wc-parallel wc =
-    parallel (inv.Wc wc) (λ built text. wc-whole wc built text ∙ line-named (columns_of wc.args) (counts_of text) (name_in wc.args.operands))
+pub wc-parallel : (wc : WcInv) → has_at_most_one wc.args.operands ≡ true → IsParallel (inv.Wc wc)
+wc-parallel wc few =
+    parallel (inv.Wc wc) (λ built text. wc-whole wc few text ∙ line-named (columns_of wc.args) (counts_of text) (name_in wc.args.operands))
     (λ built. wc-joined (columns_of wc.args)) (λ built front back cut. refl)
 
 -- uniq
@@ -269,39 +272,31 @@ keeps-closed other keeps_it = unbuilt-closed other refl
 pub built-utility : (inv : Inv) → is_built_of inv ≡ true → utility_of inv ≡ utility_by (command_of inv)
 built-utility inv built = cond-true (is_built_of inv) (utility_by (command_of inv)) silent built
 
-pub grep-map : (grep : GrepInv) → is_built_grep grep.args ≡ true → (text : List ℕ) → map_of (inv.Grep grep) text ≡ written grep.args (label_in grep.args.operands) text
-grep-map grep built text = ap (λ utility. utility.part text) (built-utility (inv.Grep grep) built)
+pub grep-map : (grep : GrepInv) (text : List ℕ) → map_of (inv.Grep grep) text ≡ written grep.args (label_in grep.args.operands) text
+grep-map grep text = ap (λ utility. utility.part text) (built-utility (inv.Grep grep) refl)
 
-pub grep-selected : (grep : GrepInv) → is_built_grep grep.args ≡ true → (text : List ℕ) → selects_of (inv.Grep grep) (text ∷ []) ≡ selects grep.args text
-grep-selected grep built text =
-    ap (λ utility. utility.selects (labelled (names_of (inv.Grep grep)) (text ∷ []))) (built-utility (inv.Grep grep) built) ∙ or-none (selects grep.args text)
+pub grep-selected : (grep : GrepInv) (text : List ℕ) → selects_of (inv.Grep grep) (text ∷ []) ≡ selects grep.args text
+grep-selected grep text =
+    ap (λ utility. utility.selects (labelled (names_of (inv.Grep grep)) (text ∷ []))) (built-utility (inv.Grep grep) refl) ∙ or-none (selects grep.args text)
 
 pub tr-map : (tr : TrInv) (text : List ℕ) → map_of (inv.Tr tr) text ≡ tr_output tr.args text
 tr-map tr text = ap (λ utility. utility.part text) (built-utility (inv.Tr tr) refl)
 
-pub head-map : (head : HeadInv) → is_built_head head.args ≡ true → (text : List ℕ) → map_of (inv.Head head) text ≡ first_lines head.args.count text
-head-map head built text = ap (λ utility. utility.part text) (built-utility (inv.Head head) built)
-
-pub head-output : (head : HeadInv) → is_built_head head.args ≡ true → (text : List ℕ) → output_of (inv.Head head) (text ∷ []) ≡ first_lines head.args.count text
-head-output head built text =
-    ap (λ utility. utility.output (labelled (names_of (inv.Head head)) (text ∷ []))) (built-utility (inv.Head head) built) ∙ head-whole head built text
+pub head-map : (head : HeadInv) (text : List ℕ) → map_of (inv.Head head) text ≡ first_lines head.args.count text
+head-map head text = ap (λ utility. utility.part text) (built-utility (inv.Head head) refl)
 
 pub tail-map : (tail : TailInv) → is_built_tail tail.args ≡ true → (text : List ℕ) → map_of (inv.Tail tail) text ≡ tail_output tail.args text
 tail-map tail built text = ap (λ utility. utility.part text) (built-utility (inv.Tail tail) built)
 
-pub wc-map : (wc : WcInv) → is_built_wc wc.args ≡ true → (text : List ℕ) → map_of (inv.Wc wc) text ≡ wc_line wc.args [] text
-wc-map wc built text = ap (λ utility. utility.part text) (built-utility (inv.Wc wc) built)
+pub wc-map : (wc : WcInv) (text : List ℕ) → map_of (inv.Wc wc) text ≡ wc_line wc.args [] text
+wc-map wc text = ap (λ utility. utility.part text) (built-utility (inv.Wc wc) refl)
 
-pub wc-output : (wc : WcInv) → is_built_wc wc.args ≡ true → (text : List ℕ) → output_of (inv.Wc wc) (text ∷ []) ≡ wc_line wc.args (name_in wc.args.operands) text
-wc-output wc built text =
-    ap (λ utility. utility.output (labelled (names_of (inv.Wc wc)) (text ∷ []))) (built-utility (inv.Wc wc) built) ∙ wc-whole wc built text
-
-pub wc-joins : (wc : WcInv) → is_built_wc wc.args ≡ true → (first second : List ℕ)
+pub wc-joins : (wc : WcInv) (first second : List ℕ)
     → joined_maps (inv.Wc wc) first second ≡ counts_line (columns_of wc.args) (added (counts_on (columns_of wc.args) first) (counts_on (columns_of wc.args) second)) []
-wc-joins wc built first second = ap (λ utility. utility.aggregate first second) (built-utility (inv.Wc wc) built)
+wc-joins wc first second = ap (λ utility. utility.aggregate first second) (built-utility (inv.Wc wc) refl)
 
-pub wc-finish : (wc : WcInv) → is_built_wc wc.args ≡ true → (text : List ℕ) → finish_of (inv.Wc wc) text ≡ with_name (name_in wc.args.operands) text
-wc-finish wc built text = ap (λ utility. utility.finish text) (built-utility (inv.Wc wc) built)
+pub wc-finish : (wc : WcInv) (text : List ℕ) → finish_of (inv.Wc wc) text ≡ with_name (name_in wc.args.operands) text
+wc-finish wc text = ap (λ utility. utility.finish text) (built-utility (inv.Wc wc) refl)
 
 pub uniq-map : (uniq : UniqInv) → is_built_uniq uniq.args ≡ true → (text : List ℕ) → map_of (inv.Uniq uniq) text ≡ uniq_part uniq.args text
 uniq-map uniq built text = ap (λ utility. utility.part text) (built-utility (inv.Uniq uniq) built)
@@ -315,5 +310,31 @@ uniq-joins uniq built first second = ap (λ utility. utility.aggregate first sec
 
 pub uniq-finish : (uniq : UniqInv) → is_built_uniq uniq.args ≡ true → (text : List ℕ) → finish_of (inv.Uniq uniq) text ≡ uniq_finish uniq.args.groups text
 uniq-finish uniq built text = ap (λ utility. utility.finish text) (built-utility (inv.Uniq uniq) built)
+
+-- where nothing is selected, no input has anything that is
+none-selected : (inputs : List Input) → list_any (λ (input : Input). false) inputs ≡ false
+none-selected [] = refl
+none-selected (input ∷ inputs) = none-selected inputs
+
+-- what those of several inputs write and select
+module _ (texts : List (List ℕ)) where
+  pub grep-output : (grep : GrepInv) → output_of (inv.Grep grep) texts ≡ flat_map (λ input. written grep.args input.label input.text) (labelled (filter is_named grep.args.operands) texts)
+  grep-output one = ap (λ utility. utility.output (labelled (names_of (inv.Grep one)) texts)) (built-utility (inv.Grep one) refl)
+
+  pub grep-selects_any : (grep : GrepInv) → selects_of (inv.Grep grep) texts ≡ list_any (λ input. selects grep.args input.text) (labelled (filter is_named grep.args.operands) texts)
+  grep-selects_any one = ap (λ utility. utility.selects (labelled (names_of (inv.Grep one)) texts)) (built-utility (inv.Grep one) refl)
+
+  pub head-output : (head : HeadInv) → output_of (inv.Head head) texts ≡ head_output head.args (labelled (filter is_named head.args.operands) texts)
+  head-output one = ap (λ utility. utility.output (labelled (names_of (inv.Head one)) texts)) (built-utility (inv.Head one) refl)
+
+  pub head-selects : (head : HeadInv) → selects_of (inv.Head head) texts ≡ false
+  head-selects one =
+      ap (λ utility. utility.selects (labelled (names_of (inv.Head one)) texts)) (built-utility (inv.Head one) refl) ∙ none-selected (labelled (names_of (inv.Head one)) texts)
+
+  pub wc-output : (wc : WcInv) → output_of (inv.Wc wc) texts ≡ wc_output wc.args (labelled (filter is_named wc.args.operands) texts)
+  wc-output one = ap (λ utility. utility.output (labelled (names_of (inv.Wc one)) texts)) (built-utility (inv.Wc one) refl)
+
+  pub wc-selects : (wc : WcInv) → selects_of (inv.Wc wc) texts ≡ false
+  wc-selects one = ap (λ utility. utility.selects (labelled (names_of (inv.Wc one)) texts)) (built-utility (inv.Wc one) refl)
 
 pub ruleset class_laws = (is-of-class)

@@ -1,6 +1,6 @@
 -- The flow of a graph (own): each edge has its text by the equation of the node that gives it, taken in the order of the nodes; and what
 -- the graph leaves. No machine and no piece is in it.
-use Rattle.std.specs.Prelude.{◌≡◌, ℕ, ◌+◌, length, map, List, [], ◌∷◌, ◌++◌, Bool, true, false, if◌then◌else◌, get_or}
+use Rattle.std.specs.Prelude.{◌≡◌, ℕ, ◌+◌, length, map, List, [], ◌∷◌, ◌++◌, Bool, true, false, if◌then◌else◌, get_or, replicate}
 use Rattle.std.specs.List.{concat, flat_map, list_any}
 use Rattle.ps_lines.specs.Lines.{closing}
 use Rattle.ps_world.specs.Paths.{Components}
@@ -55,7 +55,7 @@ texts_given sources number (kind.Whole inv) outs ins = output_of inv ins ∷ []
 texts_given sources number (kind.Cat close) outs ins = (if close then joined_lines ins else concat ins) ∷ []
 texts_given sources number (kind.Agg inv) outs ins = aggregate_of inv ins ∷ []
 texts_given sources number (kind.Finish inv) outs ins = finish_of inv (only ins) ∷ []
-texts_given sources number (kind.TeeFile path mode) outs ins = only ins ∷ []
+texts_given sources number (kind.TeeFile path mode) outs ins = replicate outs (only ins)
 texts_given sources number kind.Drain outs ins = []
 texts_given sources number (kind.Sink sink) outs ins = []
 

@@ -1,5 +1,5 @@
 -- The kinds of nodes that have a machine so far (own), and as what each runs.
-use Rattle.std.specs.Prelude.{ℕ, List, Bool, true, false, ◌||◌, if◌then◌else◌}
+use Rattle.std.specs.Prelude.{ℕ, suc, List, Bool, true, false, ◌||◌, if◌then◌else◌}
 use Rattle.std.specs.List.{list_all}
 use Rattle.ut_args.specs.declared.invocations.Inv.TheVariants as inv
 use Rattle.fl_graph.specs.declared.graphs.Cell.{Cell}
@@ -11,11 +11,16 @@ abbrev pub is_sink : NodeKind → Bool
 is_sink (kind.Sink sink) = true
 is_sink other = false
 
--- all but the aggregates of other commands than wc, and nodes that write a file and hand on
+-- the node writes to the outside: a sink, or one that writes a file and hands on
+abbrev pub is_writer : NodeKind → Bool
+is_writer (kind.Sink sink) = true
+is_writer (kind.TeeFile path mode) = true
+is_writer other = false
+
+-- all but the aggregates of other commands than wc
 abbrev pub is_run : NodeKind → Bool
 is_run (kind.Agg (inv.Wc wc)) = true
 is_run (kind.Agg other) = false
-is_run (kind.TeeFile path mode) = false
 is_run other = true
 
 abbrev pub are_run : List (Cell NodeKind) → Bool
@@ -25,9 +30,9 @@ are_run cells = list_all (λ cell. is_run cell.kind) cells
 abbrev pub run_kind : NodeKind → NodeKind
 run_kind node = if is_source node || is_sink node then kind.Cat false else node
 
--- with how many ins and outs: a source has one in from outside, and a sink one out to it
+-- with how many ins and outs: a source has one in from outside, and a node that writes has an out to it before its own
 abbrev pub run_ins : NodeKind → ℕ → ℕ
 run_ins kind ins = if is_source kind then 1 else ins
 
 abbrev pub run_outs : NodeKind → ℕ → ℕ
-run_outs kind outs = if is_sink kind then 1 else outs
+run_outs kind outs = if is_writer kind then suc outs else outs

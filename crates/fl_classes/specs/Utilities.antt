@@ -1,6 +1,6 @@
 -- What an invocation writes for the texts of its inputs, and what is selected (XCU, each utility's page): by the definition of its utility,
 -- which stands in the utility's own crate, over its own record.
-use Rattle.std.specs.Prelude.{ℕ, List, [], ◌∷◌, Bool, false, drop, get_or, if◌then◌else◌}
+use Rattle.std.specs.Prelude.{ℕ, List, [], Bool, false, if◌then◌else◌}
 use Rattle.std.specs.List.{filter}
 use Rattle.ut_args.specs.Built.{is_built_of}
 use Rattle.ut_args.specs.Inputs.{is_named, operands_of}
@@ -8,7 +8,8 @@ use Rattle.ut_args.specs.Invocations.{command_of}
 use Rattle.ut_args.specs.declared.commands.Command.{Command}
 use Rattle.ut_args.specs.declared.commands.Command.TheVariants as command
 use Rattle.ut_args.specs.declared.invocations.Inv.{Inv}
-use Rattle.ut_streams.specs.Utilities.{Input, Utility, cat, each_by_itself}
+use Rattle.ut_streams.specs.Utilities.{Utility, cat, each_by_itself}
+pub use Rattle.ut_streams.specs.Utilities.{labelled}
 use Rattle.ut_grep.specs.Grep.{grep}
 use Rattle.ut_bytes.specs.Tr.{tr}
 use Rattle.ut_slices.specs.Cut.{cut}
@@ -43,11 +44,6 @@ utility_of inv = if is_built_of inv then utility_by (command_of inv) else silent
 -- one input of a command whose operands are joined before has a name that says nothing
 abbrev pub names_of : Inv → List (List ℕ)
 names_of inv = filter is_named (operands_of inv)
-
--- texts with their names, in order
-abbrev pub labelled : List (List ℕ) → List (List ℕ) → List Input
-labelled names [] = []
-labelled names (text ∷ texts) = record { label = get_or names 0 []; text = text } ∷ labelled (drop 1 names) texts
 
 -- the output of an invocation for the texts of its inputs
 abbrev pub output_of : Inv → List (List ℕ) → List ℕ

@@ -1,17 +1,13 @@
 -- Streams in machines, and what is due of a machine at its beginning.
-use Rattle.std.proofs.Common.{◌≡◌, ℕ, zero, suc, ◌+◌, ◌-◌, ◌≤◌, ◌==◌, ◌&&◌, nat_lt, List, [], ◌∷◌, ◌++◌, Bool, true, false, if◌then◌else◌, get_or, refl, ap, sym, ◌∙◌, append-nil, arith}
+use Rattle.std.proofs.Common.{◌≡◌, ℕ, zero, suc, ◌+◌, ◌-◌, ◌≤◌, ◌<◌, ◌==◌, ◌&&◌, nat_lt, List, [], ◌∷◌, ◌++◌, Bool, true, false, if◌then◌else◌, get_or, refl, ap, sym, ◌∙◌, append-nil, arith}
 use Rattle.std.specs.List.{list_all}
-use Rattle.std.proofs.lemmas.Bool.{cond-true, true≢false, and_parts, eqb-true, eq-eqb, ltb-true, lt-ltb, false_from_ne_true}
+use Rattle.std.proofs.lemmas.Bool.{cond-true, le-leb, true≢false, and_parts, eqb-true, eq-eqb, ltb-true, lt-ltb, false_from_ne_true}
 use Rattle.std.proofs.Math.Dec.{eqb-suc-zero}
 use Rattle.ps_lines.specs.Lines.{is_empty}
 use Rattle.ut_streams.proofs.StreamLemmas.{Wrote-put}
 use Rattle.ut_args.specs.Built.{is_built_of}
 use Rattle.ut_args.specs.Inputs.{counted, inputs_of, is_named, joined_inputs, separate_inputs}
 use Rattle.ut_args.specs.Utilities.{has_at_most_one}
-use Rattle.ut_args.specs.declared.commands.GrepArgs.{GrepArgs}
-use Rattle.ut_args.specs.declared.commands.WcArgs.{WcArgs}
-use Rattle.ut_args.specs.declared.invocations.UniqInv.{UniqInv}
-use Rattle.ut_args.specs.declared.invocations.WcInv.{WcInv}
 use Rattle.ut_args.specs.declared.invocations.Inv.{Inv}
 use Rattle.ut_args.specs.declared.invocations.Inv.TheVariants as inv
 use Rattle.fl_graph.specs.Kinds.{may_have, reads_one_input, runs_what_is_built}
@@ -24,17 +20,15 @@ use Rattle.fl_classes.specs.Flow.{selects}
 use Rattle.fl_classes.specs.Nodes.{Begins, given_on, texts_at}
 use Rattle.fl_classes.specs.Aggregates.{finish_of, map_of}
 use Rattle.fl_classes.specs.Utilities.{labelled, names_of, output_of, selects_of, utility_by}
-use Rattle.fl_classes.proofs.ClassLemmas.{by_built, head-whole}
+use Rattle.fl_classes.proofs.ClassLemmas.{by_built}
 use Rattle.ut_args.specs.Invocations.{command_of}
-use Rattle.ut_grep.specs.Grep.{label_in}
-use Rattle.ut_grep.specs.Patterns.{written}
 use Rattle.ut_sort.specs.Order.{sorted_text}
 use Rattle.ut_bytes.specs.Tr.{tr_output}
 use Rattle.ut_slices.specs.Cut.{cut_output}
 use Rattle.ut_slices.specs.Tail.{tail_by, tail_output}
 use Rattle.ut_slices.proofs.EndLemmas.{behind-empty}
-use Rattle.ut_groups.proofs.WcLemmas.{total-none}
-use Rattle.fl_machines.specs.Kinds.{is_utility_node, runs_utility, stream_output, stream_selects}
+use Rattle.fl_machines.specs.Kinds.{is_in_series, is_utility_node, runs_utility, stream_output, stream_selects, takes_in_order}
+use Rattle.fl_machines.specs.InSeries.{due_in_series, ports_from, selects_in_series, texts_from}
 use Rattle.fl_machines.specs.Through.{only_port}
 
 pub ruleset copied = (Wrote-put)
@@ -57,83 +51,85 @@ separate-few (operand ∷ []) few = by_name (is_named operand)
     by_name false = omega arith
 separate-few (operand ∷ another ∷ others) few = absurd (true≢false (sym few))
 
-built-few : (command : Inv) → is_built_of command ≡ true → inputs_of command ≤ 1
-built-few (inv.Cat cat) built = joined-few cat.args.operands
-built-few (inv.Grep grep) built = separate-few grep.args.operands built
-built-few (inv.Tr tr) built = omega arith
-built-few (inv.Cut cut) built = joined-few cut.args.operands
-built-few (inv.Head head) built = separate-few head.args.operands built
-built-few (inv.Tail tail) built = separate-few tail.args.operands built
-built-few (inv.Wc wc) built = separate-few wc.args.operands built
-built-few (inv.Uniq uniq) built = separate-few uniq.args.operands built
-built-few (inv.Sort sort) built = joined-few sort.args.operands
-built-few other built = absurd (true≢false (sym built))
+built-few : (command : Inv) → is_built_of command ≡ true → is_in_series command ≡ false → inputs_of command ≤ 1
+built-few (inv.Cat cat) built single = joined-few cat.args.operands
+built-few (inv.Grep grep) built single = absurd (true≢false single)
+built-few (inv.Tr tr) built single = omega arith
+built-few (inv.Cut cut) built single = joined-few cut.args.operands
+built-few (inv.Head head) built single = absurd (true≢false single)
+built-few (inv.Tail tail) built single = separate-few tail.args.operands built
+built-few (inv.Wc wc) built single = absurd (true≢false single)
+built-few (inv.Uniq uniq) built single = separate-few uniq.args.operands built
+built-few (inv.Sort sort) built single = joined-few sort.args.operands
+built-few other built single = absurd (true≢false (sym built))
 
--- the output for one input is the map but of wc, whose map has no name, and of uniq, whose map keeps counts
+-- the output for one input is the map but of uniq, whose map keeps counts, and of those that read their inputs in order
 abbrev pub whole_is_map : Inv → Bool
+whole_is_map (inv.Grep grep) = false
+whole_is_map (inv.Head head) = false
 whole_is_map (inv.Wc wc) = false
 whole_is_map (inv.Uniq uniq) = false
 whole_is_map other = true
 
-pub whole-else : (command : Inv) → ((wc : WcInv) → command ≡ inv.Wc wc → ⊥) → ((uniq : UniqInv) → command ≡ inv.Uniq uniq → ⊥) → whole_is_map command ≡ true
-whole-else (inv.Wc wc) no_wc no_uniq = absurd (no_wc wc refl)
-whole-else (inv.Uniq uniq) no_wc no_uniq = absurd (no_uniq uniq refl)
-whole-else other no_wc no_uniq = refl
-
 pub whole-is-map : (command : Inv) (text : List ℕ) → whole_is_map command ≡ true → map_of command text ≡ output_of command (text ∷ [])
-whole-is-map command text one = by_built command (λ utility. utility.part text ≡ utility.output (labelled (names_of command) (text ∷ []))) (λ built. by_command command built one) refl
+whole-is-map command text one = by_built command (λ utility. utility.part text ≡ utility.output (labelled (names_of command) (text ∷ []))) (λ built. by_command command one) refl
   where
-    by_command : (command : Inv) → is_built_of command ≡ true → whole_is_map command ≡ true
+    by_command : (command : Inv) → whole_is_map command ≡ true
         → (utility_by (command_of command)).part text ≡ (utility_by (command_of command)).output (labelled (names_of command) (text ∷ []))
-    by_command (inv.Cat cat) built one = sym (append-nil text)
-    by_command (inv.Grep grep) built one = sym (append-nil (written grep.args (label_in grep.args.operands) text))
-    by_command (inv.Tr tr) built one = sym (append-nil (tr_output tr.args text))
-    by_command (inv.Cut cut) built one = sym (append-nil (cut_output cut.args text))
-    by_command (inv.Head head) built one = sym (head-whole head built text)
-    by_command (inv.Tail tail) built one = sym (append-nil (tail_output tail.args text))
-    by_command (inv.Wc wc) built one = absurd (true≢false (sym one))
-    by_command (inv.Uniq uniq) built one = absurd (true≢false (sym one))
-    by_command (inv.Sort sort) built one = sym (append-nil (sorted_text sort.args text))
-    by_command other built one = refl
+    by_command (inv.Cat cat) one = sym (append-nil text)
+    by_command (inv.Grep grep) one = absurd (true≢false (sym one))
+    by_command (inv.Tr tr) one = sym (append-nil (tr_output tr.args text))
+    by_command (inv.Cut cut) one = sym (append-nil (cut_output cut.args text))
+    by_command (inv.Head head) one = absurd (true≢false (sym one))
+    by_command (inv.Tail tail) one = sym (append-nil (tail_output tail.args text))
+    by_command (inv.Wc wc) one = absurd (true≢false (sym one))
+    by_command (inv.Uniq uniq) one = absurd (true≢false (sym one))
+    by_command (inv.Sort sort) one = sym (append-nil (sorted_text sort.args text))
+    by_command other one = refl
 
 pub ruleset wholes = (whole-is-map)
 
--- and no other finish changes it
-pub finish-is-same : (command : Inv) (text : List ℕ) → whole_is_map command ≡ true → text ≡ finish_of command text
-finish-is-same command text one = by_built command (λ utility. text ≡ utility.finish text) (λ built. by_command command one) refl
+-- no finish changes what it is given but that of wc, which adds a name, and that of uniq, which keeps groups
+abbrev pub finish_is_same : Inv → Bool
+finish_is_same (inv.Wc wc) = false
+finish_is_same (inv.Uniq uniq) = false
+finish_is_same other = true
+
+pub finish-is-same : (command : Inv) (text : List ℕ) → finish_is_same command ≡ true → text ≡ finish_of command text
+finish-is-same command text same = by_built command (λ utility. text ≡ utility.finish text) (λ built. by_command command same) refl
   where
-    by_command : (command : Inv) → whole_is_map command ≡ true → text ≡ (utility_by (command_of command)).finish text
-    by_command (inv.Cat cat) one = refl
-    by_command (inv.Grep grep) one = refl
-    by_command (inv.Tr tr) one = refl
-    by_command (inv.Cut cut) one = refl
-    by_command (inv.Head head) one = refl
-    by_command (inv.Tail tail) one = refl
-    by_command (inv.Wc wc) one = absurd (true≢false (sym one))
-    by_command (inv.Uniq uniq) one = absurd (true≢false (sym one))
-    by_command (inv.Sort sort) one = refl
-    by_command other one = refl
+    by_command : (command : Inv) → finish_is_same command ≡ true → text ≡ (utility_by (command_of command)).finish text
+    by_command (inv.Cat cat) same = refl
+    by_command (inv.Grep grep) same = refl
+    by_command (inv.Tr tr) same = refl
+    by_command (inv.Cut cut) same = refl
+    by_command (inv.Head head) same = refl
+    by_command (inv.Tail tail) same = refl
+    by_command (inv.Wc wc) same = absurd (true≢false (sym same))
+    by_command (inv.Uniq uniq) same = absurd (true≢false (sym same))
+    by_command (inv.Sort sort) same = refl
+    by_command other same = refl
 
 pub ruleset finishes = (finish-is-same)
 
--- without an input nothing is written and selected
-nothing-from : (command : Inv) → (output_of command [] ≡ []) × (selects_of command [] ≡ false)
-nothing-from command = (
-  by_built command (λ utility. utility.output [] ≡ []) (writes command) refl,
+-- without an input nothing is written and selected, but by those that read their inputs in order
+nothing-from : (command : Inv) → is_in_series command ≡ false → (output_of command [] ≡ []) × (selects_of command [] ≡ false)
+nothing-from command single = (
+  by_built command (λ utility. utility.output [] ≡ []) (λ built. writes command single) refl,
   by_built command (λ utility. utility.selects [] ≡ false) (λ built. picks command) refl,
 )
   where
-    writes : (command : Inv) → is_built_of command ≡ true → (utility_by (command_of command)).output [] ≡ []
-    writes (inv.Cat cat) built = refl
-    writes (inv.Grep grep) built = refl
-    writes (inv.Tr tr) built = refl
-    writes (inv.Cut cut) built = refl
-    writes (inv.Head head) built = cond-true (has_at_most_one head.args.operands) [] [] built
-    writes (inv.Tail tail) built = refl
-    writes (inv.Wc wc) built = total-none wc.args [] built
-    writes (inv.Uniq uniq) built = refl
-    writes (inv.Sort sort) built = refl
-    writes other built = refl
+    writes : (command : Inv) → is_in_series command ≡ false → (utility_by (command_of command)).output [] ≡ []
+    writes (inv.Cat cat) single = refl
+    writes (inv.Grep grep) single = absurd (true≢false single)
+    writes (inv.Tr tr) single = refl
+    writes (inv.Cut cut) single = refl
+    writes (inv.Head head) single = absurd (true≢false single)
+    writes (inv.Tail tail) single = refl
+    writes (inv.Wc wc) single = absurd (true≢false single)
+    writes (inv.Uniq uniq) single = refl
+    writes (inv.Sort sort) single = refl
+    writes other single = refl
 
     picks : (command : Inv) → (utility_by (command_of command)).selects [] ≡ false
     picks (inv.Cat cat) = refl
@@ -156,16 +152,21 @@ both ins outs rest is =
 one-port : (ins outs : ℕ) → (ins ≡ 1) × (outs ≡ 1) → (ins ≤ 1) × (outs ≡ 1)
 one-port ins outs are = let one = are.0 in (omega (arith, one), are.1)
 
-ports : (kind : NodeKind) (ins outs : ℕ) → is_utility_node kind ins outs ≡ true → (ins ≤ 1) × (outs ≡ 1)
-ports (kind.Map inv) ins outs is = one-port ins outs (both ins outs (reads_one_input (kind.Map inv) && is_built_of inv) is)
-ports (kind.Finish inv) ins outs is = one-port ins outs (both ins outs (is_built_of inv) is)
-ports (kind.Whole inv) ins outs is =
+whole-ports : (inv : Inv) (ins outs : ℕ) → is_utility_node (kind.Whole inv) ins outs ≡ true → (ins ≡ inputs_of inv) × ((outs ≡ 1) × (is_built_of inv ≡ true))
+whole-ports inv ins outs is =
     let parts = and_parts ((ins == inputs_of inv) && (outs == 1)) (is_built_of inv) is in
     let own = and_parts (ins == inputs_of inv) (outs == 1) parts.0 in
-    let count = eqb-true ins (inputs_of inv) own.0 in
-    let few = built-few inv parts.1 in
-    (omega (arith, count, few), eqb-true outs 1 own.1)
-ports other ins outs is = absurd (true≢false (sym is))
+    (eqb-true ins (inputs_of inv) own.0, (eqb-true outs 1 own.1, parts.1))
+
+ports : (kind : NodeKind) (ins outs : ℕ) → is_utility_node kind ins outs ≡ true → takes_in_order kind ≡ false → (ins ≤ 1) × (outs ≡ 1)
+ports (kind.Map inv) ins outs is single = one-port ins outs (both ins outs (reads_one_input (kind.Map inv) && is_built_of inv) is)
+ports (kind.Finish inv) ins outs is single = one-port ins outs (both ins outs (is_built_of inv) is)
+ports (kind.Whole inv) ins outs is single =
+    let own = whole-ports inv ins outs is in
+    let count = own.0 in
+    let few = built-few inv own.1.1 single in
+    (omega (arith, count, few), own.1.0)
+ports other ins outs is single = absurd (true≢false (sym is))
 
 -- what it gives and selects, where it has one in and where it has none
 only-given : (text : List ℕ) (port : ℕ) → get_or (text ∷ []) port [] ≡ (if port == 0 then text else [])
@@ -185,22 +186,24 @@ either-none true text none = none
 either-none false text none = refl
 
 -- only a whole may have no in
-given-none : (kind : NodeKind) (outs : ℕ) (texts : ℕ → List ℕ) (port : ℕ) → is_utility_node kind 0 outs ≡ true → given_on kind 0 outs texts port ≡ []
-given-none (kind.Map inv) outs texts port is = absurd (let one = (both 0 outs (reads_one_input (kind.Map inv) && is_built_of inv) is).0 in omega arith)
-given-none (kind.Whole inv) outs texts port is =
-    only-given (output_of inv []) port ∙ ap (λ (text : List ℕ). if port == 0 then text else []) (nothing-from inv).0 ∙ either-none (port == 0) [] refl
-given-none (kind.Finish inv) outs texts port is = absurd (let one = (both 0 outs (is_built_of inv) is).0 in omega arith)
-given-none other outs texts port is = absurd (true≢false (sym is))
+given-none : (kind : NodeKind) (outs : ℕ) (texts : ℕ → List ℕ) (port : ℕ) → is_utility_node kind 0 outs ≡ true → takes_in_order kind ≡ false
+    → given_on kind 0 outs texts port ≡ []
+given-none (kind.Map inv) outs texts port is single = absurd (let one = (both 0 outs (reads_one_input (kind.Map inv) && is_built_of inv) is).0 in omega arith)
+given-none (kind.Whole inv) outs texts port is single =
+    only-given (output_of inv []) port ∙ ap (λ (text : List ℕ). if port == 0 then text else []) (nothing-from inv single).0 ∙ either-none (port == 0) [] refl
+given-none (kind.Finish inv) outs texts port is single = absurd (let one = (both 0 outs (is_built_of inv) is).0 in omega arith)
+given-none other outs texts port is single = absurd (true≢false (sym is))
 
 selects-some : (kind : NodeKind) (texts : ℕ → List ℕ) → stream_selects kind (texts 0) ≡ selects kind (texts_at 1 texts)
 selects-some (kind.Map inv) texts = refl
 selects-some (kind.Whole inv) texts = refl
 selects-some other texts = refl
 
-selects-none : (kind : NodeKind) (outs : ℕ) (texts : ℕ → List ℕ) → is_utility_node kind 0 outs ≡ true → selects kind (texts_at 0 texts) ≡ false
-selects-none (kind.Map inv) outs texts is = absurd (let one = (both 0 outs (reads_one_input (kind.Map inv) && is_built_of inv) is).0 in omega arith)
-selects-none (kind.Whole inv) outs texts is = (nothing-from inv).1
-selects-none other outs texts is = refl
+selects-none : (kind : NodeKind) (outs : ℕ) (texts : ℕ → List ℕ) → is_utility_node kind 0 outs ≡ true → takes_in_order kind ≡ false
+    → selects kind (texts_at 0 texts) ≡ false
+selects-none (kind.Map inv) outs texts is single = absurd (let one = (both 0 outs (reads_one_input (kind.Map inv) && is_built_of inv) is).0 in omega arith)
+selects-none (kind.Whole inv) outs texts is single = (nothing-from inv single).1
+selects-none other outs texts is single = refl
 
 -- the one port
 first-port : (port : ℕ) → (port == 0) ≡ nat_lt port 1
@@ -212,7 +215,7 @@ no-port : (port : ℕ) → false ≡ nat_lt port 0
 no-port port = sym (false_from_ne_true (nat_lt port 0) (λ here. let below = ltb-true port 0 here in absurd (omega (arith, below))))
 
 -- a machine with the stream of a node stands at the node's beginning
-module _ (kind : NodeKind) (ins outs : ℕ) (is : is_utility_node kind ins outs ≡ true) (act : Act) (taking putting broken : Bool)
+module _ (kind : NodeKind) (ins outs : ℕ) (is : is_utility_node kind ins outs ≡ true) (single : takes_in_order kind ≡ false) (act : Act) (taking putting broken : Bool)
     (due : (ℕ → List ℕ) → ℕ → List ℕ) (will : (ℕ → List ℕ) → Bool) (is_putting : putting ≡ true) (is_whole : broken ≡ false) where
   abbrev through : State
   through = record {
@@ -230,12 +233,12 @@ module _ (kind : NodeKind) (ins outs : ℕ) (is : is_utility_node kind ins outs 
   runs = (and_parts (runs_utility kind) (may_have kind ins outs && (reads_one_input kind && runs_what_is_built kind)) is).0
 
   puts-all : (port : ℕ) → only_port putting port ≡ nat_lt port outs
-  puts-all port = ap (λ (is_open : Bool). only_port is_open port) is_putting ∙ first-port port ∙ ap (nat_lt port) (sym (ports kind ins outs is).1)
+  puts-all port = ap (λ (is_open : Bool). only_port is_open port) is_putting ∙ first-port port ∙ ap (nat_lt port) (sym (ports kind ins outs is single).1)
 
   pub begins-some : (ins ≡ 0 → ⊥) → taking ≡ true → ((texts : ℕ → List ℕ) (port : ℕ) → due texts port ≡ (if port == 0 then stream_output kind (texts 0) else []))
       → ((texts : ℕ → List ℕ) → will texts ≡ stream_selects kind (texts 0)) → Begins kind ins outs through
   begins-some some is_taking owed willed =
-      let one : ins ≡ 1 = at_most ins (ports kind ins outs is).0 some in
+      let one : ins ≡ 1 = at_most ins (ports kind ins outs is single).0 some in
       record {
         takes_all = λ port. ap (λ (is_open : Bool). only_port is_open port) is_taking ∙ first-port port ∙ ap (nat_lt port) (sym one);
         puts_all = puts-all;
@@ -261,6 +264,66 @@ module _ (kind : NodeKind) (ins outs : ℕ) (is : is_utility_node kind ins outs 
         plain_ins = λ port. refl;
         plain_outs = λ port. refl;
         is_whole = is_whole;
-        owes = λ texts port. owed texts port ∙ sym (given-none kind outs texts port here) ∙ ap (λ (ins : ℕ). given_on kind ins outs texts port) (sym none);
-        may_select = λ texts. willed texts ∙ sym (selects-none kind outs texts here) ∙ ap (λ (ins : ℕ). selects kind (texts_at ins texts)) (sym none);
+        owes = λ texts port. owed texts port ∙ sym (given-none kind outs texts port here single) ∙ ap (λ (ins : ℕ). given_on kind ins outs texts port) (sym none);
+        may_select = λ texts. willed texts ∙ sym (selects-none kind outs texts here single) ∙ ap (λ (ins : ℕ). selects kind (texts_at ins texts)) (sym none);
       }
+
+-- a machine with a series stands at the beginning of a whole that takes its ins in order
+module _ (inv : Inv) (ins outs : ℕ) (is : is_utility_node (kind.Whole inv) ins outs ≡ true) (act : Act) (at own : ℕ) (putting broken : Bool)
+    (due : (ℕ → List ℕ) → ℕ → List ℕ) (will : (ℕ → List ℕ) → Bool) (is_first : at ≡ 0) (is_own : own ≡ ins) (is_putting : putting ≡ true) (is_whole : broken ≡ false) where
+  abbrev in_series : State
+  in_series = record {
+    act = act;
+    takes = ports_from at own;
+    puts = only_port putting;
+    numbered_ins = λ port. false;
+    numbered_outs = λ port. false;
+    broken = broken;
+    due = due;
+    selects = will;
+  }
+
+  pub begins-in_series : ((texts : ℕ → List ℕ) (port : ℕ) → due texts port ≡ (if port == 0 then output_of inv (texts_at ins texts) else []))
+      → ((texts : ℕ → List ℕ) → will texts ≡ selects_of inv (texts_at ins texts)) → Begins (kind.Whole inv) ins outs in_series
+  begins-in_series owed willed = record {
+    takes_all = λ port. (λ i. ports_from (is_first i) (is_own i) port) ∙ ap (λ behind. behind && nat_lt port ins) (le-leb 0 port (omega arith));
+    puts_all = λ port. ap (λ (is_open : Bool). only_port is_open port) is_putting ∙ first-port port ∙ ap (nat_lt port) (sym (whole-ports inv ins outs is).1.0);
+    plain_ins = λ port. refl;
+    plain_outs = λ port. refl;
+    is_whole = is_whole;
+    owes = λ texts port. owed texts port ∙ sym (only-given (output_of inv (texts_at ins texts)) port);
+    may_select = willed;
+  }
+
+-- what is due of a series in it, and selected, where it has an in
+no-more : (ins : ℕ) → ins - 0 ≡ ins
+no-more ins = omega arith
+
+module _ (inv : Inv) (owes : List (List ℕ) → List ℕ) (picks : List (List ℕ) → Bool) (at own ins : ℕ) (is_first : at ≡ 0) (is_own : own ≡ ins) (some : 0 < ins)
+    (texts : ℕ → List ℕ) where
+  pub owed-some : (waiting : List ℕ) (port : ℕ) → waiting ≡ [] → ((texts : List (List ℕ)) → owes texts ≡ output_of inv texts)
+      → due_in_series waiting at own owes texts port ≡ (if port == 0 then output_of inv (texts_at ins texts) else [])
+  owed-some waiting port none owed =
+      (λ i. due_in_series (none i) (is_first i) (is_own i) owes texts port)
+      ∙ ap (λ is_open. if port == 0 then (if is_open then owes (texts_from texts 0 ins) else []) else []) (lt-ltb 0 ins some)
+      ∙ ap (λ text. if port == 0 then text else []) (owed (texts_from texts 0 ins) ∙ ap (λ count. output_of inv (texts_at count texts)) (no-more ins))
+
+  pub picked-some : (picked : Bool) → ((texts : List (List ℕ)) → picks texts ≡ selects_of inv texts)
+      → selects_in_series at own picks picked texts ≡ selects_of inv (texts_at ins texts)
+  picked-some picked willed =
+      (λ i. selects_in_series (is_first i) (is_own i) picks picked texts)
+      ∙ ap (λ is_open. if is_open then picks (texts_from texts 0 ins) else picked) (lt-ltb 0 ins some)
+      ∙ willed (texts_from texts 0 ins) ∙ ap (λ count. selects_of inv (texts_at count texts)) (no-more ins)
+
+-- and where it has none
+module _ (inv : Inv) (owes : List (List ℕ) → List ℕ) (picks : List (List ℕ) → Bool) (at own ins : ℕ) (is_first : at ≡ 0) (is_own : own ≡ 0) (none : ins ≡ 0)
+    (texts : ℕ → List ℕ) where
+  pub owed-none : (waiting : List ℕ) (port : ℕ) → waiting ≡ output_of inv []
+      → due_in_series waiting at own owes texts port ≡ (if port == 0 then output_of inv (texts_at ins texts) else [])
+  owed-none waiting port owed =
+      (λ i. due_in_series waiting (is_first i) (is_own i) owes texts port) ∙ ap (λ text. if port == 0 then text else []) (append-nil waiting ∙ owed)
+      ∙ ap (λ count. if port == 0 then output_of inv (texts_at count texts) else []) (sym none)
+
+  pub picked-none : (picked : Bool) → picked ≡ selects_of inv [] → selects_in_series at own picks picked texts ≡ selects_of inv (texts_at ins texts)
+  picked-none picked willed =
+      (λ i. selects_in_series (is_first i) (is_own i) picks picked texts) ∙ willed ∙ ap (λ count. selects_of inv (texts_at count texts)) (sym none)

@@ -5,7 +5,7 @@ ghost use Rattle.fl_graph.specs.Kinds.{runs_what_is_built};
 ghost use Rattle.fl_classes.specs.Aggregates.{finish_of, map_of};
 ghost use Rattle.fl_classes.specs.Utilities.{output_of, selects_of};
 ghost use Rattle.ut_groups.specs.Uniq.{uniq_finish};
-ghost use Rattle.fl_machines.specs.Kinds.{stream_output, stream_selects};
+ghost use Rattle.fl_machines.specs.Kinds.{is_in_series, stream_output, stream_selects, takes_in_order};
 
 use crate::copies::Copy;
 use fl_graph::NodeKind;
@@ -38,7 +38,8 @@ pub enum AnyStream {
 impl AnyStream {
     /// The stream of a node that runs a utility, at the beginning of its input; a utility's stream must be built.
     pub fn of_kind(alloc: Global, kind: &NodeKind) -> Result<AnyStream, Memory>
-        requires { runs_what_is_built kind.now ≡ true }
+        requires built { runs_what_is_built kind.now ≡ true }
+        requires single { takes_in_order kind.now ≡ false }
         ensures due { IfOk result (λ stream. (text : List ℕ) → ⟦<AnyStream as Stream>⟧.due stream text ≡ stream_output kind.now text) }
         ensures selects { IfOk result (λ stream. (text : List ℕ) → ⟦<AnyStream as Stream>⟧.selects stream text ≡ stream_selects kind.now text) }
         ensures unspent { IfOk result (λ stream. ⟦<AnyStream as Stream>⟧.spent stream ≡ false) }
@@ -60,7 +61,7 @@ impl AnyStream {
     {
         match inv {
             Inv::Cat(_) => Ok(AnyStream::Copy(Copy::new())),
-            Inv::Grep(grep) => match Grep::of_one(alloc, grep) {
+            Inv::Grep(grep) => match Grep::of_part(alloc, grep) {
                 Ok(grep) => Ok(AnyStream::Grep(grep)),
                 Err(memory) => Err(memory),
             },
@@ -77,7 +78,7 @@ impl AnyStream {
                 Ok(tail) => Ok(AnyStream::Tail(tail)),
                 Err(memory) => Err(memory),
             },
-            Inv::Wc(wc) => Ok(AnyStream::Wc(Wc::of_part(alloc, wc))),
+            Inv::Wc(wc) => Ok(AnyStream::Wc(Wc::of_part(wc))),
             Inv::Uniq(uniq) => Ok(AnyStream::Uniq(Uniq::of_part(alloc, uniq))),
             Inv::Sort(sort) => match Sorter::new(alloc, sort) {
                 Ok(sorter) => Ok(AnyStream::Sort(sorter)),
@@ -87,20 +88,20 @@ impl AnyStream {
         }
     }
 
-    /// The stream of an invocation that is built: the output of most is their map.
+    /// The stream of an invocation that is built and whose inputs are read as one: the output of most is their map.
     #[tactic(auto, using(crate::proofs::MachineLemmas::wholes))]
     fn of_whole(alloc: Global, inv: &Inv) -> Result<AnyStream, Memory>
-        requires { is_built_of inv.now ≡ true }
+        requires built { is_built_of inv.now ≡ true }
+        requires single { is_in_series inv.now ≡ false }
         ensures due { IfOk result (λ stream. (text : List ℕ) → ⟦<AnyStream as Stream>⟧.due stream text ≡ output_of inv.now (text ∷ [])) }
         ensures selects { IfOk result (λ stream. (text : List ℕ) → ⟦<AnyStream as Stream>⟧.selects stream text ≡ selects_of inv.now (text ∷ [])) }
         ensures unspent { IfOk result (λ stream. ⟦<AnyStream as Stream>⟧.spent stream ≡ false) }
     {
         match inv {
-            Inv::Wc(wc) => match Wc::new(alloc, wc) {
-                Ok(wc) => Ok(AnyStream::Wc(wc)),
-                Err(memory) => Err(memory),
-            },
             Inv::Uniq(uniq) => Ok(AnyStream::Uniq(Uniq::new(alloc, uniq))),
+            Inv::Grep(_) => unreachable!(),
+            Inv::Head(_) => unreachable!(),
+            Inv::Wc(_) => unreachable!(),
             _ => AnyStream::of_map(alloc, inv),
         }
     }

@@ -4,13 +4,17 @@
 //! the machine owes at its beginning is the node's equation, `fl_classes`' word.
 #![tactic(auto)]
 
+mod any_series;
 mod any_stream;
 mod copies;
+mod in_series;
 mod kinds;
 mod machines;
 mod through;
 
+pub use any_series::AnySeries;
 pub use any_stream::AnyStream;
+pub use in_series::InSeries;
 pub use kinds::is_utility_node;
 pub use machines::{UtilMachine, util_machine};
 pub use through::Through;

@@ -4,4 +4,5 @@ pub mod FrontLemmas
 pub mod SumLemmas
 pub mod PartLemmas
 pub mod SplitLemmas
+pub mod TeeLemmas
 pub mod MakerLemmas

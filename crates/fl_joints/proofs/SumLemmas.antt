@@ -3,7 +3,6 @@ use Rattle.std.proofs.Common.{◌≡◌, ℕ, zero, suc, ◌+◌, ◌-◌, ◌^�
 use Rattle.std.proofs.lemmas.Bool.{cases_lt, cond-true, lt-ltb, ltb-true, true≢false}
 use Rattle.std.specs.List.{join_with_byte, range_with_len}
 use Rattle.std.proofs.lemmas.List.{length-take-le}
-use Rattle.ut_args.specs.Built.{is_built_wc}
 use Rattle.ut_args.specs.declared.WcInv.{WcInv}
 use Rattle.ut_args.specs.declared.invocations.Inv.TheVariants as inv
 use Rattle.ut_groups.specs.declared.Columns.{Columns}
@@ -158,24 +157,24 @@ sum-again columns sum one more =
     one-again : (is_asked : Bool) (sum one more : ℕ) → is_asked ≡ true → saturated ((if_asked is_asked sum + one) + more) ≡ saturated (sum + (one + more))
     one-again is_asked sum one more is = ap (λ is_asked. saturated ((if_asked is_asked sum + one) + more)) is ∙ omega arith
 
-aggregate-counts : (wc : WcInv) → is_built_wc wc.args ≡ true → (texts : ℕ → List ℕ) (sum : Counts) (from count : ℕ)
+aggregate-counts : (wc : WcInv) (texts : ℕ → List ℕ) (sum : Counts) (from count : ℕ)
     → aggregate_from (inv.Wc wc) (counts_line (columns_of wc.args) sum []) (map texts (range_with_len from count))
     ≡ counts_line (columns_of wc.args) (added sum (counts_from (columns_of wc.args) [] texts from count)) []
-aggregate-counts wc built texts sum from zero =
+aggregate-counts wc texts sum from zero =
     line-alike (columns_of wc.args) sum (added sum no_counts) [] (λ is. omega arith) (λ is. omega arith) (λ is. omega arith)
-aggregate-counts wc built texts sum from (suc count) =
+aggregate-counts wc texts sum from (suc count) =
     let columns : Columns = columns_of wc.args in
-    ap (λ first. aggregate_from (inv.Wc wc) first (map texts (range_with_len (from + 1) count))) (wc-joins wc built (counts_line columns sum []) (texts from))
-    ∙ aggregate-counts wc built texts (added (counts_on columns (counts_line columns sum [])) (counts_on columns (texts from))) (from + 1) count
+    ap (λ first. aggregate_from (inv.Wc wc) first (map texts (range_with_len (from + 1) count))) (wc-joins wc (counts_line columns sum []) (texts from))
+    ∙ aggregate-counts wc texts (added (counts_on columns (counts_line columns sum [])) (counts_on columns (texts from))) (from + 1) count
     ∙ ap (λ first. counts_line columns (added (added first (counts_on columns (texts from))) (counts_from columns [] texts (from + 1) count)) []) (counts_on-line columns sum)
     ∙ sum-again columns sum (counts_on columns (texts from)) (counts_from columns [] texts (from + 1) count)
 
-pub counts-given : (wc : WcInv) → is_built_wc wc.args ≡ true → (texts : ℕ → List ℕ) (columns : Columns) (come : List ℕ) (sum : Counts) (at ins port : ℕ) → 2 ≤ ins
+pub counts-given : (wc : WcInv) (texts : ℕ → List ℕ) (columns : Columns) (come : List ℕ) (sum : Counts) (at ins port : ℕ) → 2 ≤ ins
     → columns ≡ columns_of wc.args → come ≡ [] → sum ≡ no_counts → at ≡ 0
     → (if port == 0 then counts_line columns (added sum (counts_from columns come texts at (ins - at))) [] else []) ≡ get_or (aggregate_of (inv.Wc wc) (texts_at ins texts) ∷ []) port []
-counts-given wc built texts columns come sum at zero port some _ _ _ _ = absurd (omega arith)
-counts-given wc built texts columns come sum at (suc zero) port some _ _ _ _ = absurd (omega arith)
-counts-given wc built texts columns come sum at (suc (suc ins)) port some own none nothing first =
+counts-given wc texts columns come sum at zero port some _ _ _ _ = absurd (omega arith)
+counts-given wc texts columns come sum at (suc zero) port some _ _ _ _ = absurd (omega arith)
+counts-given wc texts columns come sum at (suc (suc ins)) port some own none nothing first =
     let all : suc (suc ins) - 0 ≡ suc (suc ins) = omega arith in
     let of : Columns = columns_of wc.args in
     ap (λ columns. if port == 0 then counts_line columns (added sum (counts_from columns come texts at (suc (suc ins) - at))) [] else []) own
@@ -186,6 +185,6 @@ counts-given wc built texts columns come sum at (suc (suc ins)) port some own no
     ∙ ap (λ text. if port == 0 then text else [])
     (line-alike of (added no_counts (counts_from of [] texts 0 (suc (suc ins)))) (added (added (counts_on of (texts 0)) (counts_on of (texts (0 + 1)))) (counts_from of [] texts ((0 + 1) + 1) ins)) []
     (λ is. omega arith) (λ is. omega arith) (λ is. omega arith)
-    ∙ sym (aggregate-counts wc built texts (added (counts_on of (texts 0)) (counts_on of (texts (0 + 1)))) ((0 + 1) + 1) ins)
-    ∙ sym (ap (λ first. aggregate_from (inv.Wc wc) first (map texts (range_with_len ((0 + 1) + 1) ins))) (wc-joins wc built (texts 0) (texts (0 + 1)))))
+    ∙ sym (aggregate-counts wc texts (added (counts_on of (texts 0)) (counts_on of (texts (0 + 1)))) ((0 + 1) + 1) ins)
+    ∙ sym (ap (λ first. aggregate_from (inv.Wc wc) first (map texts (range_with_len ((0 + 1) + 1) ins))) (wc-joins wc (texts 0) (texts (0 + 1)))))
     ∙ sym (get_or-one (aggregate_of (inv.Wc wc) (texts_at (suc (suc ins)) texts)) port)

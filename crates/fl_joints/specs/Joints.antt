@@ -18,6 +18,7 @@ is_joint kind.Drain = true
 is_joint kind.Split = true
 is_joint (kind.Text text) = true
 is_joint (kind.Agg (inv.Wc wc)) = true
+is_joint (kind.TeeFile path mode) = true
 is_joint other = false
 
 -- the texts at so many ports from one on, joined
@@ -49,3 +50,7 @@ counts_from columns come texts port (suc count) = added (counts_on columns (come
 abbrev pub parts_left : List ℕ → ℕ → ℕ → ℕ → ℕ → ℕ → List ℕ
 parts_left text parts part given end other =
     if nat_lt part other then get_or (parts_of text parts) other [] else if other == part then slice text given end else []
+
+-- what is left for an out, of so many, of a text that each of them gets: outs with lower numbers than the first have the piece that is held
+abbrev pub left_for : ℕ → ℕ → List ℕ → List ℕ → ℕ → List ℕ
+left_for outs first held rest out = if nat_lt out outs then (if nat_lt out first then rest else held ++ rest) else []

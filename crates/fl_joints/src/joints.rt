@@ -4,6 +4,7 @@ use crate::fixed::Fixed;
 use crate::in_order::InOrder;
 use crate::splits::Split;
 use crate::sums::CountSum;
+use crate::tees::Tee;
 use fl_graph::{Act, Machine, Piece};
 use ps_lines::Memory;
 
@@ -18,6 +19,8 @@ pub enum Joint {
     CountSum(CountSum),
     /// An input in parts.
     Split(Split),
+    /// An input that several outs get.
+    Tee(Tee),
 }
 
 impl Machine for Joint {
@@ -28,6 +31,7 @@ impl Machine for Joint {
       | variant.Fixed machine ↦ ⟦<Fixed as Machine>⟧.state machine
       | variant.CountSum machine ↦ ⟦<CountSum as Machine>⟧.state machine
       | variant.Split machine ↦ ⟦<Split as Machine>⟧.state machine
+      | variant.Tee machine ↦ ⟦<Tee as Machine>⟧.state machine
     ] };
 
     fn next(&self) -> Act {
@@ -36,6 +40,7 @@ impl Machine for Joint {
             Joint::Fixed(machine) => machine.next(),
             Joint::CountSum(machine) => machine.next(),
             Joint::Split(machine) => machine.next(),
+            Joint::Tee(machine) => machine.next(),
         }
     }
 
@@ -45,6 +50,7 @@ impl Machine for Joint {
             Joint::Fixed(machine) => machine.take(piece),
             Joint::CountSum(machine) => machine.take(piece),
             Joint::Split(machine) => machine.take(piece),
+            Joint::Tee(machine) => machine.take(piece),
         }
     }
 
@@ -54,6 +60,7 @@ impl Machine for Joint {
             Joint::Fixed(machine) => machine.put(),
             Joint::CountSum(machine) => machine.put(),
             Joint::Split(machine) => machine.put(),
+            Joint::Tee(machine) => machine.put(),
         }
     }
 
@@ -63,6 +70,7 @@ impl Machine for Joint {
             Joint::Fixed(machine) => machine.break_off(),
             Joint::CountSum(machine) => machine.break_off(),
             Joint::Split(machine) => machine.break_off(),
+            Joint::Tee(machine) => machine.break_off(),
         }
     }
 
@@ -72,6 +80,7 @@ impl Machine for Joint {
             Joint::Fixed(machine) => machine.selected(),
             Joint::CountSum(machine) => machine.selected(),
             Joint::Split(machine) => machine.selected(),
+            Joint::Tee(machine) => machine.selected(),
         }
     }
 }

@@ -1,29 +1,31 @@
--- What is found among the nodes of a stage, part by part: the inputs', the utility's, and those where its output goes.
-use Rattle.std.proofs.Common.{◌≡◌, ℕ, zero, suc, ◌+◌, ◌≤◌, ◌==◌, List, [], ◌∷◌, ◌++◌, Bool, true, false, ◌&&◌, ◌||◌, not, Option, None, if◌then◌else◌, length, nat_lt, refl, ap, sym, subst, ◌∙◌, append-nil, arith}
-use Rattle.std.specs.List.{range_with_len, list_all, list_any, count_by, filter_map, flat_map, cons_option}
+-- What is gathered over the nodes of a segment, by the kind of each and the number of its ins: tests, paths, ends and words.
+use Rattle.std.proofs.Common.{◌≡◌, ℕ, suc, ◌+◌, ◌≤◌, ◌==◌, List, [], ◌∷◌, ◌++◌, Bool, true, false, ◌&&◌, ◌||◌, not, Option, Some, None, if◌then◌else◌, length, nat_lt, replicate, refl, ap, sym, ◌∙◌, append-nil, append_assoc, arith}
+use Rattle.std.specs.List.{list_all, list_any, count_by, filter_map, flat_map, cons_option}
 use Rattle.std.proofs.lemmas.Bool.{and_from, and_parts, lt-ltb, ltb-true, ne_eqb}
-use Rattle.std.proofs.lemmas.Grind.{flat_map-append}
-use Rattle.std.proofs.lemmas.List.FromFn.{length-range_with_len}
-use Rattle.std.proofs.lemmas.List.Folds.{list_all-append, list_any-append}
-use Rattle.std.proofs.lemmas.List.Elements.{filter_map-append}
-use Rattle.std.proofs.lemmas.List.Sums.{sum_by-append, sum_by-cons}
+use Rattle.std.proofs.lemmas.List.Sums.{sum_by-cons}
 use Rattle.ps_lines.specs.Lines.{is_empty}
 use Rattle.ps_world.specs.Paths.{Components}
+use Rattle.ut_args.specs.Built.{is_built_of}
+use Rattle.ut_args.specs.Classes.{class_of}
 use Rattle.ut_args.specs.Inputs.{inputs_of}
 use Rattle.ut_args.specs.Invocations.{words_of}
 use Rattle.ut_args.specs.declared.invocations.Inv.{Inv}
-use Rattle.fl_graph.specs.Kinds.{is_input, is_output}
-use Rattle.fl_graph.proofs.ListLemmas.{and-true}
-use Rattle.fl_classes.proofs.ClassLemmas.{or-none}
+use Rattle.fl_graph.specs.Kinds.{has_map, is_input, is_output}
 use Rattle.fl_graph.specs.Paths.{path_read, path_written}
 use Rattle.fl_graph.specs.declared.kinds.NodeKind.{NodeKind}
 use Rattle.fl_graph.specs.declared.kinds.NodeKind.TheVariants as kind
+use Rattle.fl_graph.specs.declared.kinds.From.{From}
+use Rattle.fl_graph.specs.declared.kinds.From.TheVariants as from
 use Rattle.fl_graph.specs.declared.kinds.To.{To}
 use Rattle.fl_graph.specs.declared.kinds.To.TheVariants as to
+use Rattle.fl_graph.proofs.ListLemmas.{and-true}
 use Rattle.fl_classes.specs.Used.{is_cat, words_by as words_of_node, words_with}
-use Rattle.fl_segments.specs.Stages.{closes_before, file_in, file_out, goes_on, ins_of, ins_read, is_shell_input, is_stream, joins_before, read_of}
+use Rattle.fl_classes.proofs.ClassLemmas.{or-none}
+use Rattle.fl_segments.specs.Stages.{closes_before, file_in, file_out, files_read, files_written, gives_output, goes_on, ins_of, ins_read, is_none, is_reader, is_shell_input, is_stage, is_stream, joins_before, read_of, reads_stream, words_at, words_by}
 use Rattle.fl_segments.specs.Inner.Drawing.{Step, step, behind}
-use Rattle.fl_segments.specs.Inner.Steps.{does_edge, does_steps, first_edge, first_steps, in_steps, is_joined, join_steps, joined_edges, kind_in, out_steps, piped_steps, stage_steps, util_steps}
+use Rattle.fl_segments.specs.Inner.Steps.{begins, chain_steps, comes_behind, comes_on, does_steps, done_edge, done_next, done_steps, drain_steps, earlier_steps, first_steps, front_edges, front_steps, in_edges, in_steps, input_steps, is_joined, is_leading_cat, join_steps, joined_edges, kind_first, kind_in, main_edge, main_next, main_steps, on_steps, out_steps, piped_steps, read_edges, read_steps, stream_steps, util_steps}
+use Rattle.fl_segments.specs.declared.inputs.Coming.{Coming}
+use Rattle.fl_segments.specs.declared.inputs.Coming.TheVariants as coming
 use Rattle.fl_segments.specs.declared.stages.Does.{Does}
 use Rattle.fl_segments.specs.declared.stages.Does.TheVariants as does
 use Rattle.fl_segments.specs.declared.stages.First.{First}
@@ -33,491 +35,862 @@ use Rattle.fl_segments.specs.declared.stages.In.TheVariants as inlet
 use Rattle.fl_segments.specs.declared.stages.Out.{Out}
 use Rattle.fl_segments.specs.declared.stages.Out.TheVariants as out
 use Rattle.fl_segments.specs.declared.stages.Stage.{Stage}
+use Rattle.fl_segments.proofs.FitLemmas.{Fits, few-streams, no-tees, parts-of}
 
--- the edge with all that is written, and the number of the next edge there
-abbrev pub next_main : First → Stage → ℕ
-next_main begin stage = behind 0 (does_steps stage.does begin stage.ins stage.first)
+-- HOW MANY EDGES A UTILITY TAKES
+pub edges-count : (number : ℕ) (comes : Coming) (ins : List In) (next : ℕ) → length (in_edges number comes ins next) ≡ length ins
+edges-count number comes [] next = refl
+edges-count number comes (it ∷ ins) next = ap (λ (size : ℕ). suc size) (edges-count number comes ins (behind next (input_steps number (kind_in comes it))))
 
-abbrev pub main_edge : Stage → ℕ
-main_edge stage = does_edge stage.does stage.ins
-
-abbrev pub out_edge : First → Stage → ℕ
-out_edge begin stage = first_edge stage.does stage.first (main_edge stage) (next_main begin stage)
-
-abbrev pub out_next : First → Stage → ℕ
-out_next begin stage = behind (next_main begin stage) (first_steps stage.does stage.first (main_edge stage) (next_main begin stage))
-
--- a value that is gathered over the nodes, to which those that join texts or give one add nothing
-pub record Gathers {Found : Type 0} (none : Found) (both : Found → Found → Found) (fold : List Step → Found) : Type 0 where
-  pub left : (it : Found) → both none it ≡ it
-  pub right : (it : Found) → both it none ≡ it
-  pub nothing : fold [] ≡ none
-  pub append : (front back : List Step) → fold (front ++ back) ≡ both (fold front) (fold back)
-  pub of_text : (text : List ℕ) → fold (step (kind.Text text) [] 0 ∷ []) ≡ none
-  pub of_join : (inv : Inv) (size : ℕ) → is_joined inv size ≡ true → fold (step (kind.Cat (closes_before inv)) (range_with_len 0 size) 0 ∷ []) ≡ none
-  pub of_both : (one other : ℕ) → fold (step (kind.Cat false) (one ∷ other ∷ []) 0 ∷ []) ≡ none
-
-module _ {Found : Type 0} (none : Found) (both : Found → Found → Found) (fold : List Step → Found) (gathers : Gathers none both fold) where
-  join-none : (inv : Inv) (size : ℕ) → fold (join_steps inv size) ≡ none
-  join-none inv size = by_test (is_joined inv size) refl
-    where
-      by_test : (joined : Bool) → is_joined inv size ≡ joined → fold (if joined then step (kind.Cat (closes_before inv)) (range_with_len 0 size) 0 ∷ [] else []) ≡ none
-      by_test true is = gathers.of_join inv size is
-      by_test false is = gathers.nothing
-
-  first-none : (it : Does) (text : List ℕ) (edge next : ℕ) → fold (first_steps it text edge next) ≡ none
-  first-none does.Skip text edge next = gathers.nothing
-  first-none (does.Util inv) text edge next = by_test (is_empty text)
-    where
-      by_test : (empty : Bool) → fold (if empty then [] else step (kind.Text text) [] 0 ∷ step (kind.Cat false) (next ∷ edge ∷ []) 0 ∷ []) ≡ none
-      by_test true = gathers.nothing
-      by_test false =
-          gathers.append (step (kind.Text text) [] 0 ∷ []) (step (kind.Cat false) (next ∷ edge ∷ []) 0 ∷ [])
-          ∙ ap (λ (it : Found). both it (fold (step (kind.Cat false) (next ∷ edge ∷ []) 0 ∷ []))) (gathers.of_text text)
-          ∙ gathers.left (fold (step (kind.Cat false) (next ∷ edge ∷ []) 0 ∷ [])) ∙ gathers.of_both next edge
-
-  -- what the utility's own node adds
-  abbrev pub of_whole : Inv → ℕ → Found
-  of_whole inv size = if is_cat inv then none else fold (step (kind.Whole inv) (joined_edges inv size) 0 ∷ [])
-
-  abbrev pub of_does : Does → ℕ → Found
-  of_does does.Skip size = none
-  of_does (does.Util inv) size = of_whole inv size
-
-  util-fold : (inv : Inv) (size : ℕ) → fold (util_steps inv size) ≡ of_whole inv size
-  util-fold inv size = by_test (is_cat inv)
-    where
-      by_none : (empty : Bool) → fold (if empty then step (kind.Text []) [] 0 ∷ [] else []) ≡ none
-      by_none true = gathers.of_text []
-      by_none false = gathers.nothing
-
-      by_test : (cat : Bool) → fold (if cat then (if size == 0 then step (kind.Text []) [] 0 ∷ [] else []) else step (kind.Whole inv) (joined_edges inv size) 0 ∷ [])
-          ≡ (if cat then none else fold (step (kind.Whole inv) (joined_edges inv size) 0 ∷ []))
-      by_test true = by_none (size == 0)
-      by_test false = refl
-
-  does-fold : (it : Does) (begin : First) (ins : List In) (text : List ℕ) → fold (does_steps it begin ins text) ≡ both (fold (in_steps begin (ins_read it ins))) (of_does it (length ins))
-  does-fold does.Skip begin ins text = gathers.of_text text ∙ sym (gathers.right none) ∙ ap (λ (it : Found). both it none) (sym gathers.nothing)
-  does-fold (does.Util inv) begin ins text =
-      let size : ℕ = length ins in
-      gathers.append (in_steps begin ins) (join_steps inv size ++ util_steps inv size)
-      ∙ ap (both (fold (in_steps begin ins)))
-      (gathers.append (join_steps inv size) (util_steps inv size) ∙ ap (λ (it : Found). both it (fold (util_steps inv size))) (join-none inv size)
-      ∙ gathers.left (fold (util_steps inv size)) ∙ util-fold inv size)
-
-  pub stage-fold : (begin : First) (stage : Stage) → fold (stage_steps begin stage)
-      ≡ both (both (fold (in_steps begin (ins_of stage))) (of_does stage.does (length stage.ins))) (fold (out_steps stage.out stage.piped (out_edge begin stage) (out_next begin stage)))
-  stage-fold begin stage =
-      let main : List Step = does_steps stage.does begin stage.ins stage.first in
-      let firsts : List Step = first_steps stage.does stage.first (main_edge stage) (next_main begin stage) in
-      let outs : List Step = out_steps stage.out stage.piped (out_edge begin stage) (out_next begin stage) in
-      gathers.append main (firsts ++ outs)
-      ∙ ap (λ (it : Found). both it (fold (firsts ++ outs))) (does-fold stage.does begin stage.ins stage.first)
-      ∙ ap (both (both (fold (in_steps begin (ins_of stage))) (of_does stage.does (length stage.ins))))
-      (gathers.append firsts outs ∙ ap (λ (it : Found). both it (fold outs)) (first-none stage.does stage.first (main_edge stage) (next_main begin stage)) ∙ gathers.left (fold outs))
-
--- how many edges the utility takes
-pub joined-count : (inv : Inv) (size : ℕ) → length (joined_edges inv size) ≡ read_of inv size
-joined-count inv size = by_test (joins_before inv) refl size
+joined-count : (inv : Inv) (edges : List ℕ) (next : ℕ) → length (joined_edges inv edges next) ≡ read_of inv (length edges)
+joined-count inv edges next = by_test (joins_before inv) edges
   where
-    by_test : (joins : Bool) → joins_before inv ≡ joins → (size : ℕ)
-        → length (if (joins && nat_lt 1 size) then size ∷ [] else range_with_len 0 size) ≡ (if joins then (if size == 0 then 0 else 1) else size)
-    by_test false is size = length-range_with_len 0 size
-    by_test true is zero = refl
-    by_test true is (suc zero) = refl
-    by_test true is (suc (suc size)) =
-        let many : nat_lt 1 (suc (suc size)) ≡ true = lt-ltb 1 (suc (suc size)) (omega arith) in
-        let some : (suc (suc size) == 0) ≡ false = ne_eqb (suc (suc size)) 0 (λ same. omega (arith, same)) in
-        ap (λ (test : Bool). length (if test then suc (suc size) ∷ [] else range_with_len 0 (suc (suc size)))) many ∙ sym (ap (λ (test : Bool). if test then 0 else 1) some)
+    by_test : (joins : Bool) (edges : List ℕ) → length (if (joins && nat_lt 1 (length edges)) then next ∷ [] else edges) ≡ (if joins then (if length edges == 0 then 0 else 1) else length edges)
+    by_test false edges = refl
+    by_test true [] = refl
+    by_test true (edge ∷ []) = refl
+    by_test true (edge ∷ other ∷ edges) =
+        let many : nat_lt 1 (length (edge ∷ other ∷ edges)) ≡ true = lt-ltb 1 (length (edge ∷ other ∷ edges)) (omega arith) in
+        let some : (length (edge ∷ other ∷ edges) == 0) ≡ false = ne_eqb (length (edge ∷ other ∷ edges)) 0 (λ same. omega (arith, same)) in
+        ap (λ (joined : Bool). length (if joined then next ∷ [] else edge ∷ other ∷ edges)) many ∙ sym (ap (λ (none : Bool). if none then 0 else 1) some)
+
+-- so many texts a stage reads
+abbrev pub read_count : Does → ℕ → ℕ
+read_count does.Skip count = 0
+read_count (does.Util inv) count = read_of inv count
+
+pub front-count : (number : ℕ) (comes : Coming) (it : Does) (ins : List In) (next : ℕ) → length (read_edges number comes it ins next) ≡ read_count it (length ins)
+front-count number comes does.Skip ins next = refl
+front-count number comes (does.Util inv) ins next =
+    joined-count inv (in_edges number comes ins next) (behind next (in_steps number comes ins)) ∙ ap (read_of inv) (edges-count number comes ins next)
+
+-- a later stage isn't the first
+begins-none : (it : Out) (reads : Bool) (edge next : ℕ) → begins (comes_on it reads edge next) ≡ false
+begins-none out.Next reads edge next = refl
+begins-none (out.File path mode) true edge next = refl
+begins-none (out.File path mode) false edge next = refl
+begins-none out.Null true edge next = refl
+begins-none out.Null false edge next = refl
+
+-- WHAT IS GATHERED
+module _ {Found : Type 0} (none : Found) (both : Found → Found → Found) (value : NodeKind → ℕ → Found) where
+  abbrev pub gathered : List Step → Found
+  gathered [] = none
+  gathered (it ∷ steps) = both (value it.kind (length it.ins)) (gathered steps)
+
+  -- texts, what joins them and what lets them go add nothing
+  pub record Gathers : Type 0 where
+    pub left : (it : Found) → both none it ≡ it
+    pub right : (it : Found) → both it none ≡ it
+    pub assoc : (one two three : Found) → both (both one two) three ≡ both one (both two three)
+    pub of_text : (text : List ℕ) → value (kind.Text text) 0 ≡ none
+    pub of_cat : (close : Bool) (count : ℕ) → 1 ≤ count → value (kind.Cat close) count ≡ none
+    pub of_drain : value kind.Drain 1 ≡ none
+
+  -- what a segment adds, stage by stage, where the first one's stream adds this
+  abbrev pub first_value : First → Found
+  first_value first.Input = value (kind.Source from.Input) 0
+  first_value (first.Text text) = none
+
+  abbrev pub stream_value : Coming → Found
+  stream_value (coming.Begins begin) = first_value begin.now
+  stream_value (coming.On edge) = none
+  stream_value coming.Nothing = none
+
+  abbrev pub in_value : Found → In → Found
+  in_value stream inlet.Stream = stream
+  in_value stream (inlet.File path closed) = value (kind.Source (from.File path)) 0
+  in_value stream inlet.Empty = none
+
+  abbrev pub ins_value : Found → List In → Found
+  ins_value stream [] = none
+  ins_value stream (it ∷ ins) = both (in_value stream it) (ins_value stream ins)
+
+  abbrev pub util_value : Bool → Does → ℕ → Found
+  util_value leads does.Skip count = none
+  util_value leads (does.Util inv) count = if is_leading_cat leads inv then none else value (kind.Whole inv) count
+
+  abbrev pub file_value : Out → Found
+  file_value out.Next = none
+  file_value (out.File path mode) = value (kind.Sink (to.File path mode)) 1
+  file_value out.Null = none
+
+  abbrev pub goes_value : Out → List ℕ → Found
+  goes_value it piped = if goes_on it piped then value (kind.Sink to.Output) 1 else none
+
+  abbrev pub main_value : Found → Bool → Stage → Found
+  main_value stream leads stage = both (ins_value stream (ins_of stage)) (util_value leads stage.does (read_count stage.does (length stage.ins)))
+
+  abbrev pub chain_value : Found → Bool → List Stage → Found
+  chain_value stream leads [] = none
+  chain_value stream leads (stage ∷ []) = both (main_value stream leads stage) (both (file_value stage.out) (goes_value stage.out stage.piped))
+  chain_value stream leads (stage ∷ following ∷ stages) = both (both (main_value stream leads stage) (file_value stage.out)) (chain_value none false (following ∷ stages))
+
+  module _ (gathers : Gathers) where
+    gathered-append : (front back : List Step) → gathered (front ++ back) ≡ both (gathered front) (gathered back)
+    gathered-append [] back = sym (gathers.left (gathered back))
+    gathered-append (it ∷ front) back =
+        ap (both (value it.kind (length it.ins))) (gathered-append front back) ∙ sym (gathers.assoc (value it.kind (length it.ins)) (gathered front) (gathered back))
+
+    text-gathered : (text : List ℕ) (number : ℕ) → gathered (step (kind.Text text) [] number ∷ []) ≡ none
+    text-gathered text number = gathers.right (value (kind.Text text) 0) ∙ gathers.of_text text
+
+    cat-gathered : (close : Bool) (edges : List ℕ) (number : ℕ) → 1 ≤ length edges → gathered (step (kind.Cat close) edges number ∷ []) ≡ none
+    cat-gathered close edges number some = gathers.right (value (kind.Cat close) (length edges)) ∙ gathers.of_cat close (length edges) some
+
+    drain-gathered : (number : ℕ) (comes : Coming) (reads : Bool) → gathered (drain_steps number comes reads) ≡ none
+    drain-gathered number comes true = refl
+    drain-gathered number (coming.Begins begin) false = refl
+    drain-gathered number (coming.On edge) false = gathers.right (value kind.Drain 1) ∙ gathers.of_drain
+    drain-gathered number coming.Nothing false = refl
+
+    input-gathered : (number : ℕ) (comes : Coming) (it : In) → gathered (input_steps number (kind_in comes it)) ≡ in_value (stream_value comes) it
+    input-gathered number (coming.Begins begin) inlet.Stream = by_first begin.now
+      where
+        by_first : (begin : First) → gathered (input_steps number (Some (kind_first begin))) ≡ first_value begin
+        by_first first.Input = gathers.right (value (kind.Source from.Input) 0)
+        by_first (first.Text text) = text-gathered text number
+    input-gathered number (coming.On edge) inlet.Stream = refl
+    input-gathered number coming.Nothing inlet.Stream = text-gathered [] number
+    input-gathered number comes (inlet.File path closed) = gathers.right (value (kind.Source (from.File path)) 0)
+    input-gathered number comes inlet.Empty = text-gathered [] number
+
+    in-gathered : (number : ℕ) (comes : Coming) (ins : List In) → gathered (in_steps number comes ins) ≡ ins_value (stream_value comes) ins
+    in-gathered number comes [] = refl
+    in-gathered number comes (it ∷ ins) =
+        gathered-append (input_steps number (kind_in comes it)) (in_steps number comes ins)
+        ∙ ap (λ (here : Found). both here (gathered (in_steps number comes ins))) (input-gathered number comes it)
+        ∙ ap (both (in_value (stream_value comes) it)) (in-gathered number comes ins)
+
+    join-gathered : (number : ℕ) (inv : Inv) (edges : List ℕ) → gathered (join_steps number inv edges) ≡ none
+    join-gathered number inv edges = by_test (is_joined inv edges) refl
+      where
+        by_test : (joined : Bool) → is_joined inv edges ≡ joined → gathered (if joined then step (kind.Cat (closes_before inv)) edges number ∷ [] else []) ≡ none
+        by_test true is =
+            cat-gathered (closes_before inv) edges number (let many = ltb-true 1 (length edges) (and_parts (joins_before inv) (nat_lt 1 (length edges)) is).1 in omega (arith, many))
+        by_test false is = refl
+
+    read-gathered : (number : ℕ) (comes : Coming) (it : Does) (ins : List In) (next : ℕ) → gathered (read_steps number comes it ins next) ≡ ins_value (stream_value comes) (ins_read it ins)
+    read-gathered number comes does.Skip ins next = refl
+    read-gathered number comes (does.Util inv) ins next =
+        let edges : List ℕ = in_edges number comes ins next in
+        gathered-append (in_steps number comes ins) (join_steps number inv edges)
+        ∙ ap (both (gathered (in_steps number comes ins))) (join-gathered number inv edges)
+        ∙ gathers.right (gathered (in_steps number comes ins)) ∙ in-gathered number comes ins
+
+    front-gathered : (number : ℕ) (comes : Coming) (stage : Stage) (next : ℕ) → gathered (front_steps number comes stage next) ≡ ins_value (stream_value comes) (ins_of stage)
+    front-gathered number comes stage next =
+        let read : List Step = read_steps number comes stage.does stage.ins next in
+        gathered-append (drain_steps number comes (is_reader stage)) read
+        ∙ ap (λ (drain : Found). both drain (gathered read)) (drain-gathered number comes (is_reader stage))
+        ∙ gathers.left (gathered read) ∙ read-gathered number comes stage.does stage.ins next
+
+    util-gathered : (number : ℕ) (leads : Bool) (inv : Inv) (edges : List ℕ) → gathered (util_steps number leads inv edges) ≡ util_value leads (does.Util inv) (length edges)
+    util-gathered number leads inv edges = by_test (is_leading_cat leads inv)
+      where
+        by_none : (empty : Bool) → gathered (if empty then step (kind.Text []) [] number ∷ [] else []) ≡ none
+        by_none true = text-gathered [] number
+        by_none false = refl
+
+        by_test : (cat : Bool) → gathered (if cat then (if is_none edges then step (kind.Text []) [] number ∷ [] else []) else step (kind.Whole inv) edges number ∷ [])
+            ≡ (if cat then none else value (kind.Whole inv) (length edges))
+        by_test true = by_none (is_none edges)
+        by_test false = gathers.right (value (kind.Whole inv) (length edges))
+
+    does-gathered : (number : ℕ) (leads : Bool) (it : Does) (text edges : List ℕ) → gathered (does_steps number leads it text edges) ≡ util_value leads it (length edges)
+    does-gathered number leads does.Skip text edges = text-gathered text number
+    does-gathered number leads (does.Util inv) text edges = util-gathered number leads inv edges
+
+    first-gathered : (number : ℕ) (it : Does) (text : List ℕ) (edge next : ℕ) → gathered (first_steps number it text edge next) ≡ none
+    first-gathered number does.Skip text edge next = refl
+    first-gathered number (does.Util inv) text edge next = by_test (is_empty text)
+      where
+        by_test : (empty : Bool) → gathered (if empty then [] else step (kind.Text text) [] number ∷ step (kind.Cat false) (next ∷ edge ∷ []) number ∷ []) ≡ none
+        by_test true = refl
+        by_test false =
+            ap (λ (here : Found). both here (gathered (step (kind.Cat false) (next ∷ edge ∷ []) number ∷ []))) (gathers.of_text text)
+            ∙ gathers.left (gathered (step (kind.Cat false) (next ∷ edge ∷ []) number ∷ [])) ∙ cat-gathered false (next ∷ edge ∷ []) number (omega arith)
+
+    pub main-gathered : (number : ℕ) (comes : Coming) (stage : Stage) (next : ℕ) → gathered (main_steps number comes stage next) ≡ main_value (stream_value comes) (begins comes) stage
+    main-gathered number comes stage next =
+        let front : List Step = front_steps number comes stage next in
+        let done : List Step = done_steps number comes stage next in
+        let firsts : List Step = first_steps number stage.does stage.first (done_edge number comes stage next) (done_next number comes stage next) in
+        gathered-append front (done ++ firsts)
+        ∙ ap (λ (read : Found). both read (gathered (done ++ firsts))) (front-gathered number comes stage next)
+        ∙ ap (both (ins_value (stream_value comes) (ins_of stage)))
+        (gathered-append done firsts ∙ ap (both (gathered done)) (first-gathered number stage.does stage.first (done_edge number comes stage next) (done_next number comes stage next))
+        ∙ gathers.right (gathered done) ∙ does-gathered number (begins comes) stage.does stage.first (front_edges number comes stage next)
+        ∙ ap (util_value (begins comes) stage.does) (front-count number comes stage.does stage.ins next))
+
+    stream-gathered : (number : ℕ) (piped : List ℕ) (reads : Bool) → gathered (stream_steps number piped reads) ≡ none
+    stream-gathered number piped true = text-gathered piped number
+    stream-gathered number piped false = refl
+
+    on-gathered : (number : ℕ) (it : Out) (piped : List ℕ) (reads : Bool) (edge : ℕ) → gathered (on_steps number it piped reads edge) ≡ file_value it
+    on-gathered number out.Next piped reads edge = refl
+    on-gathered number (out.File path mode) piped reads edge =
+        ap (both (value (kind.Sink (to.File path mode)) 1)) (stream-gathered number piped reads) ∙ gathers.right (value (kind.Sink (to.File path mode)) 1)
+    on-gathered number out.Null piped reads edge =
+        ap (both (value kind.Drain 1)) (stream-gathered number piped reads) ∙ gathers.right (value kind.Drain 1) ∙ gathers.of_drain
+
+    piped-gathered : (number : ℕ) (piped : List ℕ) (next : ℕ) → gathered (piped_steps number piped next) ≡ (if not (is_empty piped) then value (kind.Sink to.Output) 1 else none)
+    piped-gathered number piped next = by_test (is_empty piped)
+      where
+        by_test : (empty : Bool) → gathered (if empty then [] else step (kind.Text piped) [] number ∷ step (kind.Sink to.Output) (next ∷ []) number ∷ []) ≡ (if not empty then value (kind.Sink to.Output) 1 else none)
+        by_test true = refl
+        by_test false =
+            ap (λ (here : Found). both here (gathered (step (kind.Sink to.Output) (next ∷ []) number ∷ []))) (gathers.of_text piped)
+            ∙ gathers.left (gathered (step (kind.Sink to.Output) (next ∷ []) number ∷ [])) ∙ gathers.right (value (kind.Sink to.Output) 1)
+
+    out-gathered : (number : ℕ) (it : Out) (piped : List ℕ) (edge next : ℕ) → gathered (out_steps number it piped edge next) ≡ both (file_value it) (goes_value it piped)
+    out-gathered number out.Next piped edge next = gathers.right (value (kind.Sink to.Output) 1) ∙ sym (gathers.left (value (kind.Sink to.Output) 1))
+    out-gathered number (out.File path mode) piped edge next = ap (both (value (kind.Sink (to.File path mode)) 1)) (piped-gathered number piped next)
+    out-gathered number out.Null piped edge next =
+        ap (λ (here : Found). both here (gathered (piped_steps number piped next))) gathers.of_drain ∙ ap (both none) (piped-gathered number piped next)
+
+    stream-none : (it : Out) (reads : Bool) (edge next : ℕ) → stream_value (comes_on it reads edge next) ≡ none
+    stream-none out.Next reads edge next = refl
+    stream-none (out.File path mode) true edge next = refl
+    stream-none (out.File path mode) false edge next = refl
+    stream-none out.Null true edge next = refl
+    stream-none out.Null false edge next = refl
+
+    pub chain-gathered : (number : ℕ) (comes : Coming) (stages : List Stage) (next : ℕ) → gathered (chain_steps number comes stages next) ≡ chain_value (stream_value comes) (begins comes) stages
+    chain-gathered number comes [] next = refl
+    chain-gathered number comes (stage ∷ []) next =
+        let outs : List Step = out_steps number stage.out stage.piped (main_edge number comes stage next) (main_next number comes stage next) in
+        gathered-append (main_steps number comes stage next) outs
+        ∙ ap (λ (main : Found). both main (gathered outs)) (main-gathered number comes stage next)
+        ∙ ap (both (main_value (stream_value comes) (begins comes) stage)) (out-gathered number stage.out stage.piped (main_edge number comes stage next) (main_next number comes stage next))
+    chain-gathered number comes (stage ∷ following ∷ stages) next =
+        let reads : Bool = is_reader following in
+        let here : List Step = earlier_steps number comes stage next reads in
+        let on : Coming = comes_behind number comes stage next reads in
+        let ons : List Step = on_steps number stage.out stage.piped reads (main_edge number comes stage next) in
+        let rest : List Step = chain_steps (number + 1) on (following ∷ stages) (behind next here) in
+        gathered-append here rest
+        ∙ ap (λ (front : Found). both front (gathered rest))
+        (gathered-append (main_steps number comes stage next) ons
+        ∙ ap (λ (main : Found). both main (gathered ons)) (main-gathered number comes stage next)
+        ∙ ap (both (main_value (stream_value comes) (begins comes) stage)) (on-gathered number stage.out stage.piped reads (main_edge number comes stage next)))
+        ∙ ap (both (both (main_value (stream_value comes) (begins comes) stage) (file_value stage.out)))
+        (chain-gathered (number + 1) on (following ∷ stages) (behind next here)
+        ∙ ap (λ (stream : Found). chain_value stream (begins on) (following ∷ stages)) (stream-none stage.out reads (main_edge number comes stage next) (main_next number comes stage next))
+        ∙ ap (λ (leads : Bool). chain_value none leads (following ∷ stages)) (begins-none stage.out reads (main_edge number comes stage next) (main_next number comes stage next)))
 
 -- ALL PASS A TEST
-all-gathers : (test : Step → Bool) → ((text : List ℕ) → test (step (kind.Text text) [] 0) ≡ true)
-    → ((close : Bool) (ins : List ℕ) → 1 ≤ length ins → test (step (kind.Cat close) ins 0) ≡ true) → Gathers true (λ one other. one && other) (list_all test)
-all-gathers test text cat = record {
-  left = λ it. refl;
-  right = λ it. and-true it;
-  nothing = refl;
-  append = λ front back. list_all-append test front back;
-  of_text = λ it. and_from (test (step (kind.Text it) [] 0)) true (text it) refl;
-  of_join = λ inv size is. and_from (test (step (kind.Cat (closes_before inv)) (range_with_len 0 size) 0)) true
-      (cat (closes_before inv) (range_with_len 0 size)
-      (let all = length-range_with_len 0 size in let many = ltb-true 1 size (and_parts (joins_before inv) (nat_lt 1 size) is).1 in omega (arith, all, many))) refl;
-  of_both = λ one other. and_from (test (step (kind.Cat false) (one ∷ other ∷ []) 0)) true (cat false (one ∷ other ∷ []) (omega arith)) refl;
-}
+abbrev both_pass : Bool → Bool → Bool
+both_pass one other = one && other
 
-in-all : (test : Step → Bool) (begin : First) → ((it : In) → test (step (kind_in begin it) [] 0) ≡ true) → (ins : List In) → list_all test (in_steps begin ins) ≡ true
-in-all test begin each [] = refl
-in-all test begin each (it ∷ ins) = and_from (test (step (kind_in begin it) [] 0)) (list_all test (in_steps begin ins)) (each it) (in-all test begin each ins)
+module _ (value : NodeKind → ℕ → Bool) where
+  abbrev pub all_gathered : List Step → Bool
+  all_gathered steps = gathered true both_pass value steps
 
-piped-all : (test : Step → Bool) → ((text : List ℕ) → test (step (kind.Text text) [] 0) ≡ true) → ((to : To) (edge : ℕ) → test (step (kind.Sink to) (edge ∷ []) 0) ≡ true)
-    → (piped : List ℕ) (next : ℕ) → list_all test (piped_steps piped next) ≡ true
-piped-all test text sink piped next = by_test (is_empty piped)
-  where
-    by_test : (none : Bool) → list_all test (if none then [] else step (kind.Text piped) [] 0 ∷ step (kind.Sink to.Output) (next ∷ []) 0 ∷ []) ≡ true
-    by_test true = refl
-    by_test false =
-        and_from (test (step (kind.Text piped) [] 0)) (test (step (kind.Sink to.Output) (next ∷ []) 0) && true) (text piped)
-        (and_from (test (step (kind.Sink to.Output) (next ∷ []) 0)) true (sink to.Output next) refl)
+  pub all-found : (steps : List Step) → list_all (λ (it : Step). value it.kind (length it.ins)) steps ≡ all_gathered steps
+  all-found [] = refl
+  all-found (it ∷ steps) = ap (λ (rest : Bool). value it.kind (length it.ins) && rest) (all-found steps)
 
-out-all : (test : Step → Bool) → ((text : List ℕ) → test (step (kind.Text text) [] 0) ≡ true) → ((to : To) (edge : ℕ) → test (step (kind.Sink to) (edge ∷ []) 0) ≡ true)
-    → ((edge : ℕ) → test (step kind.Drain (edge ∷ []) 0) ≡ true) → (it : Out) (piped : List ℕ) (edge next : ℕ) → list_all test (out_steps it piped edge next) ≡ true
-out-all test text sink drain out.Next piped edge next = and_from (test (step (kind.Sink to.Output) (edge ∷ []) 0)) true (sink to.Output edge) refl
-out-all test text sink drain (out.File path mode) piped edge next =
-    and_from (test (step (kind.Sink (to.File path mode)) (edge ∷ []) 0)) (list_all test (piped_steps piped next)) (sink (to.File path mode) edge) (piped-all test text sink piped next)
-out-all test text sink drain out.Null piped edge next =
-    and_from (test (step kind.Drain (edge ∷ []) 0)) (list_all test (piped_steps piped next)) (drain edge) (piped-all test text sink piped next)
+  -- each kind that a stage has up to where its output goes passes
+  pub record Pass : Type 0 where
+    pub text : (text : List ℕ) → value (kind.Text text) 0 ≡ true
+    pub cat : (close : Bool) (count : ℕ) → 1 ≤ count → value (kind.Cat close) count ≡ true
+    pub drain : value kind.Drain 1 ≡ true
+    pub source : (source : From) → value (kind.Source source) 0 ≡ true
+    pub whole : (inv : Inv) (count : ℕ) → is_built_of inv ≡ true → inputs_of inv ≡ count → value (kind.Whole inv) count ≡ true
 
-pub all-pass : (test : Step → Bool) (begin : First) (stage : Stage) → ((it : In) → test (step (kind_in begin it) [] 0) ≡ true)
-    → ((text : List ℕ) → test (step (kind.Text text) [] 0) ≡ true) → ((close : Bool) (ins : List ℕ) → 1 ≤ length ins → test (step (kind.Cat close) ins 0) ≡ true)
-    → ((inv : Inv) → stage.does ≡ does.Util inv → test (step (kind.Whole inv) (joined_edges inv (length stage.ins)) 0) ≡ true)
-    → ((to : To) (edge : ℕ) → test (step (kind.Sink to) (edge ∷ []) 0) ≡ true) → ((edge : ℕ) → test (step kind.Drain (edge ∷ []) 0) ≡ true)
-    → list_all test (stage_steps begin stage) ≡ true
-all-pass test begin stage in' text cat whole sink drain =
-    stage-fold true (λ one other. one && other) (list_all test) (all-gathers test text cat) begin stage
-    ∙ and_from (list_all test (in_steps begin (ins_of stage)) && of_does true (λ one other. one && other) (list_all test) (all-gathers test text cat) stage.does (length stage.ins))
-    (list_all test (out_steps stage.out stage.piped (out_edge begin stage) (out_next begin stage)))
-    (and_from (list_all test (in_steps begin (ins_of stage))) (of_does true (λ one other. one && other) (list_all test) (all-gathers test text cat) stage.does (length stage.ins))
-    (in-all test begin in' (ins_of stage)) (by_does stage.does refl))
-    (out-all test text sink drain stage.out stage.piped (out_edge begin stage) (out_next begin stage))
-  where
-    by_does : (it : Does) → stage.does ≡ it → of_does true (λ one other. one && other) (list_all test) (all-gathers test text cat) it (length stage.ins) ≡ true
-    by_does does.Skip is = refl
-    by_does (does.Util inv) is = by_cat (is_cat inv)
+  module _ (pass : Pass) where
+    and-assoc : (one two three : Bool) → ((one && two) && three) ≡ (one && (two && three))
+    and-assoc true two three = refl
+    and-assoc false two three = refl
+
+    all-gathers : Gathers true both_pass value
+    all-gathers = record {
+      left = λ it. refl;
+      right = λ it. and-true it;
+      assoc = and-assoc;
+      of_text = pass.text;
+      of_cat = pass.cat;
+      of_drain = pass.drain;
+    }
+
+    ins-pass : (ins : List In) → ins_value true both_pass value true ins ≡ true
+    ins-pass [] = refl
+    ins-pass (inlet.Stream ∷ ins) = ins-pass ins
+    ins-pass (inlet.File path closed ∷ ins) = and_from (value (kind.Source (from.File path)) 0) (ins_value true both_pass value true ins) (pass.source (from.File path)) (ins-pass ins)
+    ins-pass (inlet.Empty ∷ ins) = ins-pass ins
+
+    util-pass : (leads : Bool) (stage : Stage) → is_stage stage ≡ true → (it : Does) → stage.does ≡ it → util_value true both_pass value leads it (read_count it (length stage.ins)) ≡ true
+    util-pass leads stage is does.Skip same = refl
+    util-pass leads stage is (does.Util inv) same = by_cat (is_leading_cat leads inv)
       where
-        by_cat : (cat : Bool) → (if cat then true else list_all test (step (kind.Whole inv) (joined_edges inv (length stage.ins)) 0 ∷ [])) ≡ true
+        by_cat : (cat : Bool) → (if cat then true else value (kind.Whole inv) (read_of inv (length stage.ins))) ≡ true
         by_cat true = refl
-        by_cat false = and_from (test (step (kind.Whole inv) (joined_edges inv (length stage.ins)) 0)) true (whole inv is) refl
+        by_cat false = let fits : Fits inv stage = (parts-of stage is inv same).0 in pass.whole inv (read_of inv (length stage.ins)) fits.built fits.inputs
 
--- WHAT IS FOUND
-found-gathers : {Item : Type 0} (find : NodeKind → Option Item) → ((text : List ℕ) → find (kind.Text text) ≡ None) → ((close : Bool) → find (kind.Cat close) ≡ None)
-    → Gathers [] (λ (one other : List Item). one ++ other) (filter_map (λ (it : Step). find it.kind))
-found-gathers {Item} find text cat = record {
-  left = λ it. refl;
-  right = λ it. append-nil it;
-  nothing = refl;
-  append = λ front back. filter_map-append (λ (it : Step). find it.kind) front back;
-  of_text = λ it. ap (λ (found : Option Item). cons_option found []) (text it);
-  of_join = λ inv size is. ap (λ (found : Option Item). cons_option found []) (cat (closes_before inv));
-  of_both = λ one other. ap (λ (found : Option Item). cons_option found []) (cat false);
+    main-pass : (leads : Bool) (stage : Stage) → is_stage stage ≡ true → main_value true both_pass value true leads stage ≡ true
+    main-pass leads stage is =
+        and_from (ins_value true both_pass value true (ins_of stage)) (util_value true both_pass value leads stage.does (read_count stage.does (length stage.ins)))
+        (ins-pass (ins_of stage)) (util-pass leads stage is stage.does refl)
+
+    stream-pass : (comes : Coming) → stream_value true both_pass value comes ≡ true
+    stream-pass (coming.Begins begin) = by_first begin.now
+      where
+        by_first : (begin : First) → first_value true both_pass value begin ≡ true
+        by_first first.Input = pass.source from.Input
+        by_first (first.Text text) = refl
+    stream-pass (coming.On edge) = refl
+    stream-pass coming.Nothing = refl
+
+    pub main-all : (number : ℕ) (comes : Coming) (stage : Stage) (next : ℕ) → is_stage stage ≡ true
+        → list_all (λ (it : Step). value it.kind (length it.ins)) (main_steps number comes stage next) ≡ true
+    main-all number comes stage next is =
+        all-found (main_steps number comes stage next) ∙ main-gathered true both_pass value all-gathers number comes stage next
+        ∙ ap (λ (stream : Bool). main_value true both_pass value stream (begins comes) stage) (stream-pass comes) ∙ main-pass (begins comes) stage is
+
+    module _ (sink : (sink : To) → value (kind.Sink sink) 1 ≡ true) where
+      file-pass : (it : Out) → file_value true both_pass value it ≡ true
+      file-pass out.Next = refl
+      file-pass (out.File path mode) = sink (to.File path mode)
+      file-pass out.Null = refl
+
+      goes-pass : (it : Out) (piped : List ℕ) → goes_value true both_pass value it piped ≡ true
+      goes-pass it piped = by_test (goes_on it piped)
+        where
+          by_test : (goes : Bool) → (if goes then value (kind.Sink to.Output) 1 else true) ≡ true
+          by_test true = sink to.Output
+          by_test false = refl
+
+      chain-pass : (leads : Bool) (stages : List Stage) → list_all is_stage stages ≡ true → chain_value true both_pass value true leads stages ≡ true
+      chain-pass leads [] all = refl
+      chain-pass leads (stage ∷ []) all =
+          and_from (main_value true both_pass value true leads stage) (file_value true both_pass value stage.out && goes_value true both_pass value stage.out stage.piped)
+          (main-pass leads stage (and_parts (is_stage stage) true all).0)
+          (and_from (file_value true both_pass value stage.out) (goes_value true both_pass value stage.out stage.piped) (file-pass stage.out) (goes-pass stage.out stage.piped))
+      chain-pass leads (stage ∷ following ∷ stages) all =
+          let parts = and_parts (is_stage stage) (list_all is_stage (following ∷ stages)) all in
+          and_from (main_value true both_pass value true leads stage && file_value true both_pass value stage.out) (chain_value true both_pass value true false (following ∷ stages))
+          (and_from (main_value true both_pass value true leads stage) (file_value true both_pass value stage.out) (main-pass leads stage parts.0) (file-pass stage.out))
+          (chain-pass false (following ∷ stages) parts.1)
+
+      pub chain-all : (number : ℕ) (comes : Coming) (stages : List Stage) (next : ℕ) → list_all is_stage stages ≡ true
+          → list_all (λ (it : Step). value it.kind (length it.ins)) (chain_steps number comes stages next) ≡ true
+      chain-all number comes stages next all =
+          all-found (chain_steps number comes stages next) ∙ chain-gathered true both_pass value all-gathers number comes stages next
+          ∙ ap (λ (stream : Bool). chain_value true both_pass value stream (begins comes) stages) (stream-pass comes) ∙ chain-pass (begins comes) stages all
+
+-- a test of the kinds alone
+pub of-kinds : (test : NodeKind → Bool) → ((text : List ℕ) → test (kind.Text text) ≡ true) → ((close : Bool) → test (kind.Cat close) ≡ true) → test kind.Drain ≡ true
+    → ((source : From) → test (kind.Source source) ≡ true) → ((inv : Inv) → is_built_of inv ≡ true → test (kind.Whole inv) ≡ true)
+    → Pass (λ kind count. test kind)
+of-kinds test text cat drain source whole = record {
+  text = text;
+  cat = λ close count some. cat close;
+  drain = drain;
+  source = source;
+  whole = λ inv count built inputs. whole inv built;
 }
 
-whole-none : {Item : Type 0} (find : NodeKind → Option Item) (text : (text : List ℕ) → find (kind.Text text) ≡ None) (cat : (close : Bool) → find (kind.Cat close) ≡ None)
-    → ((inv : Inv) → find (kind.Whole inv) ≡ None) → (it : Does) (size : ℕ)
-    → of_does [] (λ (one other : List Item). one ++ other) (filter_map (λ (it : Step). find it.kind)) (found-gathers find text cat) it size ≡ []
-whole-none find text cat whole does.Skip size = refl
-whole-none {Item} find text cat whole (does.Util inv) size = by_cat (is_cat inv)
+-- WHAT IS LISTED
+abbrev joined_items : {Item : Type 0} → List Item → List Item → List Item
+joined_items one other = one ++ other
+
+module _ {Item : Type 0} (find : NodeKind → ℕ → List Item) where
+  abbrev pub listed : List Step → List Item
+  listed steps = gathered [] joined_items find steps
+
+  pub listed-found : (steps : List Step) → flat_map (λ (it : Step). find it.kind (length it.ins)) steps ≡ listed steps
+  listed-found [] = refl
+  listed-found (it ∷ steps) = ap (λ (rest : List Item). find it.kind (length it.ins) ++ rest) (listed-found steps)
+
+  pub list-gathers : ((text : List ℕ) → find (kind.Text text) 0 ≡ []) → ((close : Bool) (count : ℕ) → find (kind.Cat close) count ≡ []) → find kind.Drain 1 ≡ [] → Gathers [] joined_items find
+  list-gathers text cat drain = record {
+    left = λ it. refl;
+    right = λ it. append-nil it;
+    assoc = λ one two three. append_assoc one two three;
+    of_text = text;
+    of_cat = λ close count some. cat close count;
+    of_drain = drain;
+  }
+
+  abbrev pub chain_list : Bool → List Stage → List Item
+  chain_list leads stages = chain_value [] joined_items find [] leads stages
+
+-- what is found of some of them
+abbrev pub option_items : {Item : Type 0} → Option Item → List Item
+option_items None = []
+option_items (Some item) = item ∷ []
+
+cons-items : {Item : Type 0} (it : Option Item) (rest : List Item) → cons_option it rest ≡ option_items it ++ rest
+cons-items None rest = refl
+cons-items (Some item) rest = refl
+
+pub found-listed : {Item : Type 0} (find : NodeKind → Option Item) (steps : List Step) → filter_map (λ (it : Step). find it.kind) steps ≡ listed (λ kind count. option_items (find kind)) steps
+found-listed find [] = refl
+found-listed {Item} find (it ∷ steps) =
+    ap (λ (rest : List Item). cons_option (find it.kind) rest) (found-listed find steps) ∙ cons-items (find it.kind) (listed (λ kind count. option_items (find kind)) steps)
+
+-- the files that are read
+abbrev path_of_read : NodeKind → ℕ → List Components
+path_of_read kind count = option_items (path_read kind)
+
+abbrev joined_paths : List Components → List Components → List Components
+joined_paths one other = one ++ other
+
+ins-read : (ins : List In) → ins_value [] joined_paths path_of_read [] ins ≡ filter_map file_in ins
+ins-read [] = refl
+ins-read (inlet.Stream ∷ ins) = ins-read ins
+ins-read (inlet.File path closed ∷ ins) = ap (λ (rest : List Components). path ∷ rest) (ins-read ins)
+ins-read (inlet.Empty ∷ ins) = ins-read ins
+
+util-read : (leads : Bool) (it : Does) (count : ℕ) → util_value [] joined_paths path_of_read leads it count ≡ []
+util-read leads does.Skip count = refl
+util-read leads (does.Util inv) count = by_cat (is_leading_cat leads inv)
   where
-    by_cat : (is : Bool) → (if is then [] else filter_map (λ (it : Step). find it.kind) (step (kind.Whole inv) (joined_edges inv size) 0 ∷ [])) ≡ []
+    by_cat : (cat : Bool) → (if cat then [] else option_items (path_read (kind.Whole inv))) ≡ []
     by_cat true = refl
-    by_cat false = ap (λ (found : Option Item). cons_option found []) (whole inv)
+    by_cat false = refl
 
-path-in : (begin : First) (it : In) → path_read (kind_in begin it) ≡ file_in it
-path-in first.Input inlet.Stream = refl
-path-in (first.Text text) inlet.Stream = refl
-path-in begin (inlet.File path closed) = refl
-path-in begin inlet.Empty = refl
+file-read : (it : Out) → file_value [] joined_paths path_of_read it ≡ []
+file-read out.Next = refl
+file-read (out.File path mode) = refl
+file-read out.Null = refl
 
-paths-in : (begin : First) (ins : List In) → filter_map (λ (it : Step). path_read it.kind) (in_steps begin ins) ≡ filter_map file_in ins
-paths-in begin [] = refl
-paths-in begin (it ∷ ins) =
-    ap (λ (found : Option Components). cons_option found (filter_map (λ (it : Step). path_read it.kind) (in_steps begin ins))) (path-in begin it)
-    ∙ ap (λ (rest : List Components). cons_option (file_in it) rest) (paths-in begin ins)
-
-none-written : (begin : First) (it : In) → path_written (kind_in begin it) ≡ None
-none-written first.Input inlet.Stream = refl
-none-written (first.Text text) inlet.Stream = refl
-none-written begin (inlet.File path closed) = refl
-none-written begin inlet.Empty = refl
-
-in-written : (begin : First) (ins : List In) → filter_map (λ (it : Step). path_written it.kind) (in_steps begin ins) ≡ []
-in-written begin [] = refl
-in-written begin (it ∷ ins) = ap (λ (found : Option Components). cons_option found (filter_map (λ (it : Step). path_written it.kind) (in_steps begin ins))) (none-written begin it) ∙ in-written begin ins
-
-piped-found : {Item : Type 0} (find : NodeKind → Option Item) → ((text : List ℕ) → find (kind.Text text) ≡ None) → find (kind.Sink to.Output) ≡ None → (piped : List ℕ) (next : ℕ)
-    → filter_map (λ (it : Step). find it.kind) (piped_steps piped next) ≡ []
-piped-found {Item} find text sink piped next = by_test (is_empty piped)
+goes-read : (it : Out) (piped : List ℕ) → goes_value [] joined_paths path_of_read it piped ≡ []
+goes-read it piped = by_test (goes_on it piped)
   where
-    by_test : (none : Bool) → filter_map (λ (it : Step). find it.kind) (if none then [] else step (kind.Text piped) [] 0 ∷ step (kind.Sink to.Output) (next ∷ []) 0 ∷ []) ≡ []
+    by_test : (goes : Bool) → (if goes then option_items (path_read (kind.Sink to.Output)) else []) ≡ []
     by_test true = refl
-    by_test false =
-        ap (λ (found : Option Item). cons_option found (cons_option (find (kind.Sink to.Output)) [])) (text piped) ∙ ap (λ (found : Option Item). cons_option found []) sink
+    by_test false = refl
 
-out-read : (it : Out) (piped : List ℕ) (edge next : ℕ) → filter_map (λ (it : Step). path_read it.kind) (out_steps it piped edge next) ≡ []
-out-read out.Next piped edge next = refl
-out-read (out.File path mode) piped edge next = piped-found path_read (λ text. refl) refl piped next
-out-read out.Null piped edge next = piped-found path_read (λ text. refl) refl piped next
+main-read : (leads : Bool) (stage : Stage) → main_value [] joined_paths path_of_read [] leads stage ≡ filter_map file_in (ins_of stage)
+main-read leads stage =
+    ap (λ (own : List Components). ins_value [] joined_paths path_of_read [] (ins_of stage) ++ own) (util-read leads stage.does (read_count stage.does (length stage.ins)))
+    ∙ append-nil (ins_value [] joined_paths path_of_read [] (ins_of stage)) ∙ ins-read (ins_of stage)
 
-out-written : (it : Out) (piped : List ℕ) (edge next : ℕ) → filter_map (λ (it : Step). path_written it.kind) (out_steps it piped edge next) ≡ file_out it
-out-written out.Next piped edge next = refl
-out-written (out.File path mode) piped edge next = ap (λ (rest : List Components). path ∷ rest) (piped-found path_written (λ text. refl) refl piped next)
-out-written out.Null piped edge next = piped-found path_written (λ text. refl) refl piped next
+all-read : (leads : Bool) (stages : List Stage) → chain_list path_of_read leads stages ≡ files_read stages
+all-read leads [] = refl
+all-read leads (stage ∷ []) =
+    ap (λ (main : List Components). main ++ (file_value [] joined_paths path_of_read stage.out ++ goes_value [] joined_paths path_of_read stage.out stage.piped)) (main-read leads stage)
+    ∙ ap (λ (file : List Components). filter_map file_in (ins_of stage) ++ (file ++ goes_value [] joined_paths path_of_read stage.out stage.piped)) (file-read stage.out)
+    ∙ ap (λ (goes : List Components). filter_map file_in (ins_of stage) ++ goes) (goes-read stage.out stage.piped)
+all-read leads (stage ∷ following ∷ stages) =
+    ap (λ (main : List Components). (main ++ file_value [] joined_paths path_of_read stage.out) ++ chain_list path_of_read false (following ∷ stages)) (main-read leads stage)
+    ∙ ap (λ (file : List Components). (filter_map file_in (ins_of stage) ++ file) ++ chain_list path_of_read false (following ∷ stages)) (file-read stage.out)
+    ∙ ap (λ (here : List Components). here ++ chain_list path_of_read false (following ∷ stages)) (append-nil (filter_map file_in (ins_of stage)))
+    ∙ ap (λ (rest : List Components). filter_map file_in (ins_of stage) ++ rest) (all-read false (following ∷ stages))
 
-pub stage-reads : (begin : First) (stage : Stage) → filter_map (λ (it : Step). path_read it.kind) (stage_steps begin stage) ≡ filter_map file_in (ins_of stage)
-stage-reads begin stage =
-    let read : List Step → List Components = filter_map (λ (it : Step). path_read it.kind) in
-    stage-fold [] (λ (one other : List Components). one ++ other) read (found-gathers path_read (λ text. refl) (λ close. refl)) begin stage
-    ∙ ap (λ (last : List Components). (read (in_steps begin (ins_of stage)) ++ of_does [] (λ (one other : List Components). one ++ other) read (found-gathers path_read (λ text. refl) (λ close. refl)) stage.does (length stage.ins)) ++ last)
-    (out-read stage.out stage.piped (out_edge begin stage) (out_next begin stage))
-    ∙ append-nil (read (in_steps begin (ins_of stage)) ++ of_does [] (λ (one other : List Components). one ++ other) read (found-gathers path_read (λ text. refl) (λ close. refl)) stage.does (length stage.ins))
-    ∙ ap (λ (own : List Components). read (in_steps begin (ins_of stage)) ++ own) (whole-none path_read (λ text. refl) (λ close. refl) (λ inv. refl) stage.does (length stage.ins))
-    ∙ append-nil (read (in_steps begin (ins_of stage))) ∙ paths-in begin (ins_of stage)
+-- the stream of the first stage adds no path
+stream-paths : (find : NodeKind → ℕ → List Components) → find (kind.Source from.Input) 0 ≡ [] → (comes : Coming) → stream_value [] joined_paths find comes ≡ []
+stream-paths find none (coming.Begins begin) = by_first begin.now
+  where
+    by_first : (begin : First) → first_value [] joined_paths find begin ≡ []
+    by_first first.Input = none
+    by_first (first.Text text) = refl
+stream-paths find none (coming.On edge) = refl
+stream-paths find none coming.Nothing = refl
 
-pub stage-writes : (begin : First) (stage : Stage) → filter_map (λ (it : Step). path_written it.kind) (stage_steps begin stage) ≡ file_out stage.out
-stage-writes begin stage =
-    let written : List Step → List Components = filter_map (λ (it : Step). path_written it.kind) in
-    let outs : List Step = out_steps stage.out stage.piped (out_edge begin stage) (out_next begin stage) in
-    stage-fold [] (λ (one other : List Components). one ++ other) written (found-gathers path_written (λ text. refl) (λ close. refl)) begin stage
-    ∙ ap (λ (own : List Components). (written (in_steps begin (ins_of stage)) ++ own) ++ written outs) (whole-none path_written (λ text. refl) (λ close. refl) (λ inv. refl) stage.does (length stage.ins))
-    ∙ ap (λ (ins : List Components). (ins ++ []) ++ written outs) (in-written begin (ins_of stage))
-    ∙ out-written stage.out stage.piped (out_edge begin stage) (out_next begin stage)
+pub chain-reads : (number : ℕ) (comes : Coming) (stages : List Stage) (next : ℕ) → filter_map (λ (it : Step). path_read it.kind) (chain_steps number comes stages next) ≡ files_read stages
+chain-reads number comes stages next =
+    found-listed path_read (chain_steps number comes stages next)
+    ∙ chain-gathered [] joined_paths path_of_read (list-gathers path_of_read (λ text. refl) (λ close count. refl) refl) number comes stages next
+    ∙ ap (λ (stream : List Components). chain_value [] joined_paths path_of_read stream (begins comes) stages) (stream-paths path_of_read refl comes) ∙ all-read (begins comes) stages
+
+-- the files that are written
+abbrev path_of_written : NodeKind → ℕ → List Components
+path_of_written kind count = option_items (path_written kind)
+
+ins-written : (ins : List In) → ins_value [] joined_paths path_of_written [] ins ≡ []
+ins-written [] = refl
+ins-written (inlet.Stream ∷ ins) = ins-written ins
+ins-written (inlet.File path closed ∷ ins) = ins-written ins
+ins-written (inlet.Empty ∷ ins) = ins-written ins
+
+util-written : (leads : Bool) (it : Does) (count : ℕ) → util_value [] joined_paths path_of_written leads it count ≡ []
+util-written leads does.Skip count = refl
+util-written leads (does.Util inv) count = by_cat (is_leading_cat leads inv)
+  where
+    by_cat : (cat : Bool) → (if cat then [] else option_items (path_written (kind.Whole inv))) ≡ []
+    by_cat true = refl
+    by_cat false = refl
+
+main-written : (leads : Bool) (stage : Stage) → main_value [] joined_paths path_of_written [] leads stage ≡ []
+main-written leads stage =
+    ap (λ (own : List Components). ins_value [] joined_paths path_of_written [] (ins_of stage) ++ own) (util-written leads stage.does (read_count stage.does (length stage.ins)))
+    ∙ append-nil (ins_value [] joined_paths path_of_written [] (ins_of stage)) ∙ ins-written (ins_of stage)
+
+file-written : (it : Out) → file_value [] joined_paths path_of_written it ≡ file_out it
+file-written out.Next = refl
+file-written (out.File path mode) = refl
+file-written out.Null = refl
+
+goes-written : (it : Out) (piped : List ℕ) → goes_value [] joined_paths path_of_written it piped ≡ []
+goes-written it piped = by_test (goes_on it piped)
+  where
+    by_test : (goes : Bool) → (if goes then option_items (path_written (kind.Sink to.Output)) else []) ≡ []
+    by_test true = refl
+    by_test false = refl
+
+stage-written : (leads : Bool) (stage : Stage) → is_stage stage ≡ true → main_value [] joined_paths path_of_written [] leads stage ++ file_value [] joined_paths path_of_written stage.out ≡ stage.tees ++ file_out stage.out
+stage-written leads stage is =
+    ap (λ (main : List Components). main ++ file_value [] joined_paths path_of_written stage.out) (main-written leads stage) ∙ file-written stage.out
+    ∙ ap (λ (tees : List Components). tees ++ file_out stage.out) (sym (no-tees stage is))
+
+all-written : (leads : Bool) (stages : List Stage) → list_all is_stage stages ≡ true → chain_list path_of_written leads stages ≡ files_written stages
+all-written leads [] all = refl
+all-written leads (stage ∷ []) all =
+    let is : is_stage stage ≡ true = (and_parts (is_stage stage) true all).0 in
+    sym (append_assoc (main_value [] joined_paths path_of_written [] leads stage) (file_value [] joined_paths path_of_written stage.out) (goes_value [] joined_paths path_of_written stage.out stage.piped))
+    ∙ ap (λ (here : List Components). here ++ goes_value [] joined_paths path_of_written stage.out stage.piped) (stage-written leads stage is)
+    ∙ ap (λ (goes : List Components). (stage.tees ++ file_out stage.out) ++ goes) (goes-written stage.out stage.piped)
+all-written leads (stage ∷ following ∷ stages) all =
+    let parts = and_parts (is_stage stage) (list_all is_stage (following ∷ stages)) all in
+    ap (λ (here : List Components). here ++ chain_list path_of_written false (following ∷ stages)) (stage-written leads stage parts.0)
+    ∙ ap (λ (rest : List Components). (stage.tees ++ file_out stage.out) ++ rest) (all-written false (following ∷ stages) parts.1)
+
+pub chain-writes : (number : ℕ) (comes : Coming) (stages : List Stage) (next : ℕ) → list_all is_stage stages ≡ true
+    → filter_map (λ (it : Step). path_written it.kind) (chain_steps number comes stages next) ≡ files_written stages
+chain-writes number comes stages next all =
+    found-listed path_written (chain_steps number comes stages next)
+    ∙ chain-gathered [] joined_paths path_of_written (list-gathers path_of_written (λ text. refl) (λ close count. refl) refl) number comes stages next
+    ∙ ap (λ (stream : List Components). chain_value [] joined_paths path_of_written stream (begins comes) stages) (stream-paths path_of_written refl comes) ∙ all-written (begins comes) stages all
+
+-- the words of utilities
+abbrev joined_words : List (List (List ℕ)) → List (List (List ℕ)) → List (List (List ℕ))
+joined_words one other = one ++ other
+
+ins-words : (ins : List In) → ins_value [] joined_words words_of_node [] ins ≡ []
+ins-words [] = refl
+ins-words (inlet.Stream ∷ ins) = ins-words ins
+ins-words (inlet.File path closed ∷ ins) = ins-words ins
+ins-words (inlet.Empty ∷ ins) = ins-words ins
+
+-- at the width 1 each stands once
+once : (words : List (List (List ℕ))) (test : Bool) → flat_map (λ words. replicate (if test then 1 else 1) words) words ≡ words
+once [] test = refl
+once (word ∷ words) test = by_test test (once words test)
+  where
+    by_test : (test : Bool) → flat_map (λ words. replicate (if test then 1 else 1) words) words ≡ words → flat_map (λ words. replicate (if test then 1 else 1) words) (word ∷ words) ≡ word ∷ words
+    by_test true rest = ap (λ (others : List (List (List ℕ))). word ∷ others) rest
+    by_test false rest = ap (λ (others : List (List (List ℕ))). word ∷ others) rest
+
+util-words : (leads : Bool) (stage : Stage) → is_stage stage ≡ true → (it : Does) → stage.does ≡ it → util_value [] joined_words words_of_node leads it (read_count it (length stage.ins)) ≡ words_by 1 it
+util-words leads stage is does.Skip same = refl
+util-words leads stage is (does.Util inv) same =
+    by_cat (is_leading_cat leads inv) refl ∙ ap (words_with inv) (sym fits.inputs) ∙ sym (once (words_with inv (inputs_of inv)) (has_map (class_of inv) && (inputs_of inv == 1)))
+  where
+    fits : Fits inv stage
+    fits = (parts-of stage is inv same).0
+
+    by_cat : (leading : Bool) → is_leading_cat leads inv ≡ leading → (if leading then [] else words_with inv (read_of inv (length stage.ins))) ≡ words_with inv (read_of inv (length stage.ins))
+    by_cat true is = sym (ap (λ (test : Bool). if test || (read_of inv (length stage.ins) == 0) then [] else words_of inv ∷ []) (and_parts (is_cat inv) leads is).0)
+    by_cat false is = refl
+
+main-words : (leads : Bool) (stage : Stage) → is_stage stage ≡ true → main_value [] joined_words words_of_node [] leads stage ≡ words_by 1 stage.does
+main-words leads stage is =
+    ap (λ (ins : List (List (List ℕ))). ins ++ util_value [] joined_words words_of_node leads stage.does (read_count stage.does (length stage.ins))) (ins-words (ins_of stage))
+    ∙ util-words leads stage is stage.does refl
+
+file-words : (it : Out) → file_value [] joined_words words_of_node it ≡ []
+file-words out.Next = refl
+file-words (out.File path mode) = refl
+file-words out.Null = refl
+
+goes-words : (it : Out) (piped : List ℕ) → goes_value [] joined_words words_of_node it piped ≡ []
+goes-words it piped = by_test (goes_on it piped)
+  where
+    by_test : (goes : Bool) → (if goes then words_of_node (kind.Sink to.Output) 1 else []) ≡ []
+    by_test true = refl
+    by_test false = refl
+
+all-words : (leads : Bool) (stages : List Stage) → list_all is_stage stages ≡ true → chain_list words_of_node leads stages ≡ words_at 1 stages
+all-words leads [] all = refl
+all-words leads (stage ∷ []) all =
+    let is : is_stage stage ≡ true = (and_parts (is_stage stage) true all).0 in
+    ap (λ (main : List (List (List ℕ))). main ++ (file_value [] joined_words words_of_node stage.out ++ goes_value [] joined_words words_of_node stage.out stage.piped)) (main-words leads stage is)
+    ∙ ap (λ (file : List (List (List ℕ))). words_by 1 stage.does ++ (file ++ goes_value [] joined_words words_of_node stage.out stage.piped)) (file-words stage.out)
+    ∙ ap (λ (goes : List (List (List ℕ))). words_by 1 stage.does ++ goes) (goes-words stage.out stage.piped)
+all-words leads (stage ∷ following ∷ stages) all =
+    let parts = and_parts (is_stage stage) (list_all is_stage (following ∷ stages)) all in
+    ap (λ (main : List (List (List ℕ))). (main ++ file_value [] joined_words words_of_node stage.out) ++ chain_list words_of_node false (following ∷ stages)) (main-words leads stage parts.0)
+    ∙ ap (λ (file : List (List (List ℕ))). (words_by 1 stage.does ++ file) ++ chain_list words_of_node false (following ∷ stages)) (file-words stage.out)
+    ∙ ap (λ (here : List (List (List ℕ))). here ++ chain_list words_of_node false (following ∷ stages)) (append-nil (words_by 1 stage.does))
+    ∙ ap (λ (rest : List (List (List ℕ))). words_by 1 stage.does ++ rest) (all-words false (following ∷ stages) parts.1)
+
+stream-words : (comes : Coming) → stream_value [] joined_words words_of_node comes ≡ []
+stream-words (coming.Begins begin) = by_first begin.now
+  where
+    by_first : (begin : First) → first_value [] joined_words words_of_node begin ≡ []
+    by_first first.Input = refl
+    by_first (first.Text text) = refl
+stream-words (coming.On edge) = refl
+stream-words coming.Nothing = refl
+
+pub chain-words : (number : ℕ) (comes : Coming) (stages : List Stage) (next : ℕ) → list_all is_stage stages ≡ true
+    → flat_map (λ (it : Step). words_of_node it.kind (length it.ins)) (chain_steps number comes stages next) ≡ words_at 1 stages
+chain-words number comes stages next all =
+    listed-found words_of_node (chain_steps number comes stages next)
+    ∙ chain-gathered [] joined_words words_of_node (list-gathers words_of_node (λ text. refl) (λ close count. refl) refl) number comes stages next
+    ∙ ap (λ (stream : List (List (List ℕ))). chain_value [] joined_words words_of_node stream (begins comes) stages) (stream-words comes) ∙ all-words (begins comes) stages all
 
 -- ONE IS THERE, AND HOW MANY
-module _ (test : NodeKind → Bool) (text : (text : List ℕ) → test (kind.Text text) ≡ false) (cat : (close : Bool) → test (kind.Cat close) ≡ false) (whole : (inv : Inv) → test (kind.Whole inv) ≡ false) where
-  abbrev any : List Step → Bool
-  any steps = list_any (λ (it : Step). test it.kind) steps
+abbrev either : Bool → Bool → Bool
+either one other = one || other
 
-  abbrev number : List Step → ℕ
-  number steps = count_by (λ (it : Step). test it.kind) steps
+abbrev any_value : (NodeKind → Bool) → NodeKind → ℕ → Bool
+any_value test kind count = test kind
 
-  any-gathers : Gathers false (λ one other. one || other) any
-  any-gathers = record {
-    left = λ it. refl;
-    right = λ it. or-none it;
-    nothing = refl;
-    append = λ front back. list_any-append (λ (it : Step). test it.kind) front back;
-    of_text = λ it. ap (λ (found : Bool). found || false) (text it);
-    of_join = λ inv size is. ap (λ (found : Bool). found || false) (cat (closes_before inv));
-    of_both = λ one other. ap (λ (found : Bool). found || false) (cat false);
-  }
+abbrev sum : ℕ → ℕ → ℕ
+sum one other = one + other
 
-  number-one : (it : Step) → test it.kind ≡ false → number (it ∷ []) ≡ 0
-  number-one it is = sum_by-cons (λ (it : Step). if test it.kind then 1 else 0) it [] ∙ ap (λ (found : Bool). (if found then 1 else 0) + 0) is
+abbrev number_value : (NodeKind → Bool) → NodeKind → ℕ → ℕ
+number_value test kind count = if test kind then 1 else 0
 
-  number-gathers : Gathers 0 (λ one other. one + other) number
-  number-gathers = record {
-    left = λ it. (omega arith);
-    right = λ it. (omega arith);
-    nothing = refl;
-    append = λ front back. sum_by-append (λ (it : Step). if test it.kind then 1 else 0) front back;
-    of_text = λ it. number-one (step (kind.Text it) [] 0) (text it);
-    of_join = λ inv size is. number-one (step (kind.Cat (closes_before inv)) (range_with_len 0 size) 0) (cat (closes_before inv));
-    of_both = λ one other. number-one (step (kind.Cat false) (one ∷ other ∷ []) 0) (cat false);
-  }
+any-found : (test : NodeKind → Bool) (steps : List Step) → list_any (λ (it : Step). test it.kind) steps ≡ gathered false either (any_value test) steps
+any-found test [] = refl
+any-found test (it ∷ steps) = ap (λ (rest : Bool). test it.kind || rest) (any-found test steps)
 
-  own-any : (it : Does) (size : ℕ) → of_does false (λ one other. one || other) any any-gathers it size ≡ false
-  own-any does.Skip size = refl
-  own-any (does.Util inv) size = by_cat (is_cat inv)
-    where
-      by_cat : (is : Bool) → (if is then false else any (step (kind.Whole inv) (joined_edges inv size) 0 ∷ [])) ≡ false
-      by_cat true = refl
-      by_cat false = ap (λ (found : Bool). found || false) (whole inv)
+number-found : (test : NodeKind → Bool) (steps : List Step) → count_by (λ (it : Step). test it.kind) steps ≡ gathered 0 sum (number_value test) steps
+number-found test [] = refl
+number-found test (it ∷ steps) =
+    sum_by-cons (λ (it : Step). if test it.kind then 1 else 0) it steps ∙ ap (λ (rest : ℕ). (if test it.kind then 1 else 0) + rest) (number-found test steps)
 
-  own-number : (it : Does) (size : ℕ) → of_does 0 (λ one other. one + other) number number-gathers it size ≡ 0
-  own-number does.Skip size = refl
-  own-number (does.Util inv) size = by_cat (is_cat inv)
-    where
-      by_cat : (is : Bool) → (if is then 0 else number (step (kind.Whole inv) (joined_edges inv size) 0 ∷ [])) ≡ 0
-      by_cat true = refl
-      by_cat false = number-one (step (kind.Whole inv) (joined_edges inv size) 0) (whole inv)
+or-assoc : (one two three : Bool) → ((one || two) || three) ≡ (one || (two || three))
+or-assoc true two three = refl
+or-assoc false two three = refl
 
-  -- those of a stage are among its inputs, or where its output goes
-  any-stage : (begin : First) (stage : Stage) → any (stage_steps begin stage) ≡ (any (in_steps begin (ins_of stage)) || any (out_steps stage.out stage.piped (out_edge begin stage) (out_next begin stage)))
-  any-stage begin stage =
-      let outs : Bool = any (out_steps stage.out stage.piped (out_edge begin stage) (out_next begin stage)) in
-      stage-fold false (λ one other. one || other) any any-gathers begin stage
-      ∙ ap (λ (own : Bool). (any (in_steps begin (ins_of stage)) || own) || outs) (own-any stage.does (length stage.ins))
-      ∙ ap (λ (ins : Bool). ins || outs) (or-none (any (in_steps begin (ins_of stage))))
+any-gathers : (test : NodeKind → Bool) → ((text : List ℕ) → test (kind.Text text) ≡ false) → ((close : Bool) → test (kind.Cat close) ≡ false) → test kind.Drain ≡ false → Gathers false either (any_value test)
+any-gathers test text cat drain = record {
+  left = λ it. refl;
+  right = λ it. or-none it;
+  assoc = or-assoc;
+  of_text = text;
+  of_cat = λ close count some. cat close;
+  of_drain = drain;
+}
 
-  number-stage : (begin : First) (stage : Stage) → number (stage_steps begin stage) ≡ number (in_steps begin (ins_of stage)) + number (out_steps stage.out stage.piped (out_edge begin stage) (out_next begin stage))
-  number-stage begin stage =
-      let ins : ℕ = number (in_steps begin (ins_of stage)) in
-      let outs : ℕ = number (out_steps stage.out stage.piped (out_edge begin stage) (out_next begin stage)) in
-      let whole = stage-fold 0 (λ one other. one + other) number number-gathers begin stage in
-      let own = own-number stage.does (length stage.ins) in
-      whole ∙ ap (λ (it : ℕ). (ins + it) + outs) own ∙ omega arith
+number-gathers : (test : NodeKind → Bool) → ((text : List ℕ) → test (kind.Text text) ≡ false) → ((close : Bool) → test (kind.Cat close) ≡ false) → test kind.Drain ≡ false → Gathers 0 sum (number_value test)
+number-gathers test text cat drain = record {
+  left = λ it. (omega arith);
+  right = λ it. (omega arith);
+  assoc = λ one two three. (omega arith);
+  of_text = λ it. ap (λ (is : Bool). if is then 1 else 0) (text it);
+  of_cat = λ close count some. ap (λ (is : Bool). if is then 1 else 0) (cat close);
+  of_drain = ap (λ (is : Bool). if is then 1 else 0) drain;
+}
 
-input-in : (begin : First) (it : In) → is_input (kind_in begin it) ≡ (is_shell_input begin && is_stream it)
-input-in first.Input inlet.Stream = refl
-input-in (first.Text text) inlet.Stream = refl
-input-in first.Input (inlet.File path closed) = refl
-input-in (first.Text text) (inlet.File path closed) = refl
-input-in first.Input inlet.Empty = refl
-input-in (first.Text text) inlet.Empty = refl
+-- the shell's input
+abbrev pub is_shell : Coming → Bool
+is_shell comes = stream_value false either (any_value is_input) comes
 
-none-output : (begin : First) (it : In) → is_output (kind_in begin it) ≡ false
-none-output first.Input inlet.Stream = refl
-none-output (first.Text text) inlet.Stream = refl
-none-output begin (inlet.File path closed) = refl
-none-output begin inlet.Empty = refl
+pub shell-is : (begin : First) → first_value false either (any_value is_input) begin ≡ is_shell_input begin
+shell-is first.Input = refl
+shell-is (first.Text text) = refl
 
-and-or : (one two three : Bool) → ((one && two) || (one && three)) ≡ (one && (two || three))
-and-or true two three = refl
-and-or false two three = refl
-
-in-input : (begin : First) (ins : List In) → list_any (λ (it : Step). is_input it.kind) (in_steps begin ins) ≡ (is_shell_input begin && list_any is_stream ins)
-in-input begin [] = sym (and-none (is_shell_input begin))
+util-input : (leads : Bool) (it : Does) (count : ℕ) → (util_value false either (any_value is_input) leads it count ≡ false) × (util_value 0 sum (number_value is_input) leads it count ≡ 0)
+util-input leads does.Skip count = (refl, refl)
+util-input leads (does.Util inv) count = by_cat (is_leading_cat leads inv)
   where
-    and-none : (test : Bool) → (test && false) ≡ false
-    and-none true = refl
-    and-none false = refl
-in-input begin (it ∷ ins) =
-    ap (λ (here : Bool). here || list_any (λ (it : Step). is_input it.kind) (in_steps begin ins)) (input-in begin it)
-    ∙ ap (λ (rest : Bool). (is_shell_input begin && is_stream it) || rest) (in-input begin ins)
-    ∙ and-or (is_shell_input begin) (is_stream it) (list_any is_stream ins)
+    by_cat : (cat : Bool) → ((if cat then false else false) ≡ false) × (◌≡◌ {A = ℕ} (if cat then 0 else 0) 0)
+    by_cat true = (refl, refl)
+    by_cat false = (refl, refl)
 
-in-output : (begin : First) (ins : List In) → list_any (λ (it : Step). is_output it.kind) (in_steps begin ins) ≡ false
-in-output begin [] = refl
-in-output begin (it ∷ ins) = ap (λ (here : Bool). here || list_any (λ (it : Step). is_output it.kind) (in_steps begin ins)) (none-output begin it) ∙ in-output begin ins
+file-input : (it : Out) → (file_value false either (any_value is_input) it ≡ false) × (file_value 0 sum (number_value is_input) it ≡ 0)
+file-input out.Next = (refl, refl)
+file-input (out.File path mode) = (refl, refl)
+file-input out.Null = (refl, refl)
 
-in-inputs : (begin : First) (ins : List In) → count_by (λ (it : Step). is_input it.kind) (in_steps begin ins) ≤ count_by is_stream ins
-in-inputs begin [] = omega arith
-in-inputs begin (it ∷ ins) =
-    let here : count_by (λ (it : Step). is_input it.kind) (in_steps begin (it ∷ ins)) ≡ (if is_input (kind_in begin it) then 1 else 0) + count_by (λ (it : Step). is_input it.kind) (in_steps begin ins) =
-    sum_by-cons (λ (it : Step). if is_input it.kind then 1 else 0) (step (kind_in begin it) [] 0) (in_steps begin ins) in
-    let all : count_by is_stream (it ∷ ins) ≡ (if is_stream it then 1 else 0) + count_by is_stream ins = sum_by-cons (λ it. if is_stream it then 1 else 0) it ins in
-    let less : (if is_input (kind_in begin it) then 1 else 0) ≤ (if is_stream it then 1 else 0) =
-    subst (λ (test : Bool). (if test then 1 else 0) ≤ (if is_stream it then 1 else 0)) (sym (input-in begin it)) (below (is_shell_input begin) (is_stream it)) in
-    let rest = in-inputs begin ins in
-    omega (arith, here, all, less, rest)
+goes-input : (it : Out) (piped : List ℕ) → (goes_value false either (any_value is_input) it piped ≡ false) × (goes_value 0 sum (number_value is_input) it piped ≡ 0)
+goes-input it piped = by_test (goes_on it piped)
   where
-    below : (one other : Bool) → (if (one && other) then 1 else 0) ≤ (if other then 1 else 0)
-    below true true = omega arith
-    below true false = omega arith
-    below false true = omega arith
-    below false false = omega arith
-
-in-outputs : (begin : First) (ins : List In) → count_by (λ (it : Step). is_output it.kind) (in_steps begin ins) ≡ 0
-in-outputs begin [] = refl
-in-outputs begin (it ∷ ins) =
-    sum_by-cons (λ (it : Step). if is_output it.kind then 1 else 0) (step (kind_in begin it) [] 0) (in_steps begin ins)
-    ∙ ap (λ (here : Bool). (if here then 1 else 0) + count_by (λ (it : Step). is_output it.kind) (in_steps begin ins)) (none-output begin it)
-    ∙ (let rest = in-outputs begin ins in omega (arith, rest))
-
-piped-input : (piped : List ℕ) (next : ℕ) → (list_any (λ (it : Step). is_input it.kind) (piped_steps piped next) ≡ false) × (count_by (λ (it : Step). is_input it.kind) (piped_steps piped next) ≡ 0)
-piped-input piped next = by_test (is_empty piped)
-  where
-    by_test : (none : Bool) → (list_any (λ (it : Step). is_input it.kind) (if none then [] else step (kind.Text piped) [] 0 ∷ step (kind.Sink to.Output) (next ∷ []) 0 ∷ []) ≡ false)
-        × (count_by (λ (it : Step). is_input it.kind) (if none then [] else step (kind.Text piped) [] 0 ∷ step (kind.Sink to.Output) (next ∷ []) 0 ∷ []) ≡ 0)
+    by_test : (goes : Bool) → ((if goes then false else false) ≡ false) × (◌≡◌ {A = ℕ} (if goes then 0 else 0) 0)
     by_test true = (refl, refl)
     by_test false = (refl, refl)
 
-piped-output : (piped : List ℕ) (next : ℕ) → (list_any (λ (it : Step). is_output it.kind) (piped_steps piped next) ≡ not (is_empty piped)) × (count_by (λ (it : Step). is_output it.kind) (piped_steps piped next) ≤ 1)
-piped-output piped next = by_test (is_empty piped)
+ins-input : (stream : Bool) (ins : List In) → ins_value false either (any_value is_input) stream ins ≡ (stream && list_any is_stream ins)
+ins-input true [] = refl
+ins-input false [] = refl
+ins-input true (inlet.Stream ∷ ins) = refl
+ins-input false (inlet.Stream ∷ ins) = ins-input false ins
+ins-input stream (inlet.File path closed ∷ ins) = ins-input stream ins
+ins-input stream (inlet.Empty ∷ ins) = ins-input stream ins
+
+main-input : (stream leads : Bool) (stage : Stage) → main_value false either (any_value is_input) stream leads stage ≡ (stream && is_reader stage)
+main-input stream leads stage =
+    ap (λ (own : Bool). ins_value false either (any_value is_input) stream (ins_of stage) || own) (util-input leads stage.does (read_count stage.does (length stage.ins))).0
+    ∙ or-none (ins_value false either (any_value is_input) stream (ins_of stage)) ∙ ins-input stream (ins_of stage)
+
+chain-input-none : (leads : Bool) (stages : List Stage) → chain_value false either (any_value is_input) false leads stages ≡ false
+chain-input-none leads [] = refl
+chain-input-none leads (stage ∷ []) =
+    ap (λ (main : Bool). main || (file_value false either (any_value is_input) stage.out || goes_value false either (any_value is_input) stage.out stage.piped)) (main-input false leads stage)
+    ∙ ap (λ (file : Bool). file || goes_value false either (any_value is_input) stage.out stage.piped) (file-input stage.out).0 ∙ (goes-input stage.out stage.piped).0
+chain-input-none leads (stage ∷ following ∷ stages) =
+    ap (λ (main : Bool). (main || file_value false either (any_value is_input) stage.out) || chain_value false either (any_value is_input) false false (following ∷ stages)) (main-input false leads stage)
+    ∙ ap (λ (file : Bool). file || chain_value false either (any_value is_input) false false (following ∷ stages)) (file-input stage.out).0 ∙ chain-input-none false (following ∷ stages)
+
+any-input : (stream leads : Bool) (stages : List Stage) → chain_value false either (any_value is_input) stream leads stages ≡ (stream && reads_stream stages)
+any-input true leads [] = refl
+any-input false leads [] = refl
+any-input stream leads (stage ∷ []) =
+    ap (λ (main : Bool). main || (file_value false either (any_value is_input) stage.out || goes_value false either (any_value is_input) stage.out stage.piped)) (main-input stream leads stage)
+    ∙ ap (λ (file : Bool). (stream && is_reader stage) || (file || goes_value false either (any_value is_input) stage.out stage.piped)) (file-input stage.out).0
+    ∙ ap (λ (goes : Bool). (stream && is_reader stage) || goes) (goes-input stage.out stage.piped).0 ∙ or-none (stream && is_reader stage)
+any-input stream leads (stage ∷ following ∷ stages) =
+    ap (λ (main : Bool). (main || file_value false either (any_value is_input) stage.out) || chain_value false either (any_value is_input) false false (following ∷ stages)) (main-input stream leads stage)
+    ∙ ap (λ (file : Bool). ((stream && is_reader stage) || file) || chain_value false either (any_value is_input) false false (following ∷ stages)) (file-input stage.out).0
+    ∙ ap (λ (rest : Bool). ((stream && is_reader stage) || false) || rest) (chain-input-none false (following ∷ stages))
+    ∙ or-none ((stream && is_reader stage) || false) ∙ or-none (stream && is_reader stage)
+
+pub chain-input : (number : ℕ) (comes : Coming) (stages : List Stage) (next : ℕ) → list_any (λ (it : Step). is_input it.kind) (chain_steps number comes stages next) ≡ (is_shell comes && reads_stream stages)
+chain-input number comes stages next =
+    any-found is_input (chain_steps number comes stages next)
+    ∙ chain-gathered false either (any_value is_input) (any-gathers is_input (λ text. refl) (λ close. refl) refl) number comes stages next
+    ∙ any-input (is_shell comes) (begins comes) stages
+
+-- it is taken once
+ins-inputs : (stream : ℕ) (ins : List In) → stream ≤ 1 → ins_value 0 sum (number_value is_input) stream ins ≤ count_by is_stream ins
+ins-inputs stream [] few = omega arith
+ins-inputs stream (inlet.Stream ∷ ins) few =
+    let all : count_by is_stream (inlet.Stream ∷ ins) ≡ 1 + count_by is_stream ins = sum_by-cons (λ it. if is_stream it then 1 else 0) inlet.Stream ins in
+    let rest = ins-inputs stream ins few in omega (arith, all, rest, few)
+ins-inputs stream (inlet.File path closed ∷ ins) few =
+    let all : count_by is_stream (inlet.File path closed ∷ ins) ≡ 0 + count_by is_stream ins = sum_by-cons (λ it. if is_stream it then 1 else 0) (inlet.File path closed) ins in
+    let rest = ins-inputs stream ins few in omega (arith, all, rest)
+ins-inputs stream (inlet.Empty ∷ ins) few =
+    let all : count_by is_stream (inlet.Empty ∷ ins) ≡ 0 + count_by is_stream ins = sum_by-cons (λ it. if is_stream it then 1 else 0) inlet.Empty ins in
+    let rest = ins-inputs stream ins few in omega (arith, all, rest)
+
+no-inputs : (ins : List In) → ins_value 0 sum (number_value is_input) 0 ins ≡ 0
+no-inputs [] = refl
+no-inputs (inlet.Stream ∷ ins) = let rest = no-inputs ins in omega (arith, rest)
+no-inputs (inlet.File path closed ∷ ins) = let rest = no-inputs ins in omega (arith, rest)
+no-inputs (inlet.Empty ∷ ins) = let rest = no-inputs ins in omega (arith, rest)
+
+chain-inputs-none : (leads : Bool) (stages : List Stage) → chain_value 0 sum (number_value is_input) 0 leads stages ≡ 0
+chain-inputs-none leads [] = refl
+chain-inputs-none leads (stage ∷ []) =
+    let ins = no-inputs (ins_of stage) in
+    let own = (util-input leads stage.does (read_count stage.does (length stage.ins))).1 in
+    let file = (file-input stage.out).1 in
+    let goes = (goes-input stage.out stage.piped).1 in
+    omega (arith, ins, own, file, goes)
+chain-inputs-none leads (stage ∷ following ∷ stages) =
+    let ins = no-inputs (ins_of stage) in
+    let own = (util-input leads stage.does (read_count stage.does (length stage.ins))).1 in
+    let file = (file-input stage.out).1 in
+    let rest = chain-inputs-none false (following ∷ stages) in
+    omega (arith, ins, own, file, rest)
+
+few-inputs : (stream : ℕ) (leads : Bool) (stages : List Stage) → stream ≤ 1 → list_all is_stage stages ≡ true → chain_value 0 sum (number_value is_input) stream leads stages ≤ 1
+few-inputs stream leads [] few all = omega arith
+few-inputs stream leads (stage ∷ []) few all =
+    let ins = ins-inputs stream (ins_of stage) few in
+    let streams = few-streams stage (and_parts (is_stage stage) true all).0 in
+    let own = (util-input leads stage.does (read_count stage.does (length stage.ins))).1 in
+    let file = (file-input stage.out).1 in
+    let goes = (goes-input stage.out stage.piped).1 in
+    omega (arith, ins, streams, own, file, goes)
+few-inputs stream leads (stage ∷ following ∷ stages) few all =
+    let ins = ins-inputs stream (ins_of stage) few in
+    let streams = few-streams stage (and_parts (is_stage stage) (list_all is_stage (following ∷ stages)) all).0 in
+    let own = (util-input leads stage.does (read_count stage.does (length stage.ins))).1 in
+    let file = (file-input stage.out).1 in
+    let rest = chain-inputs-none false (following ∷ stages) in
+    omega (arith, ins, streams, own, file, rest)
+
+stream-few : (comes : Coming) → stream_value 0 sum (number_value is_input) comes ≤ 1
+stream-few (coming.Begins begin) = by_first begin.now
   where
-    by_test : (none : Bool) → (list_any (λ (it : Step). is_output it.kind) (if none then [] else step (kind.Text piped) [] 0 ∷ step (kind.Sink to.Output) (next ∷ []) 0 ∷ []) ≡ not none)
-        × (count_by (λ (it : Step). is_output it.kind) (if none then [] else step (kind.Text piped) [] 0 ∷ step (kind.Sink to.Output) (next ∷ []) 0 ∷ []) ≤ 1)
+    by_first : (begin : First) → first_value 0 sum (number_value is_input) begin ≤ 1
+    by_first first.Input = omega arith
+    by_first (first.Text text) = omega arith
+stream-few (coming.On edge) = omega arith
+stream-few coming.Nothing = omega arith
+
+pub chain-inputs : (number : ℕ) (comes : Coming) (stages : List Stage) (next : ℕ) → list_all is_stage stages ≡ true → count_by (λ (it : Step). is_input it.kind) (chain_steps number comes stages next) ≤ 1
+chain-inputs number comes stages next all =
+    let count = number-found is_input (chain_steps number comes stages next) in
+    let whole = chain-gathered 0 sum (number_value is_input) (number-gathers is_input (λ text. refl) (λ close. refl) refl) number comes stages next in
+    let few = few-inputs (stream_value 0 sum (number_value is_input) comes) (begins comes) stages (stream-few comes) all in
+    omega (arith, count, whole, few)
+
+-- the output
+ins-output : (ins : List In) → (ins_value false either (any_value is_output) false ins ≡ false) × (ins_value 0 sum (number_value is_output) 0 ins ≡ 0)
+ins-output [] = (refl, refl)
+ins-output (inlet.Stream ∷ ins) = let rest = ins-output ins in let none = rest.1 in (rest.0, omega (arith, none))
+ins-output (inlet.File path closed ∷ ins) = let rest = ins-output ins in let none = rest.1 in (rest.0, omega (arith, none))
+ins-output (inlet.Empty ∷ ins) = let rest = ins-output ins in let none = rest.1 in (rest.0, omega (arith, none))
+
+util-output : (leads : Bool) (it : Does) (count : ℕ) → (util_value false either (any_value is_output) leads it count ≡ false) × (util_value 0 sum (number_value is_output) leads it count ≡ 0)
+util-output leads does.Skip count = (refl, refl)
+util-output leads (does.Util inv) count = by_cat (is_leading_cat leads inv)
+  where
+    by_cat : (cat : Bool) → ((if cat then false else false) ≡ false) × (◌≡◌ {A = ℕ} (if cat then 0 else 0) 0)
+    by_cat true = (refl, refl)
+    by_cat false = (refl, refl)
+
+file-output : (it : Out) → (file_value false either (any_value is_output) it ≡ false) × (file_value 0 sum (number_value is_output) it ≡ 0)
+file-output out.Next = (refl, refl)
+file-output (out.File path mode) = (refl, refl)
+file-output out.Null = (refl, refl)
+
+goes-output : (it : Out) (piped : List ℕ) → (goes_value false either (any_value is_output) it piped ≡ goes_on it piped) × (goes_value 0 sum (number_value is_output) it piped ≤ 1)
+goes-output it piped = by_test (goes_on it piped)
+  where
+    by_test : (goes : Bool) → ((if goes then true else false) ≡ goes) × ((if goes then 1 else 0) ≤ 1)
     by_test true = (refl, omega arith)
-    by_test false = (refl, let all : count_by (λ (it : Step). is_output it.kind) (step (kind.Text piped) [] 0 ∷ step (kind.Sink to.Output) (next ∷ []) 0 ∷ []) ≡ 1 = refl in omega (arith, all))
+    by_test false = (refl, omega arith)
 
-out-input : (it : Out) (piped : List ℕ) (edge next : ℕ) → (list_any (λ (it : Step). is_input it.kind) (out_steps it piped edge next) ≡ false) × (count_by (λ (it : Step). is_input it.kind) (out_steps it piped edge next) ≡ 0)
-out-input out.Next piped edge next = (refl, refl)
-out-input (out.File path mode) piped edge next =
-    let rest = piped-input piped next in
-    (rest.0, sum_by-cons (λ (it : Step). if is_input it.kind then 1 else 0) (step (kind.Sink (to.File path mode)) (edge ∷ []) 0) (piped_steps piped next) ∙ (let none = rest.1 in omega (arith, none)))
-out-input out.Null piped edge next =
-    let rest = piped-input piped next in
-    (rest.0, sum_by-cons (λ (it : Step). if is_input it.kind then 1 else 0) (step kind.Drain (edge ∷ []) 0) (piped_steps piped next) ∙ (let none = rest.1 in omega (arith, none)))
+main-output : (leads : Bool) (stage : Stage) → main_value false either (any_value is_output) false leads stage ≡ false
+main-output leads stage =
+    ap (λ (ins : Bool). ins || util_value false either (any_value is_output) leads stage.does (read_count stage.does (length stage.ins))) (ins-output (ins_of stage)).0
+    ∙ (util-output leads stage.does (read_count stage.does (length stage.ins))).0
 
-out-output : (it : Out) (piped : List ℕ) (edge next : ℕ) → (list_any (λ (it : Step). is_output it.kind) (out_steps it piped edge next) ≡ goes_on it piped) × (count_by (λ (it : Step). is_output it.kind) (out_steps it piped edge next) ≤ 1)
-out-output out.Next piped edge next = (refl, let all : count_by (λ (it : Step). is_output it.kind) (step (kind.Sink to.Output) (edge ∷ []) 0 ∷ []) ≡ 1 = refl in omega (arith, all))
-out-output (out.File path mode) piped edge next =
-    let rest = piped-output piped next in
-    let all : count_by (λ (it : Step). is_output it.kind) (step (kind.Sink (to.File path mode)) (edge ∷ []) 0 ∷ piped_steps piped next) ≡ 0 + count_by (λ (it : Step). is_output it.kind) (piped_steps piped next) =
-    sum_by-cons (λ (it : Step). if is_output it.kind then 1 else 0) (step (kind.Sink (to.File path mode)) (edge ∷ []) 0) (piped_steps piped next) in
-    (rest.0, let few = rest.1 in omega (arith, all, few))
-out-output out.Null piped edge next =
-    let rest = piped-output piped next in
-    let all : count_by (λ (it : Step). is_output it.kind) (step kind.Drain (edge ∷ []) 0 ∷ piped_steps piped next) ≡ 0 + count_by (λ (it : Step). is_output it.kind) (piped_steps piped next) =
-    sum_by-cons (λ (it : Step). if is_output it.kind then 1 else 0) (step kind.Drain (edge ∷ []) 0) (piped_steps piped next) in
-    (rest.0, let few = rest.1 in omega (arith, all, few))
+any-output : (leads : Bool) (stages : List Stage) → chain_value false either (any_value is_output) false leads stages ≡ gives_output stages
+any-output leads [] = refl
+any-output leads (stage ∷ []) =
+    ap (λ (main : Bool). main || (file_value false either (any_value is_output) stage.out || goes_value false either (any_value is_output) stage.out stage.piped)) (main-output leads stage)
+    ∙ ap (λ (file : Bool). file || goes_value false either (any_value is_output) stage.out stage.piped) (file-output stage.out).0 ∙ (goes-output stage.out stage.piped).0
+any-output leads (stage ∷ following ∷ stages) =
+    ap (λ (main : Bool). (main || file_value false either (any_value is_output) stage.out) || chain_value false either (any_value is_output) false false (following ∷ stages)) (main-output leads stage)
+    ∙ ap (λ (file : Bool). file || chain_value false either (any_value is_output) false false (following ∷ stages)) (file-output stage.out).0 ∙ any-output false (following ∷ stages)
 
-pub stage-input : (begin : First) (stage : Stage) → list_any (λ (it : Step). is_input it.kind) (stage_steps begin stage) ≡ (is_shell_input begin && list_any is_stream (ins_of stage))
-stage-input begin stage =
-    any-stage is_input (λ text. refl) (λ close. refl) (λ inv. refl) begin stage
-    ∙ ap (λ (last : Bool). list_any (λ (it : Step). is_input it.kind) (in_steps begin (ins_of stage)) || last) (out-input stage.out stage.piped (out_edge begin stage) (out_next begin stage)).0
-    ∙ or-none (list_any (λ (it : Step). is_input it.kind) (in_steps begin (ins_of stage))) ∙ in-input begin (ins_of stage)
+few-outputs : (leads : Bool) (stages : List Stage) → chain_value 0 sum (number_value is_output) 0 leads stages ≤ 1
+few-outputs leads [] = omega arith
+few-outputs leads (stage ∷ []) =
+    let ins = (ins-output (ins_of stage)).1 in
+    let own = (util-output leads stage.does (read_count stage.does (length stage.ins))).1 in
+    let file = (file-output stage.out).1 in
+    let goes = (goes-output stage.out stage.piped).1 in
+    omega (arith, ins, own, file, goes)
+few-outputs leads (stage ∷ following ∷ stages) =
+    let ins = (ins-output (ins_of stage)).1 in
+    let own = (util-output leads stage.does (read_count stage.does (length stage.ins))).1 in
+    let file = (file-output stage.out).1 in
+    let rest = few-outputs false (following ∷ stages) in
+    omega (arith, ins, own, file, rest)
 
-pub stage-output : (begin : First) (stage : Stage) → list_any (λ (it : Step). is_output it.kind) (stage_steps begin stage) ≡ goes_on stage.out stage.piped
-stage-output begin stage =
-    any-stage is_output (λ text. refl) (λ close. refl) (λ inv. refl) begin stage
-    ∙ ap (λ (first : Bool). first || list_any (λ (it : Step). is_output it.kind) (out_steps stage.out stage.piped (out_edge begin stage) (out_next begin stage))) (in-output begin (ins_of stage))
-    ∙ (out-output stage.out stage.piped (out_edge begin stage) (out_next begin stage)).0
-
-pub stage-inputs : (begin : First) (stage : Stage) → count_by is_stream (ins_of stage) ≤ 1 → count_by (λ (it : Step). is_input it.kind) (stage_steps begin stage) ≤ 1
-stage-inputs begin stage few =
-    let all = number-stage is_input (λ text. refl) (λ close. refl) (λ inv. refl) begin stage in
-    let ins = in-inputs begin (ins_of stage) in
-    let outs = (out-input stage.out stage.piped (out_edge begin stage) (out_next begin stage)).1 in
-    omega (arith, all, ins, outs, few)
-
-pub stage-outputs : (begin : First) (stage : Stage) → count_by (λ (it : Step). is_output it.kind) (stage_steps begin stage) ≤ 1
-stage-outputs begin stage =
-    let all = number-stage is_output (λ text. refl) (λ close. refl) (λ inv. refl) begin stage in
-    let ins = in-outputs begin (ins_of stage) in
-    let outs = (out-output stage.out stage.piped (out_edge begin stage) (out_next begin stage)).1 in
-    omega (arith, all, ins, outs)
-
--- THE WORDS OF UTILITIES
-abbrev words_in : List Step → List (List (List ℕ))
-words_in steps = flat_map (λ (it : Step). words_of_node it.kind (length it.ins)) steps
-
-words-gather : Gathers [] (λ (one other : List (List (List ℕ))). one ++ other) words_in
-words-gather = record {
-  left = λ it. refl;
-  right = λ it. append-nil it;
-  nothing = refl;
-  append = λ front back. flat_map-append (λ (it : Step). words_of_node it.kind (length it.ins)) front back;
-  of_text = λ it. refl;
-  of_join = λ inv size is. refl;
-  of_both = λ one other. refl;
-}
-
-in-words : (begin : First) (it : In) → words_of_node (kind_in begin it) 0 ≡ []
-in-words first.Input inlet.Stream = refl
-in-words (first.Text text) inlet.Stream = refl
-in-words begin (inlet.File path closed) = refl
-in-words begin inlet.Empty = refl
-
-ins-words : (begin : First) (ins : List In) → words_in (in_steps begin ins) ≡ []
-ins-words begin [] = refl
-ins-words begin (it ∷ ins) = ap (λ (words : List (List (List ℕ))). words ++ words_in (in_steps begin ins)) (in-words begin it) ∙ ins-words begin ins
-
-out-words : (it : Out) (piped : List ℕ) (edge next : ℕ) → words_in (out_steps it piped edge next) ≡ []
-out-words out.Next piped edge next = refl
-out-words (out.File path mode) piped edge next = by_test (is_empty piped)
+stream-output : (comes : Coming) → (stream_value false either (any_value is_output) comes ≡ false) × (stream_value 0 sum (number_value is_output) comes ≡ 0)
+stream-output (coming.Begins begin) = by_first begin.now
   where
-    by_test : (none : Bool) → words_in (if none then [] else step (kind.Text piped) [] 0 ∷ step (kind.Sink to.Output) (next ∷ []) 0 ∷ []) ≡ []
-    by_test true = refl
-    by_test false = refl
-out-words out.Null piped edge next = by_test (is_empty piped)
-  where
-    by_test : (none : Bool) → words_in (if none then [] else step (kind.Text piped) [] 0 ∷ step (kind.Sink to.Output) (next ∷ []) 0 ∷ []) ≡ []
-    by_test true = refl
-    by_test false = refl
+    by_first : (begin : First) → (first_value false either (any_value is_output) begin ≡ false) × (first_value 0 sum (number_value is_output) begin ≡ 0)
+    by_first first.Input = (refl, refl)
+    by_first (first.Text text) = (refl, refl)
+stream-output (coming.On edge) = (refl, refl)
+stream-output coming.Nothing = (refl, refl)
 
--- those of what the stage does
-abbrev pub own_words : Does → List (List (List ℕ))
-own_words does.Skip = []
-own_words (does.Util inv) = words_with inv (inputs_of inv)
+pub chain-output : (number : ℕ) (comes : Coming) (stages : List Stage) (next : ℕ) → list_any (λ (it : Step). is_output it.kind) (chain_steps number comes stages next) ≡ gives_output stages
+chain-output number comes stages next =
+    any-found is_output (chain_steps number comes stages next)
+    ∙ chain-gathered false either (any_value is_output) (any-gathers is_output (λ text. refl) (λ close. refl) refl) number comes stages next
+    ∙ ap (λ (stream : Bool). chain_value false either (any_value is_output) stream (begins comes) stages) (stream-output comes).0 ∙ any-output (begins comes) stages
 
-own-words : (it : Does) (size : ℕ) → ((inv : Inv) → it ≡ does.Util inv → inputs_of inv ≡ read_of inv size)
-    → of_does [] (λ (one other : List (List (List ℕ))). one ++ other) words_in words-gather it size ≡ own_words it
-own-words does.Skip size reads = refl
-own-words (does.Util inv) size reads = by_cat (is_cat inv) refl
-  where
-    by_cat : (cat : Bool) → is_cat inv ≡ cat → (if cat then [] else words_in (step (kind.Whole inv) (joined_edges inv size) 0 ∷ [])) ≡ (if cat || (inputs_of inv == 0) then [] else words_of inv ∷ [])
-    by_cat true cat = refl
-    by_cat false cat =
-        append-nil (words_with inv (length (joined_edges inv size)))
-        ∙ ap (λ (count : ℕ). words_with inv count) (joined-count inv size ∙ sym (reads inv refl))
-        ∙ ap (λ (is : Bool). if is || (inputs_of inv == 0) then [] else words_of inv ∷ []) cat
-
-pub stage-words : (begin : First) (stage : Stage) → ((inv : Inv) → stage.does ≡ does.Util inv → inputs_of inv ≡ read_of inv (length stage.ins))
-    → flat_map (λ (it : Step). words_of_node it.kind (length it.ins)) (stage_steps begin stage) ≡ own_words stage.does
-stage-words begin stage reads =
-    let own : List (List (List ℕ)) = of_does [] (λ (one other : List (List (List ℕ))). one ++ other) words_in words-gather stage.does (length stage.ins) in
-    stage-fold [] (λ (one other : List (List (List ℕ))). one ++ other) words_in words-gather begin stage
-    ∙ ap (λ (last : List (List (List ℕ))). (words_in (in_steps begin (ins_of stage)) ++ own) ++ last) (out-words stage.out stage.piped (out_edge begin stage) (out_next begin stage))
-    ∙ append-nil (words_in (in_steps begin (ins_of stage)) ++ own)
-    ∙ ap (λ (first : List (List (List ℕ))). first ++ own) (ins-words begin (ins_of stage))
-    ∙ own-words stage.does (length stage.ins) reads
+pub chain-outputs : (number : ℕ) (comes : Coming) (stages : List Stage) (next : ℕ) → count_by (λ (it : Step). is_output it.kind) (chain_steps number comes stages next) ≤ 1
+chain-outputs number comes stages next =
+    let count = number-found is_output (chain_steps number comes stages next) in
+    let whole = chain-gathered 0 sum (number_value is_output) (number-gathers is_output (λ text. refl) (λ close. refl) refl) number comes stages next in
+    let stream : chain_value 0 sum (number_value is_output) (stream_value 0 sum (number_value is_output) comes) (begins comes) stages ≡ chain_value 0 sum (number_value is_output) 0 (begins comes) stages =
+    ap (λ (stream : ℕ). chain_value 0 sum (number_value is_output) stream (begins comes) stages) (stream-output comes).1 in
+    let few = few-outputs (begins comes) stages in
+    omega (arith, count, whole, stream, few)

@@ -1,8 +1,10 @@
 pub mod RowLemmas
 pub mod DrawingLemmas
 pub mod MeaningLemmas
+pub mod FitLemmas
 pub mod StageLemmas
 pub mod FoundLemmas
 pub mod OutcomeLemmas
+pub mod StatusLemmas
 pub mod ChainLemmas
 pub mod AddLemmas

@@ -51,6 +51,23 @@ module _ (input : List ℕ) (files : Components → List ℕ) where
   texts-append texts [] back = refl
   texts-append texts (it ∷ front) back = texts-append (texts_on texts it) front back
 
+  -- a text that is on an edge stays there
+  one-keeps : (texts : List (List ℕ)) (it : Step) (edge : ℕ) → edge < length texts → (edge < length (texts_on texts it)) × (text_at (texts_on texts it) edge ≡ text_at texts edge)
+  one-keeps texts it edge below = by_one (gives_one it.kind)
+    where
+      new : List ℕ
+      new = text_given it.kind (ins_texts texts it)
+
+      by_one : (one : Bool) → (edge < length (if one then texts ++ new ∷ [] else texts)) × (text_at (if one then texts ++ new ∷ [] else texts) edge ≡ text_at texts edge)
+      by_one true = (let size = length-append texts (new ∷ []) in omega (arith, below, size), get-front texts (new ∷ []) edge [] below)
+      by_one false = (below, refl)
+
+  pub keeps-text : (texts : List (List ℕ)) (steps : List Step) (edge : ℕ) → edge < length texts → text_at (texts_behind texts steps) edge ≡ text_at texts edge
+  keeps-text texts [] edge below = refl
+  keeps-text texts (it ∷ steps) edge below =
+      let here = one-keeps texts it edge below in
+      keeps-text (texts_on texts it) steps edge here.0 ∙ here.1
+
   reads-text : (it : NodeKind) → is_source it ≡ is_some (text_read input files it)
   reads-text (kind.Source (from.File path)) = refl
   reads-text (kind.Source from.Input) = refl

@@ -1,9 +1,8 @@
--- What the graph of a stage leaves is what the stage means.
-use Rattle.std.proofs.Common.{◌≡◌, ℕ, ◌+◌, ◌<◌, ◌==◌, List, [], ◌∷◌, ◌++◌, Bool, true, false, ◌&&◌, if◌then◌else◌, drop, get_or, length, map, nat_lt, refl, ap, sym, subst, ◌∙◌, append-nil, append_assoc, length-append, arith}
-use Rattle.std.specs.List.{concat, flat_map, list_all, range_with_len}
-use Rattle.std.proofs.lemmas.Bool.{true≢false, and_from, and_parts, eqb-true, lt-ltb}
-use Rattle.std.proofs.lemmas.List.{length-map}
-use Rattle.std.proofs.lemmas.List.Folds.{list_all-append}
+-- What the graph of a segment leaves is what the segment means.
+use Rattle.std.proofs.Common.{◌≡◌, ℕ, ◌+◌, ◌<◌, ◌≤◌, List, [], ◌∷◌, ◌++◌, Bool, true, false, ◌&&◌, if◌then◌else◌, drop, get_or, length, map, nat_lt, refl, ap, sym, subst, ◌∙◌, append-nil, length-append, arith}
+use Rattle.std.specs.List.{concat, count_by, flat_map, list_all, list_any}
+use Rattle.std.proofs.lemmas.Bool.{true≢false, and_parts, lt-ltb, ltb-true}
+use Rattle.std.proofs.lemmas.Grind.{flat_map-append}
 use Rattle.ps_lines.specs.Lines.{is_empty}
 use Rattle.ps_world.specs.Paths.{Components}
 use Rattle.ps_world.specs.declared.tree.Mode.{Mode}
@@ -13,13 +12,15 @@ use Rattle.ut_args.specs.declared.invocations.CatInv.{CatInv}
 use Rattle.fl_graph.specs.declared.kinds.NodeKind.{NodeKind}
 use Rattle.fl_graph.specs.declared.kinds.NodeKind.TheVariants as kind
 use Rattle.fl_graph.specs.declared.kinds.To.TheVariants as to
-use Rattle.fl_classes.specs.Flow.{Write, ToOutput, ToFile, to_file, to_output, writes_of}
+use Rattle.fl_classes.specs.Flow.{Outcome, Write, ToOutput, ToFile, to_file, to_output, writes_of}
 use Rattle.fl_classes.specs.Used.{is_cat}
 use Rattle.fl_classes.specs.Utilities.{labelled, names_of, output_of}
-use Rattle.fl_segments.specs.Chains.{begins_with, joined_text, joined_texts, led_on, led_to_file, output_by, text_in, texts_read}
-use Rattle.fl_segments.specs.Stages.{closes_before, joins_before}
+use Rattle.fl_segments.specs.Chains.{begins_with, chain_means, files_teed, joined_text, joined_texts, led_on, led_to_file, output_by, stage_means, status_by, text_in, texts_read}
+use Rattle.fl_segments.specs.Stages.{closes_before, ins_of, ins_read, is_none, is_reader, is_stage, is_stream, joins_before}
 use Rattle.fl_segments.specs.Inner.Drawing.{Step, step, gives_one, behind}
-use Rattle.fl_segments.specs.Inner.Steps.{does_edge, does_steps, first_edge, first_steps, in_steps, is_joined, join_steps, joined_edges, kind_in, next_joined, out_steps, piped_steps, stage_steps, util_edge, util_steps}
+use Rattle.fl_segments.specs.Inner.Steps.{begins, chain_steps, comes_behind, comes_on, does_edge, does_steps, done_edge, done_next, done_steps, drain_steps, earlier_steps, first_edge, first_steps, front_edges, front_next, front_steps, in_edge, in_edges, in_steps, input_steps, is_leading_cat, join_steps, joined_edges, kind_first, kind_in, last_steps, main_edge, main_next, main_steps, on_steps, out_steps, piped_steps, read_edges, read_steps, util_edge, util_steps}
+use Rattle.fl_segments.specs.declared.inputs.Coming.{Coming}
+use Rattle.fl_segments.specs.declared.inputs.Coming.TheVariants as coming
 use Rattle.fl_segments.specs.declared.stages.Does.{Does}
 use Rattle.fl_segments.specs.declared.stages.Does.TheVariants as does
 use Rattle.fl_segments.specs.declared.stages.First.{First}
@@ -29,14 +30,18 @@ use Rattle.fl_segments.specs.declared.stages.In.TheVariants as inlet
 use Rattle.fl_segments.specs.declared.stages.Out.{Out}
 use Rattle.fl_segments.specs.declared.stages.Out.TheVariants as out
 use Rattle.fl_segments.specs.declared.stages.Stage.{Stage}
-use Rattle.fl_segments.proofs.FoundLemmas.{main_edge, next_main}
-use Rattle.fl_segments.proofs.MeaningLemmas.{ins_texts, text_at, text_given, texts_behind, texts_on, told_from, texts-append, told-append}
-use Rattle.fl_segments.proofs.RowLemmas.{get-front, get-here, range-reads}
-use Rattle.fl_segments.proofs.StageLemmas.{cat-edges, cat-joins, edge_by, in-gives, none-joined, steps_by}
+use Rattle.fl_segments.proofs.FitLemmas.{few-streams, no-tees}
+use Rattle.fl_segments.proofs.FoundLemmas.{main-all, of-kinds}
+use Rattle.fl_segments.proofs.MeaningLemmas.{ins_texts, keeps-text, text_at, text_given, texts_behind, texts_on, told_from, texts-append, told-append}
+use Rattle.fl_segments.proofs.RowLemmas.{get-front, get-here}
+use Rattle.fl_segments.proofs.StageLemmas.{AllBelow, all-more, behind-more, cat-one, leads-cat, does-passes, earlier-passes, front-passes, input-passes, open_coming}
 
 none-empty : (text : List ℕ) → is_empty text ≡ true → text ≡ []
 none-empty [] is = refl
 none-empty (byte ∷ text) is = absurd (true≢false (sym is))
+
+one-below : (edge next : ℕ) → AllBelow next (edge ∷ []) → edge < next
+one-below edge next all = ltb-true edge next (and_parts (nat_lt edge next) true all).0
 
 -- cat writes its inputs joined
 flat-labelled : (names texts : List (List ℕ)) → flat_map (λ it. it.text) (labelled names texts) ≡ concat texts
@@ -45,6 +50,14 @@ flat-labelled names (text ∷ texts) = ap (λ (rest : List ℕ). text ++ rest) (
 
 cat-output : (cat : CatInv) (texts : List (List ℕ)) → output_of (inv.Cat cat) texts ≡ concat texts
 cat-output cat texts = flat-labelled (names_of (inv.Cat cat)) texts
+
+is-cat : (inv : Inv) → is_cat inv ≡ true → (texts : List (List ℕ)) → output_of inv texts ≡ concat texts
+is-cat (inv.Cat cat) is texts = cat-output cat texts
+is-cat other is texts = absurd (true≢false (sym is))
+
+one-joined : (closes : Bool) (text : List ℕ) → joined_text closes (text ∷ []) ≡ text
+one-joined true text = refl
+one-joined false text = append-nil text
 
 module _ (input : List ℕ) (files : Components → List ℕ) where
   -- where each edge's text stands
@@ -57,138 +70,149 @@ module _ (input : List ℕ) (files : Components → List ℕ) where
       by_one true = length-append texts (text_given input files it.kind (ins_texts texts it) ∷ [])
       by_one false = refl
 
-  module _ (begin : First) where
-    abbrev read_in : In → List ℕ
-    read_in it = text_in (begins_with begin input) files it
+  -- edges that are open behind nodes have their texts there
+  below-texts : (texts : List (List ℕ)) (steps : List Step) (edges : List ℕ) → AllBelow (behind (length texts) steps) edges → AllBelow (length (texts_behind input files texts steps)) edges
+  below-texts texts steps edges all = subst (λ (size : ℕ). AllBelow size edges) (sym (texts-count texts steps)) all
 
-    in-text : (begin : First) (it : In) → text_given input files (kind_in begin it) [] ≡ text_in (begins_with begin input) files it
-    in-text first.Input inlet.Stream = refl
-    in-text (first.Text text) inlet.Stream = refl
-    in-text begin (inlet.File path closed) = refl
-    in-text begin inlet.Empty = refl
+  -- THE INPUTS
+  -- the text that comes to a stage
+  abbrev pub stream_text : Coming → List (List ℕ) → List ℕ
+  stream_text (coming.Begins begin) texts = begins_with begin.now input
+  stream_text (coming.On edge) texts = text_at texts edge
+  stream_text coming.Nothing texts = []
 
-    pub in-texts : (texts : List (List ℕ)) (ins : List In) → texts_behind input files texts (in_steps begin ins) ≡ texts ++ map read_in ins
-    in-texts texts [] = sym (append-nil texts)
-    in-texts texts (it ∷ ins) =
-        ap (λ (gives : Bool). texts_behind input files (if gives then texts ++ text_given input files (kind_in begin it) [] ∷ [] else texts) (in_steps begin ins)) (in-gives begin it)
-        ∙ ap (λ (text : List ℕ). texts_behind input files (texts ++ text ∷ []) (in_steps begin ins)) (in-text begin it)
-        ∙ in-texts (texts ++ read_in it ∷ []) ins ∙ append_assoc texts (read_in it ∷ []) (map read_in ins)
+  stream-keeps : (comes : Coming) (texts : List (List ℕ)) (steps : List Step) → AllBelow (length texts) (open_coming comes) → stream_text comes (texts_behind input files texts steps) ≡ stream_text comes texts
+  stream-keeps (coming.Begins begin) texts steps all = refl
+  stream-keeps (coming.On edge) texts steps all = keeps-text input files texts steps edge (one-below edge (length texts) all)
+  stream-keeps coming.Nothing texts steps all = refl
 
-  -- the texts once the inputs are joined, and those that the utility takes
-  abbrev joined_on : Inv → List (List ℕ) → List (List ℕ)
-  joined_on inv texts = if is_joined inv (length texts) then texts ++ joined_text (closes_before inv) texts ∷ [] else texts
-
-  pub row-texts : (texts : List (List ℕ)) → map (text_at texts) (range_with_len 0 (length texts)) ≡ texts
-  row-texts texts = range-reads [] texts []
-
-  join-texts : (inv : Inv) (texts : List (List ℕ)) → texts_behind input files texts (join_steps inv (length texts)) ≡ joined_on inv texts
-  join-texts inv texts = by_test (is_joined inv (length texts))
+  input-text : (number : ℕ) (comes : Coming) (it : In) (texts : List (List ℕ)) (stream : List ℕ) → stream_text comes texts ≡ stream
+      → text_at (texts_behind input files texts (input_steps number (kind_in comes it))) (in_edge comes it (length texts)) ≡ text_in stream files it
+  input-text number (coming.Begins begin) inlet.Stream texts stream is = by_first begin.now is
     where
-      by_test : (joined : Bool) → texts_behind input files texts (if joined then step (kind.Cat (closes_before inv)) (range_with_len 0 (length texts)) 0 ∷ [] else [])
-          ≡ (if joined then texts ++ joined_text (closes_before inv) texts ∷ [] else texts)
-      by_test true = ap (λ (ins : List (List ℕ)). texts ++ joined_text (closes_before inv) ins ∷ []) (row-texts texts)
-      by_test false = refl
+      by_first : (begin : First) → begins_with begin input ≡ stream → text_at (texts_behind input files texts (step (kind_first begin) [] number ∷ [])) (length texts) ≡ stream
+      by_first first.Input is = get-here texts [] input [] ∙ is
+      by_first (first.Text text) is = get-here texts [] text [] ∙ is
+  input-text number (coming.On edge) inlet.Stream texts stream is = is
+  input-text number coming.Nothing inlet.Stream texts stream is = get-here texts [] [] [] ∙ is
+  input-text number comes (inlet.File path closed) texts stream is = get-here texts [] (files path) []
+  input-text number comes inlet.Empty texts stream is = get-here texts [] [] []
 
-  one-joined : (closes : Bool) (text : List ℕ) → joined_text closes (text ∷ []) ≡ text
-  one-joined true text = refl
-  one-joined false text = append-nil text
-
-  abbrev Reads : Bool → Bool → Bool → List (List ℕ) → Type 0
-  Reads closes joins joined texts = map (text_at (if joined then texts ++ joined_text closes texts ∷ [] else texts)) (if joined then length texts ∷ [] else range_with_len 0 (length texts))
-      ≡ (if joins then joined_texts closes texts else texts)
-
-  edge-texts : (inv : Inv) (texts : List (List ℕ)) → map (text_at (joined_on inv texts)) (joined_edges inv (length texts)) ≡ texts_read inv texts
-  edge-texts inv texts = by_joins (closes_before inv) (joins_before inv) texts
+  -- that of the stream alone is below
+  input-below : (number : ℕ) (comes : Coming) (it : In) (texts : List (List ℕ)) → AllBelow (length texts) (open_coming comes)
+      → in_edge comes it (length texts) < length (texts_behind input files texts (input_steps number (kind_in comes it)))
+  input-below number comes it texts all =
+      one-below (in_edge comes it (length texts)) (length (texts_behind input files texts (input_steps number (kind_in comes it))))
+      (below-texts texts (input_steps number (kind_in comes it)) (in_edge comes it (length texts) ∷ []) (by_in it))
     where
-      by_joins : (closes joins : Bool) (texts : List (List ℕ)) → Reads closes joins (joins && nat_lt 1 (length texts)) texts
-      by_joins closes false texts = row-texts texts
+      by_in : (it : In) → AllBelow (behind (length texts) (input_steps number (kind_in comes it))) (in_edge comes it (length texts) ∷ [])
+      by_in inlet.Stream = (input-passes number comes inlet.Stream (length texts)).within all
+      by_in (inlet.File path closed) = (input-passes number comes (inlet.File path closed) (length texts)).within refl
+      by_in inlet.Empty = (input-passes number comes inlet.Empty (length texts)).within refl
+
+  in-texts : (number : ℕ) (comes : Coming) (ins : List In) (texts : List (List ℕ)) (stream : List ℕ) → AllBelow (length texts) (open_coming comes) → stream_text comes texts ≡ stream
+      → map (text_at (texts_behind input files texts (in_steps number comes ins))) (in_edges number comes ins (length texts)) ≡ map (text_in stream files) ins
+  in-texts number comes [] texts stream all is = refl
+  in-texts number comes (it ∷ ins) texts stream all is =
+      let here : List Step = input_steps number (kind_in comes it) in
+      let rest : List Step = in_steps number comes ins in
+      let edge : ℕ = in_edge comes it (length texts) in
+      let on : List (List ℕ) = texts_behind input files texts here in
+      let last : List (List ℕ) = texts_behind input files on rest in
+      ap (λ (final : List (List ℕ)). map (text_at final) (edge ∷ in_edges number comes ins (behind (length texts) here))) (texts-append input files texts here rest)
+      ∙ ap (λ (from : ℕ). text_at last edge ∷ map (text_at last) (in_edges number comes ins from)) (sym (texts-count texts here))
+      ∙ ap (λ (first : List ℕ). first ∷ map (text_at last) (in_edges number comes ins (length on)))
+      (keeps-text input files on rest edge (input-below number comes it texts all) ∙ input-text number comes it texts stream is)
+      ∙ ap (λ (others : List (List ℕ)). text_in stream files it ∷ others)
+      (in-texts number comes ins on stream (below-texts texts here (open_coming comes) (all-more (length texts) (behind (length texts) here) (behind-more (length texts) here) (open_coming comes) all))
+      (stream-keeps comes texts here all ∙ is))
+
+  -- the texts that a utility takes
+  join-texts : (number : ℕ) (inv : Inv) (edges : List ℕ) (texts : List (List ℕ))
+      → map (text_at (texts_behind input files texts (join_steps number inv edges))) (joined_edges inv edges (length texts)) ≡ texts_read inv (map (text_at texts) edges)
+  join-texts number inv edges texts = by_joins (closes_before inv) (joins_before inv) edges
+    where
+      by_joins : (closes joins : Bool) (edges : List ℕ)
+          → map (text_at (texts_behind input files texts (if (joins && nat_lt 1 (length edges)) then step (kind.Cat closes) edges number ∷ [] else []))) (if (joins && nat_lt 1 (length edges)) then length texts ∷ [] else edges)
+          ≡ (if joins then joined_texts closes (map (text_at texts) edges) else map (text_at texts) edges)
+      by_joins closes false edges = refl
       by_joins closes true [] = refl
-      by_joins closes true (text ∷ []) = ap (λ (it : List ℕ). it ∷ []) (sym (one-joined closes text))
-      by_joins closes true (text ∷ next ∷ texts) =
-          let many : nat_lt 1 (length (text ∷ next ∷ texts)) ≡ true = lt-ltb 1 (length (text ∷ next ∷ texts)) (omega arith) in
-          subst (λ (joined : Bool). Reads closes true joined (text ∷ next ∷ texts)) (sym many)
-          (ap (λ (it : List ℕ). it ∷ []) (get-here (text ∷ next ∷ texts) [] (joined_text closes (text ∷ next ∷ texts)) []))
+      by_joins closes true (edge ∷ []) = ap (λ (it : List ℕ). it ∷ []) (sym (one-joined closes (text_at texts edge)))
+      by_joins closes true (edge ∷ other ∷ edges) =
+          let all : List (List ℕ) = map (text_at texts) (edge ∷ other ∷ edges) in
+          let many : nat_lt 1 (length (edge ∷ other ∷ edges)) ≡ true = lt-ltb 1 (length (edge ∷ other ∷ edges)) (omega arith) in
+          ap (λ (joined : Bool). map (text_at (texts_behind input files texts (if joined then step (kind.Cat closes) (edge ∷ other ∷ edges) number ∷ [] else []))) (if joined then length texts ∷ [] else edge ∷ other ∷ edges)) many
+          ∙ ap (λ (it : List ℕ). it ∷ []) (get-here texts [] (joined_text closes all) [])
 
-  joined-size : (inv : Inv) (texts : List (List ℕ)) → length (joined_on inv texts) ≡ next_joined inv (length texts)
-  joined-size inv texts = by_test (is_joined inv (length texts))
+  abbrev pub read_texts : Does → List (List ℕ) → List (List ℕ)
+  read_texts does.Skip texts = []
+  read_texts (does.Util inv) texts = texts_read inv texts
+
+  read-texts : (number : ℕ) (comes : Coming) (it : Does) (ins : List In) (texts : List (List ℕ)) → AllBelow (length texts) (open_coming comes)
+      → map (text_at (texts_behind input files texts (read_steps number comes it ins (length texts)))) (read_edges number comes it ins (length texts)) ≡ read_texts it (map (text_in (stream_text comes texts) files) ins)
+  read-texts number comes does.Skip ins texts all = refl
+  read-texts number comes (does.Util inv) ins texts all =
+      let inputs : List Step = in_steps number comes ins in
+      let edges : List ℕ = in_edges number comes ins (length texts) in
+      let on : List (List ℕ) = texts_behind input files texts inputs in
+      ap (λ (final : List (List ℕ)). map (text_at final) (joined_edges inv edges (behind (length texts) inputs))) (texts-append input files texts inputs (join_steps number inv edges))
+      ∙ ap (λ (from : ℕ). map (text_at (texts_behind input files on (join_steps number inv edges))) (joined_edges inv edges from)) (sym (texts-count texts inputs))
+      ∙ join-texts number inv edges on ∙ ap (texts_read inv) (in-texts number comes ins texts (stream_text comes texts) all refl)
+
+  drain-texts : (number : ℕ) (comes : Coming) (reads : Bool) (texts : List (List ℕ)) → texts_behind input files texts (drain_steps number comes reads) ≡ texts
+  drain-texts number comes true texts = refl
+  drain-texts number (coming.Begins begin) false texts = refl
+  drain-texts number (coming.On edge) false texts = refl
+  drain-texts number coming.Nothing false texts = refl
+
+  pub front-texts : (number : ℕ) (comes : Coming) (stage : Stage) (texts : List (List ℕ)) → AllBelow (length texts) (open_coming comes)
+      → map (text_at (texts_behind input files texts (front_steps number comes stage (length texts)))) (front_edges number comes stage (length texts))
+      ≡ read_texts stage.does (map (text_in (stream_text comes texts) files) stage.ins)
+  front-texts number comes stage texts all =
+      let drain : List Step = drain_steps number comes (is_reader stage) in
+      let read : List Step = read_steps number comes stage.does stage.ins (length texts) in
+      ap (λ (final : List (List ℕ)). map (text_at final) (front_edges number comes stage (length texts)))
+      (texts-append input files texts drain read ∙ ap (λ (on : List (List ℕ)). texts_behind input files on read) (drain-texts number comes (is_reader stage) texts))
+      ∙ read-texts number comes stage.does stage.ins texts all
+
+  -- WHAT A STAGE WRITES
+  abbrev done_text : Does → List ℕ → List (List ℕ) → List ℕ
+  done_text does.Skip text texts = text
+  done_text (does.Util inv) text texts = output_of inv texts
+
+  util-text : (number : ℕ) (leads : Bool) (inv : Inv) (edges : List ℕ) (texts : List (List ℕ)) → (is_leading_cat leads inv ≡ true → length edges ≤ 1)
+      → text_at (texts_behind input files texts (util_steps number leads inv edges)) (util_edge leads inv edges (length texts)) ≡ output_of inv (map (text_at texts) edges)
+  util-text number leads inv edges texts few = by_cat (is_leading_cat leads inv) refl
     where
-      by_test : (joined : Bool) → length (if joined then texts ++ joined_text (closes_before inv) texts ∷ [] else texts) ≡ (if joined then length texts + 1 else length texts)
-      by_test true = length-append texts (joined_text (closes_before inv) texts ∷ [])
-      by_test false = refl
+      by_edges : (edges : List ℕ) → length edges ≤ 1 → is_cat inv ≡ true
+          → text_at (texts_behind input files texts (if is_none edges then step (kind.Text []) [] number ∷ [] else [])) (get_or edges 0 (length texts)) ≡ output_of inv (map (text_at texts) edges)
+      by_edges [] few cat = get-here texts [] [] [] ∙ sym (is-cat inv cat [])
+      by_edges (edge ∷ []) few cat = sym (append-nil (text_at texts edge)) ∙ sym (is-cat inv cat (text_at texts edge ∷ []))
+      by_edges (edge ∷ other ∷ edges) few cat = absurd (omega (arith, few))
 
-  -- the utility's output is on its edge
-  is-cat : (inv : Inv) → is_cat inv ≡ true → (texts : List (List ℕ)) → output_of inv texts ≡ concat texts
-  is-cat (inv.Cat cat) is texts = cat-output cat texts
-  is-cat other is texts = absurd (true≢false (sym is))
+      by_cat : (cat : Bool) → is_leading_cat leads inv ≡ cat
+          → text_at (texts_behind input files texts (if cat then (if is_none edges then step (kind.Text []) [] number ∷ [] else []) else step (kind.Whole inv) edges number ∷ [])) (if cat then get_or edges 0 (length texts) else length texts)
+          ≡ output_of inv (map (text_at texts) edges)
+      by_cat true cat = by_edges edges (few cat) (leads-cat leads inv cat)
+      by_cat false cat = get-here texts [] (output_of inv (map (text_at texts) edges)) []
 
-  util-text : (inv : Inv) (texts : List (List ℕ))
-      → text_at (texts_behind input files (joined_on inv texts) (util_steps inv (length texts))) (util_edge inv (length texts)) ≡ output_of inv (texts_read inv texts)
-  util-text inv texts = by_cat (is_cat inv) refl
-    where
-      none-texts : (texts : List (List ℕ)) → (length texts == 0) ≡ true → texts ≡ []
-      none-texts [] is = refl
-      none-texts (text ∷ texts) is = absurd (let none : length (text ∷ texts) ≡ 0 = eqb-true (length (text ∷ texts)) 0 is in omega (arith, none))
-
-      by_none : (none : Bool) → (length texts == 0) ≡ none → is_cat inv ≡ true
-          → text_at (texts_behind input files (joined_on inv texts) (if none then step (kind.Text []) [] 0 ∷ [] else [])) (get_or (joined_edges inv (length texts)) 0 0) ≡ output_of inv (texts_read inv texts)
-      by_none true none cat =
-          let empty : texts ≡ [] = none-texts texts none in
-          let joined : joined_on inv texts ≡ [] = ap (joined_on inv) empty ∙ ap (λ (test : Bool). if test then joined_text (closes_before inv) [] ∷ [] else []) (none-joined inv) in
-          let edges : joined_edges inv (length texts) ≡ [] = ap (λ (it : List (List ℕ)). joined_edges inv (length it)) empty ∙ ap (λ (test : Bool). if test then 0 ∷ [] else range_with_len 0 0) (none-joined inv) in
-          let read : texts_read inv texts ≡ [] = ap (texts_read inv) empty ∙ ap (λ (test : Bool). if test then [] else []) (cat-joins inv cat) in
-          ap (λ (it : List (List ℕ)). text_at (it ++ [] ∷ []) (get_or (joined_edges inv (length texts)) 0 0)) joined
-          ∙ ap (λ (it : List ℕ). text_at ([] ∷ []) (get_or it 0 0)) edges
-          ∙ sym (ap (output_of inv) read ∙ is-cat inv cat [])
-      by_none false some cat =
-          let edges : joined_edges inv (length texts) ≡ get_or (joined_edges inv (length texts)) 0 0 ∷ [] = cat-edges inv (length texts) (cat-joins inv cat) some in
-          let at : ℕ = get_or (joined_edges inv (length texts)) 0 0 in
-          let read : texts_read inv texts ≡ text_at (joined_on inv texts) at ∷ [] = sym (edge-texts inv texts) ∙ ap (map (text_at (joined_on inv texts))) edges in
-          sym (append-nil (text_at (joined_on inv texts) at)) ∙ sym (is-cat inv cat (text_at (joined_on inv texts) at ∷ [])) ∙ ap (output_of inv) (sym read)
-
-      by_cat : (cat : Bool) → is_cat inv ≡ cat → text_at (texts_behind input files (joined_on inv texts) (util_steps inv (length texts))) (util_edge inv (length texts)) ≡ output_of inv (texts_read inv texts)
-      by_cat true cat =
-          ap (λ (is : Bool). text_at (texts_behind input files (joined_on inv texts) (steps_by inv (length texts) is (length texts == 0))) (edge_by inv (length texts) is)) cat
-          ∙ by_none (length texts == 0) refl cat
-      by_cat false cat =
-          ap (λ (is : Bool). text_at (texts_behind input files (joined_on inv texts) (steps_by inv (length texts) is (length texts == 0))) (edge_by inv (length texts) is)) cat
-          ∙ ap (λ (ins : List (List ℕ)). text_at (joined_on inv texts ++ output_of inv ins ∷ []) (next_joined inv (length texts))) (edge-texts inv texts)
-          ∙ ap (text_at (joined_on inv texts ++ output_of inv (texts_read inv texts) ∷ [])) (sym (joined-size inv texts))
-          ∙ get-here (joined_on inv texts) [] (output_of inv (texts_read inv texts)) []
-
-  -- what the stage does is on its edge
-  abbrev main_text : Does → List ℕ → List (List ℕ) → List ℕ
-  main_text does.Skip text texts = text
-  main_text (does.Util inv) text texts = output_of inv (texts_read inv texts)
-
-  module _ (begin : First) where
-    abbrev texts_of_ins : List In → List (List ℕ)
-    texts_of_ins ins = map (text_in (begins_with begin input) files) ins
-
-    does-text : (it : Does) (ins : List In) (text : List ℕ) → text_at (texts_behind input files [] (does_steps it begin ins text)) (does_edge it ins) ≡ main_text it text (texts_of_ins ins)
-    does-text does.Skip ins text = refl
-    does-text (does.Util inv) ins text =
-        let texts : List (List ℕ) = texts_of_ins ins in
-        let size : length texts ≡ length ins = length-map ins (text_in (begins_with begin input) files) in
-        ap (λ (it : List (List ℕ)). text_at it (util_edge inv (length ins)))
-        (texts-append input files [] (in_steps begin ins) (join_steps inv (length ins) ++ util_steps inv (length ins))
-        ∙ ap (λ (it : List (List ℕ)). texts_behind input files it (join_steps inv (length ins) ++ util_steps inv (length ins))) (in-texts begin [] ins)
-        ∙ texts-append input files texts (join_steps inv (length ins)) (util_steps inv (length ins)))
-        ∙ ap (λ (count : ℕ). text_at (texts_behind input files (texts_behind input files texts (join_steps inv count)) (util_steps inv count)) (util_edge inv count)) (sym size)
-        ∙ ap (λ (it : List (List ℕ)). text_at (texts_behind input files it (util_steps inv (length texts))) (util_edge inv (length texts))) (join-texts inv texts)
-        ∙ util-text inv texts
+  does-text : (number : ℕ) (leads : Bool) (it : Does) (text edges : List ℕ) (texts : List (List ℕ)) → ((inv : Inv) → it ≡ does.Util inv → is_leading_cat leads inv ≡ true → length edges ≤ 1)
+      → text_at (texts_behind input files texts (does_steps number leads it text edges)) (does_edge leads it edges (length texts)) ≡ done_text it text (map (text_at texts) edges)
+  does-text number leads does.Skip text edges texts few = get-here texts [] text []
+  does-text number leads (does.Util inv) text edges texts few = util-text number leads inv edges texts (few inv refl)
 
   -- all that is written is on its edge, behind what comes first
   abbrev all_text : Does → List ℕ → List ℕ → List ℕ
   all_text does.Skip text written = written
   all_text (does.Util inv) text written = text ++ written
 
-  first-text : (it : Does) (text : List ℕ) (edge : ℕ) (texts : List (List ℕ)) → edge < length texts
-      → text_at (texts_behind input files texts (first_steps it text edge (length texts))) (first_edge it text edge (length texts)) ≡ all_text it text (text_at texts edge)
-  first-text does.Skip text edge texts less = refl
-  first-text (does.Util inv) text edge texts less = by_test (is_empty text) refl
+  first-text : (number : ℕ) (it : Does) (text : List ℕ) (edge : ℕ) (texts : List (List ℕ)) → edge < length texts
+      → text_at (texts_behind input files texts (first_steps number it text edge (length texts))) (first_edge it text edge (length texts)) ≡ all_text it text (text_at texts edge)
+  first-text number does.Skip text edge texts less = refl
+  first-text number (does.Util inv) text edge texts less = by_test (is_empty text) refl
     where
       by_test : (none : Bool) → is_empty text ≡ none
-          → text_at (texts_behind input files texts (if none then [] else step (kind.Text text) [] 0 ∷ step (kind.Cat false) (length texts ∷ edge ∷ []) 0 ∷ [])) (if none then edge else length texts + 1)
+          → text_at (texts_behind input files texts (if none then [] else step (kind.Text text) [] number ∷ step (kind.Cat false) (length texts ∷ edge ∷ []) number ∷ [])) (if none then edge else length texts + 1)
           ≡ text ++ text_at texts edge
       by_test true none = ap (λ (it : List ℕ). it ++ text_at texts edge) (sym (none-empty text none))
       by_test false some =
@@ -201,8 +225,49 @@ module _ (input : List ℕ) (files : Components → List ℕ) where
           ∙ ap (λ (it : List ℕ). it ++ (text_at all edge ++ [])) here
           ∙ ap (λ (it : List ℕ). text ++ it) (append-nil (text_at all edge) ∙ there)
 
+  written-is : (it : Does) (text : List ℕ) (texts : List (List ℕ)) → all_text it text (done_text it text (read_texts it texts)) ≡ text ++ output_by it texts
+  written-is does.Skip text texts = sym (append-nil text)
+  written-is (does.Util inv) text texts = refl
+
+  cat-few : (number : ℕ) (comes : Coming) (it : Does) (ins : List In) (next : ℕ) (inv : Inv) → it ≡ does.Util inv → is_leading_cat (begins comes) inv ≡ true → length (read_edges number comes it ins next) ≤ 1
+  cat-few number comes it ins next inv same cat =
+      subst (λ (it : Does). length (read_edges number comes it ins next) ≤ 1) (sym same)
+      (cat-one inv (in_edges number comes ins next) (behind next (in_steps number comes ins)) (leads-cat (begins comes) inv cat))
+
+  module _ (number : ℕ) (comes : Coming) (stage : Stage) (texts : List (List ℕ)) (few : count_by is_stream (ins_of stage) ≤ 1) (all : AllBelow (length texts) (open_coming comes)) where
+    abbrev next : ℕ
+    next = length texts
+
+    front_below : AllBelow (front_next number comes stage next) (front_edges number comes stage next)
+    front_below = (front-passes number comes stage next few).within all
+
+    done_below : AllBelow (done_next number comes stage next) (done_edge number comes stage next ∷ [])
+    done_below = (does-passes number comes stage next few).within front_below
+
+    pub main-text : text_at (texts_behind input files texts (main_steps number comes stage (length texts))) (main_edge number comes stage (length texts))
+        ≡ stage.first ++ output_by stage.does (map (text_in (stream_text comes texts) files) stage.ins)
+    main-text =
+        let front : List Step = front_steps number comes stage next in
+        let done : List Step = done_steps number comes stage next in
+        let edges : List ℕ = front_edges number comes stage next in
+        let edge : ℕ = done_edge number comes stage next in
+        let firsts : ℕ → List Step = first_steps number stage.does stage.first edge in
+        let one : List (List ℕ) = texts_behind input files texts front in
+        let two : List (List ℕ) = texts_behind input files one done in
+        let one_size : length one ≡ front_next number comes stage next = texts-count texts front in
+        let two_size : length two ≡ done_next number comes stage next = texts-count one done ∙ ap (λ (from : ℕ). behind from done) one_size in
+        ap (λ (final : List (List ℕ)). text_at final (main_edge number comes stage next))
+        (texts-append input files texts front (done ++ firsts (done_next number comes stage next)) ∙ texts-append input files one done (firsts (done_next number comes stage next)))
+        ∙ ap (λ (from : ℕ). text_at (texts_behind input files two (firsts from)) (first_edge stage.does stage.first edge from)) (sym two_size)
+        ∙ first-text number stage.does stage.first edge two (subst (λ (size : ℕ). edge < size) (sym two_size) (one-below edge (done_next number comes stage next) done_below))
+        ∙ ap (all_text stage.does stage.first)
+        (ap (λ (from : ℕ). text_at two (does_edge (begins comes) stage.does edges from)) (sym one_size)
+        ∙ does-text number (begins comes) stage.does stage.first edges one (cat-few number comes stage.does stage.ins next)
+        ∙ ap (done_text stage.does stage.first) (front-texts number comes stage texts all))
+        ∙ written-is stage.does stage.first (map (text_in (stream_text comes texts) files) stage.ins)
+
   -- WRITES
-  abbrev told_writes : List (List ℕ) → List Step → List Write
+  abbrev pub told_writes : List (List ℕ) → List Step → List Write
   told_writes texts steps = told_from input files writes_of texts steps
 
   -- these write nothing to the outside
@@ -223,6 +288,11 @@ module _ (input : List ℕ) (files : Components → List ℕ) where
       ap (λ (here : List Write). here ++ told_writes (texts_on input files texts it) steps) (writes-none it.kind (ins_texts texts it) parts.0)
       ∙ quiet-writes (texts_on input files texts it) steps parts.1
 
+  main-quiet : (number : ℕ) (comes : Coming) (stage : Stage) (next : ℕ) → is_stage stage ≡ true → (texts : List (List ℕ)) → told_writes texts (main_steps number comes stage next) ≡ []
+  main-quiet number comes stage next is texts =
+      quiet-writes texts (main_steps number comes stage next)
+      (main-all (λ kind count. writes_nothing kind) (of-kinds writes_nothing (λ text. refl) (λ close. refl) refl (λ source. refl) (λ inv built. refl)) number comes stage next is)
+
   -- what is written where the output goes
   abbrev piped_writes : List ℕ → List Write
   piped_writes piped = if is_empty piped then [] else ToOutput piped ∷ []
@@ -232,17 +302,18 @@ module _ (input : List ℕ) (files : Components → List ℕ) where
   out_writes (out.File path mode) text piped = ToFile path mode text ∷ piped_writes piped
   out_writes out.Null text piped = piped_writes piped
 
-  piped-writes : (piped : List ℕ) (texts : List (List ℕ)) → told_writes texts (piped_steps piped (length texts)) ≡ piped_writes piped
-  piped-writes piped texts = by_test (is_empty piped)
+  piped-writes : (number : ℕ) (piped : List ℕ) (texts : List (List ℕ)) → told_writes texts (piped_steps number piped (length texts)) ≡ piped_writes piped
+  piped-writes number piped texts = by_test (is_empty piped)
     where
-      by_test : (none : Bool) → told_writes texts (if none then [] else step (kind.Text piped) [] 0 ∷ step (kind.Sink to.Output) (length texts ∷ []) 0 ∷ []) ≡ (if none then [] else ToOutput piped ∷ [])
+      by_test : (none : Bool)
+          → told_writes texts (if none then [] else step (kind.Text piped) [] number ∷ step (kind.Sink to.Output) (length texts ∷ []) number ∷ []) ≡ (if none then [] else ToOutput piped ∷ [])
       by_test true = refl
       by_test false = ap (λ (text : List ℕ). ToOutput text ∷ []) (get-here texts [] piped [])
 
-  out-writes : (it : Out) (piped : List ℕ) (edge : ℕ) (texts : List (List ℕ)) → told_writes texts (out_steps it piped edge (length texts)) ≡ out_writes it (text_at texts edge) piped
-  out-writes out.Next piped edge texts = refl
-  out-writes (out.File path mode) piped edge texts = ap (λ (rest : List Write). ToFile path mode (text_at texts edge) ∷ rest) (piped-writes piped texts)
-  out-writes out.Null piped edge texts = piped-writes piped texts
+  out-writes : (number : ℕ) (it : Out) (piped : List ℕ) (edge : ℕ) (texts : List (List ℕ)) → told_writes texts (out_steps number it piped edge (length texts)) ≡ out_writes it (text_at texts edge) piped
+  out-writes number out.Next piped edge texts = refl
+  out-writes number (out.File path mode) piped edge texts = ap (λ (rest : List Write). ToFile path mode (text_at texts edge) ∷ rest) (piped-writes number piped texts)
+  out-writes number out.Null piped edge texts = piped-writes number piped texts
 
   piped-output : (piped : List ℕ) → flat_map to_output (piped_writes piped) ≡ piped
   piped-output piped = by_test (is_empty piped) refl
@@ -258,102 +329,162 @@ module _ (input : List ℕ) (files : Components → List ℕ) where
       by_test true = refl
       by_test false = refl
 
-  pub out-output : (it : Out) (text piped : List ℕ) → flat_map to_output (out_writes it text piped) ≡ led_on it text piped
+  out-output : (it : Out) (text piped : List ℕ) → flat_map to_output (out_writes it text piped) ≡ led_on it text piped
   out-output out.Next text piped = append-nil text
   out-output (out.File path mode) text piped = piped-output piped
   out-output out.Null text piped = piped-output piped
 
-  pub out-files : (it : Out) (text piped : List ℕ) → flat_map to_file (out_writes it text piped) ≡ led_to_file it text
+  out-files : (it : Out) (text piped : List ℕ) → flat_map to_file (out_writes it text piped) ≡ led_to_file it text
   out-files out.Next text piped = refl
   out-files (out.File path mode) text piped = ap (λ (rest : List (Components × (Mode × List ℕ))). (path, (mode, text)) ∷ rest) (piped-files piped)
   out-files out.Null text piped = piped-files piped
 
-  -- the quiet parts
-  in-quiet : (begin : First) (it : In) → writes_nothing (kind_in begin it) ≡ true
-  in-quiet first.Input inlet.Stream = refl
-  in-quiet (first.Text text) inlet.Stream = refl
-  in-quiet begin (inlet.File path closed) = refl
-  in-quiet begin inlet.Empty = refl
+  -- and where it goes on to the next stage
+  abbrev on_writes : Out → List ℕ → List Write
+  on_writes out.Next text = []
+  on_writes (out.File path mode) text = ToFile path mode text ∷ []
+  on_writes out.Null text = []
 
-  ins-quiet : (begin : First) (ins : List In) → list_all (λ (it : Step). writes_nothing it.kind) (in_steps begin ins) ≡ true
-  ins-quiet begin [] = refl
-  ins-quiet begin (it ∷ ins) = and_from (writes_nothing (kind_in begin it)) (list_all (λ (it : Step). writes_nothing it.kind) (in_steps begin ins)) (in-quiet begin it) (ins-quiet begin ins)
+  on-writes : (number : ℕ) (it : Out) (piped : List ℕ) (reads : Bool) (edge : ℕ) (texts : List (List ℕ)) → told_writes texts (on_steps number it piped reads edge) ≡ on_writes it (text_at texts edge)
+  on-writes number out.Next piped reads edge texts = refl
+  on-writes number (out.File path mode) piped true edge texts = refl
+  on-writes number (out.File path mode) piped false edge texts = refl
+  on-writes number out.Null piped true edge texts = refl
+  on-writes number out.Null piped false edge texts = refl
 
-  join-quiet : (inv : Inv) (size : ℕ) → list_all (λ (it : Step). writes_nothing it.kind) (join_steps inv size) ≡ true
-  join-quiet inv size = by_test (is_joined inv size)
+  on-output : (it : Out) (text : List ℕ) → flat_map to_output (on_writes it text) ≡ []
+  on-output out.Next text = refl
+  on-output (out.File path mode) text = refl
+  on-output out.Null text = refl
+
+  on-files : (it : Out) (text : List ℕ) → flat_map to_file (on_writes it text) ≡ led_to_file it text
+  on-files out.Next text = refl
+  on-files (out.File path mode) text = refl
+  on-files out.Null text = refl
+
+  on-text : (number : ℕ) (it : Out) (piped : List ℕ) (reads : Bool) (edge : ℕ) (texts : List (List ℕ)) → reads ≡ true
+      → stream_text (comes_on it reads edge (length texts)) (texts_behind input files texts (on_steps number it piped reads edge)) ≡ led_on it (text_at texts edge) piped
+  on-text number out.Next piped reads edge texts is = refl
+  on-text number (out.File path mode) piped true edge texts is = get-here texts [] piped []
+  on-text number (out.File path mode) piped false edge texts is = absurd (true≢false (sym is))
+  on-text number out.Null piped true edge texts is = get-here texts [] piped []
+  on-text number out.Null piped false edge texts is = absurd (true≢false (sym is))
+
+  -- A STAGE THAT DOESN'T READ ITS STREAM MEANS THE SAME WITH ANY
+  pub ins-same : (one other : List ℕ) (ins : List In) → (list_any is_stream ins ≡ true → one ≡ other) → map (text_in one files) ins ≡ map (text_in other files) ins
+  ins-same one other [] same = refl
+  ins-same one other (inlet.Stream ∷ ins) same = ap (λ (stream : List ℕ). map (text_in stream files) (inlet.Stream ∷ ins)) (same refl)
+  ins-same one other (inlet.File path closed ∷ ins) same = ap (λ (rest : List (List ℕ)). files path ∷ rest) (ins-same one other ins same)
+  ins-same one other (inlet.Empty ∷ ins) same = ap (λ (rest : List (List ℕ)). [] ∷ rest) (ins-same one other ins same)
+
+  abbrev stage_by : Stage → Does → List (List ℕ) → Outcome
+  stage_by stage it texts =
+      record {
+        output = led_on stage.out (stage.first ++ output_by it texts) stage.piped;
+        files = files_teed it stage.tees texts ++ led_to_file stage.out (stage.first ++ output_by it texts);
+        status = status_by it stage.status texts;
+      }
+
+  pub stage-same : (stage : Stage) (one other : List ℕ) → (is_reader stage ≡ true → one ≡ other) → stage_means stage one files ≡ stage_means stage other files
+  stage-same stage one other same = by_does stage.does refl
     where
-      by_test : (joined : Bool) → list_all (λ (it : Step). writes_nothing it.kind) (if joined then step (kind.Cat (closes_before inv)) (range_with_len 0 size) 0 ∷ [] else []) ≡ true
-      by_test true = refl
-      by_test false = refl
+      by_does : (it : Does) → stage.does ≡ it → stage_by stage stage.does (map (text_in one files) stage.ins) ≡ stage_by stage stage.does (map (text_in other files) stage.ins)
+      by_does does.Skip is =
+          ap (λ (it : Does). stage_by stage it (map (text_in one files) stage.ins)) is ∙ sym (ap (λ (it : Does). stage_by stage it (map (text_in other files) stage.ins)) is)
+      by_does (does.Util inv) is =
+          ap (stage_by stage stage.does) (ins-same one other stage.ins (λ some. same (ap (λ (it : Does). list_any is_stream (ins_read it stage.ins)) is ∙ some)))
 
-  util-quiet : (inv : Inv) (size : ℕ) → list_all (λ (it : Step). writes_nothing it.kind) (util_steps inv size) ≡ true
-  util-quiet inv size = by_test (is_cat inv) (size == 0)
-    where
-      by_test : (cat none : Bool) → list_all (λ (it : Step). writes_nothing it.kind) (if cat then (if none then step (kind.Text []) [] 0 ∷ [] else []) else step (kind.Whole inv) (joined_edges inv size) 0 ∷ []) ≡ true
-      by_test true true = refl
-      by_test true false = refl
-      by_test false none = refl
+  -- ALL STAGES
+  abbrev pub Leaves : List Write → Outcome → Type 0
+  Leaves written means = (flat_map to_output written ≡ means.output) × (flat_map to_file written ≡ means.files)
 
-  does-quiet : (it : Does) (begin : First) (ins : List In) (text : List ℕ) → list_all (λ (it : Step). writes_nothing it.kind) (does_steps it begin ins text) ≡ true
-  does-quiet does.Skip begin ins text = refl
-  does-quiet (does.Util inv) begin ins text =
-      list_all-append (λ (it : Step). writes_nothing it.kind) (in_steps begin ins) (join_steps inv (length ins) ++ util_steps inv (length ins))
-      ∙ and_from (list_all (λ (it : Step). writes_nothing it.kind) (in_steps begin ins)) (list_all (λ (it : Step). writes_nothing it.kind) (join_steps inv (length ins) ++ util_steps inv (length ins))) (ins-quiet begin ins)
-      (list_all-append (λ (it : Step). writes_nothing it.kind) (join_steps inv (length ins)) (util_steps inv (length ins))
-      ∙ and_from (list_all (λ (it : Step). writes_nothing it.kind) (join_steps inv (length ins))) (list_all (λ (it : Step). writes_nothing it.kind) (util_steps inv (length ins)))
-      (join-quiet inv (length ins)) (util-quiet inv (length ins)))
+  none-teed : (it : Does) (texts : List (List ℕ)) → files_teed it [] texts ≡ []
+  none-teed does.Skip texts = refl
+  none-teed (does.Util inv) texts = refl
 
-  first-quiet : (it : Does) (text : List ℕ) (edge next : ℕ) → list_all (λ (it : Step). writes_nothing it.kind) (first_steps it text edge next) ≡ true
-  first-quiet does.Skip text edge next = refl
-  first-quiet (does.Util inv) text edge next = by_test (is_empty text)
-    where
-      by_test : (none : Bool) → list_all (λ (it : Step). writes_nothing it.kind) (if none then [] else step (kind.Text text) [] 0 ∷ step (kind.Cat false) (next ∷ edge ∷ []) 0 ∷ []) ≡ true
-      by_test true = refl
-      by_test false = refl
+  -- the files of a stage
+  stage-files : (stage : Stage) → is_stage stage ≡ true → (stream : List ℕ)
+      → led_to_file stage.out (stage.first ++ output_by stage.does (map (text_in stream files) stage.ins)) ≡ (stage_means stage stream files).files
+  stage-files stage is stream =
+      let texts : List (List ℕ) = map (text_in stream files) stage.ins in
+      let file : List (Components × (Mode × List ℕ)) = led_to_file stage.out (stage.first ++ output_by stage.does texts) in
+      ap (λ (teed : List (Components × (Mode × List ℕ))). teed ++ file) (sym (none-teed stage.does texts))
+      ∙ ap (λ (tees : List Components). files_teed stage.does tees texts ++ file) (sym (no-tees stage is))
 
-  -- THE STAGE
-  written-is : (it : Does) (text : List ℕ) (texts : List (List ℕ)) → all_text it text (main_text it text texts) ≡ text ++ output_by it texts
-  written-is does.Skip text texts = sym (append-nil text)
-  written-is (does.Util inv) text texts = refl
+  pub last-told : (number : ℕ) (comes : Coming) (stage : Stage) (texts : List (List ℕ)) (stream : List ℕ) → is_stage stage ≡ true → AllBelow (length texts) (open_coming comes)
+      → (is_reader stage ≡ true → stream_text comes texts ≡ stream) → Leaves (told_writes texts (last_steps number comes stage (length texts))) (stage_means stage stream files)
+  last-told number comes stage texts stream is all comes_so =
+      let main : List Step = main_steps number comes stage (length texts) in
+      let edge : ℕ = main_edge number comes stage (length texts) in
+      let here : List ℕ = stream_text comes texts in
+      let on : List (List ℕ) = texts_behind input files texts main in
+      let written : List ℕ = stage.first ++ output_by stage.does (map (text_in here files) stage.ins) in
+      let told : told_writes texts (last_steps number comes stage (length texts)) ≡ out_writes stage.out written stage.piped =
+      told-append input files writes_of texts main (out_steps number stage.out stage.piped edge (main_next number comes stage (length texts)))
+      ∙ ap (λ (quiet : List Write). quiet ++ told_writes on (out_steps number stage.out stage.piped edge (main_next number comes stage (length texts)))) (main-quiet number comes stage (length texts) is texts)
+      ∙ ap (λ (from : ℕ). told_writes on (out_steps number stage.out stage.piped edge from)) (sym (texts-count texts main))
+      ∙ out-writes number stage.out stage.piped edge on
+      ∙ ap (λ (text : List ℕ). out_writes stage.out text stage.piped) (main-text number comes stage texts (few-streams stage is) all) in
+      let same : stage_means stage here files ≡ stage_means stage stream files = stage-same stage here stream comes_so in (
+        ap (flat_map to_output) told ∙ out-output stage.out written stage.piped ∙ ap (λ (means : Outcome). means.output) same,
+        ap (flat_map to_file) told ∙ out-files stage.out written stage.piped ∙ stage-files stage is here ∙ ap (λ (means : Outcome). means.files) same,
+      )
 
-  module _ (begin : First) (stage : Stage) (within : main_edge stage < next_main begin stage) where
-    abbrev main_steps : List Step
-    main_steps = does_steps stage.does begin stage.ins stage.first
+  -- an earlier stage
+  pub record Goes (number : ℕ) (comes : Coming) (stage : Stage) (texts : List (List ℕ)) (stream : List ℕ) (reads : Bool) : Type 0 where
+    pub quiet : flat_map to_output (told_writes texts (earlier_steps number comes stage (length texts) reads)) ≡ []
+    pub written : flat_map to_file (told_writes texts (earlier_steps number comes stage (length texts) reads)) ≡ (stage_means stage stream files).files
+    pub below : AllBelow (length (texts_behind input files texts (earlier_steps number comes stage (length texts) reads))) (open_coming (comes_behind number comes stage (length texts) reads))
+    pub goes_on : reads ≡ true
+        → stream_text (comes_behind number comes stage (length texts) reads) (texts_behind input files texts (earlier_steps number comes stage (length texts) reads)) ≡ (stage_means stage stream files).output
 
-    abbrev main_texts : List (List ℕ)
-    main_texts = texts_behind input files [] main_steps
+  pub earlier-goes : (number : ℕ) (comes : Coming) (stage : Stage) (texts : List (List ℕ)) (stream : List ℕ) (reads : Bool) → is_stage stage ≡ true → AllBelow (length texts) (open_coming comes)
+      → (is_reader stage ≡ true → stream_text comes texts ≡ stream) → Goes number comes stage texts stream reads
+  earlier-goes number comes stage texts stream reads is all comes_so =
+      let main : List Step = main_steps number comes stage (length texts) in
+      let edge : ℕ = main_edge number comes stage (length texts) in
+      let ons : List Step = on_steps number stage.out stage.piped reads edge in
+      let here : List ℕ = stream_text comes texts in
+      let on : List (List ℕ) = texts_behind input files texts main in
+      let written : List ℕ = stage.first ++ output_by stage.does (map (text_in here files) stage.ins) in
+      let text : text_at on edge ≡ written = main-text number comes stage texts (few-streams stage is) all in
+      let told : told_writes texts (earlier_steps number comes stage (length texts) reads) ≡ on_writes stage.out written =
+      told-append input files writes_of texts main ons
+      ∙ ap (λ (quiet : List Write). quiet ++ told_writes on ons) (main-quiet number comes stage (length texts) is texts)
+      ∙ on-writes number stage.out stage.piped reads edge on ∙ ap (on_writes stage.out) text in
+      let same : stage_means stage here files ≡ stage_means stage stream files = stage-same stage here stream comes_so in
+      record {
+        quiet = ap (flat_map to_output) told ∙ on-output stage.out written;
+        written = ap (flat_map to_file) told ∙ on-files stage.out written ∙ stage-files stage is here ∙ ap (λ (means : Outcome). means.files) same;
+        below = below-texts texts (earlier_steps number comes stage (length texts) reads) (open_coming (comes_behind number comes stage (length texts) reads))
+            ((earlier-passes number comes stage (length texts) (few-streams stage is) reads).within all);
+        goes_on = λ read.
+            ap (stream_text (comes_behind number comes stage (length texts) reads)) (texts-append input files texts main ons)
+            ∙ ap (λ (from : ℕ). stream_text (comes_on stage.out reads edge from) (texts_behind input files on ons)) (sym (texts-count texts main))
+            ∙ on-text number stage.out stage.piped reads edge on read
+            ∙ ap (λ (text : List ℕ). led_on stage.out text stage.piped) text ∙ ap (λ (means : Outcome). means.output) same;
+      }
 
-    main-size : length main_texts ≡ next_main begin stage
-    main-size = texts-count [] main_steps
-
-    abbrev firsts : ℕ → List Step
-    firsts next = first_steps stage.does stage.first (main_edge stage) next
-
-    abbrev outs : ℕ → ℕ → List Step
-    outs edge next = out_steps stage.out stage.piped edge next
-
-    abbrev tails : ℕ → List Step
-    tails next = firsts next ++ outs (first_edge stage.does stage.first (main_edge stage) next) (behind next (firsts next))
-
-    abbrev all_texts : List (List ℕ)
-    all_texts = texts_behind input files main_texts (firsts (length main_texts))
-
-    written : text_at all_texts (first_edge stage.does stage.first (main_edge stage) (length main_texts))
-        ≡ stage.first ++ output_by stage.does (map (text_in (begins_with begin input) files) stage.ins)
-    written =
-        first-text stage.does stage.first (main_edge stage) main_texts (subst (λ (next : ℕ). main_edge stage < next) (sym main-size) within)
-        ∙ ap (all_text stage.does stage.first) (does-text begin stage.does stage.ins stage.first)
-        ∙ written-is stage.does stage.first (map (text_in (begins_with begin input) files) stage.ins)
-
-    pub stage-writes : told_writes [] (stage_steps begin stage)
-        ≡ out_writes stage.out (stage.first ++ output_by stage.does (map (text_in (begins_with begin input) files) stage.ins)) stage.piped
-    stage-writes =
-        told-append input files writes_of [] main_steps (tails (next_main begin stage))
-        ∙ ap (λ (here : List Write). here ++ told_writes main_texts (tails (next_main begin stage))) (quiet-writes [] main_steps (does-quiet stage.does begin stage.ins stage.first))
-        ∙ ap (λ (next : ℕ). told_writes main_texts (tails next)) (sym main-size)
-        ∙ told-append input files writes_of main_texts (firsts (length main_texts)) (outs (first_edge stage.does stage.first (main_edge stage) (length main_texts)) (behind (length main_texts) (firsts (length main_texts))))
-        ∙ ap (λ (here : List Write). here ++ told_writes all_texts (outs (first_edge stage.does stage.first (main_edge stage) (length main_texts)) (behind (length main_texts) (firsts (length main_texts)))))
-        (quiet-writes main_texts (firsts (length main_texts)) (first-quiet stage.does stage.first (main_edge stage) (length main_texts)))
-        ∙ ap (λ (next : ℕ). told_writes all_texts (outs (first_edge stage.does stage.first (main_edge stage) (length main_texts)) next)) (sym (texts-count main_texts (firsts (length main_texts))))
-        ∙ out-writes stage.out stage.piped (first_edge stage.does stage.first (main_edge stage) (length main_texts)) all_texts
-        ∙ ap (λ (text : List ℕ). out_writes stage.out text stage.piped) written
+  pub chain-told : (number : ℕ) (comes : Coming) (stage : Stage) (stages : List Stage) (texts : List (List ℕ)) (stream : List ℕ) → list_all is_stage (stage ∷ stages) ≡ true
+      → AllBelow (length texts) (open_coming comes) → (is_reader stage ≡ true → stream_text comes texts ≡ stream)
+      → Leaves (told_writes texts (chain_steps number comes (stage ∷ stages) (length texts))) (chain_means (stage ∷ stages) stream files)
+  chain-told number comes stage [] texts stream is all comes_so = last-told number comes stage texts stream (and_parts (is_stage stage) true is).0 all comes_so
+  chain-told number comes stage (following ∷ stages) texts stream is all comes_so =
+      let parts = and_parts (is_stage stage) (list_all is_stage (following ∷ stages)) is in
+      let reads : Bool = is_reader following in
+      let here : List Step = earlier_steps number comes stage (length texts) reads in
+      let on : Coming = comes_behind number comes stage (length texts) reads in
+      let left : List (List ℕ) = texts_behind input files texts here in
+      let means : Outcome = stage_means stage stream files in
+      let goes = earlier-goes number comes stage texts stream reads parts.0 all comes_so in
+      let rest = chain-told (number + 1) on following stages left means.output parts.1 goes.below goes.goes_on in
+      let told : told_writes texts (chain_steps number comes (stage ∷ following ∷ stages) (length texts)) ≡ told_writes texts here ++ told_writes left (chain_steps (number + 1) on (following ∷ stages) (length left)) =
+      told-append input files writes_of texts here (chain_steps (number + 1) on (following ∷ stages) (behind (length texts) here))
+      ∙ ap (λ (from : ℕ). told_writes texts here ++ told_writes left (chain_steps (number + 1) on (following ∷ stages) from)) (sym (texts-count texts here)) in
+      let others : List Write = told_writes left (chain_steps (number + 1) on (following ∷ stages) (length left)) in (
+        ap (flat_map to_output) told ∙ flat_map-append to_output (told_writes texts here) others
+            ∙ ap (λ (text : List ℕ). text ++ flat_map to_output others) goes.quiet ∙ rest.0,
+        ap (flat_map to_file) told ∙ flat_map-append to_file (told_writes texts here) others
+            ∙ ap (λ (written : List (Components × (Mode × List ℕ))). written ++ flat_map to_file others) goes.written
+            ∙ ap (λ (written : List (Components × (Mode × List ℕ))). means.files ++ written) rest.1,
+      )

@@ -1,5 +1,5 @@
 -- Numbers in a row.
-use Rattle.std.proofs.Common.{◌≡◌, ℕ, zero, suc, ◌+◌, ◌<◌, ◌≤◌, ◌==◌, List, [], ◌∷◌, ◌++◌, Bool, true, false, ◌||◌, if◌then◌else◌, get_or, length, map, refl, ap, sym, ◌∙◌, length-append, append_assoc, arith, eq-eqb}
+use Rattle.std.proofs.Common.{◌≡◌, ℕ, zero, suc, ◌+◌, ◌<◌, ◌≤◌, ◌==◌, List, [], ◌∷◌, ◌++◌, Bool, true, false, ◌||◌, if◌then◌else◌, get_or, length, refl, ap, sym, ◌∙◌, arith, eq-eqb}
 use Rattle.std.specs.List.{range_with_len}
 use Rattle.std.proofs.lemmas.Bool.{true≢false, eqb-true, ne_eqb}
 use Rattle.fl_graph.specs.Net.{has, count}
@@ -56,15 +56,3 @@ range-below start (suc size) edge there = by_first (start == edge) refl there (r
         → (has edge (range_with_len (start + 1) size) ≡ true → edge < start + 1 + size) → edge < start + suc size
     by_first true same _ _ = let is = eqb-true start edge same in omega (arith, is)
     by_first false _ later rest = let below = rest later in omega (arith, below)
-
--- a list is what its places read, in a row
-pub range-reads : {Value : Type 0} (before values : List Value) (spare : Value) → map (λ place. get_or (before ++ values) place spare) (range_with_len (length before) (length values)) ≡ values
-range-reads before [] spare = refl
-range-reads {Value} before (value ∷ values) spare =
-    let size : length before + 1 ≡ length (before ++ value ∷ []) = sym (length-append before (value ∷ [])) in
-    let whole : (before ++ value ∷ []) ++ values ≡ before ++ value ∷ values = append_assoc before (value ∷ []) values in
-    ap (λ (first : Value). first ∷ map (λ place. get_or (before ++ value ∷ values) place spare) (range_with_len (length before + 1) (length values))) (get-here before values value spare)
-    ∙ ap (λ (rest : List Value). value ∷ rest)
-    (ap (λ (from : ℕ). map (λ place. get_or (before ++ value ∷ values) place spare) (range_with_len from (length values))) size
-    ∙ ap (λ (all : List Value). map (λ place. get_or all place spare) (range_with_len (length (before ++ value ∷ [])) (length values))) (sym whole)
-    ∙ range-reads (before ++ value ∷ []) values spare)

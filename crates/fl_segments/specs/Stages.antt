@@ -92,6 +92,10 @@ files_read segment = flat_map (λ stage. filter_map file_in (ins_of stage)) segm
 abbrev pub files_written : List Stage → List Components
 files_written segment = flat_map (λ stage. stage.tees ++ file_out stage.out) segment
 
+-- the stage reads the stream that comes to it
+abbrev pub is_reader : Stage → Bool
+is_reader stage = list_any is_stream (ins_of stage)
+
 -- the shell's input is read: the segment begins with it, and its first stage reads the stream
 abbrev pub is_shell_input : First → Bool
 is_shell_input first.Input = true
@@ -99,7 +103,7 @@ is_shell_input (first.Text text) = false
 
 abbrev pub reads_stream : List Stage → Bool
 reads_stream [] = false
-reads_stream (stage ∷ stages) = list_any is_stream (ins_of stage)
+reads_stream (stage ∷ stages) = is_reader stage
 
 abbrev pub reads_input : List Stage → First → Bool
 reads_input segment from = is_shell_input from && reads_stream segment

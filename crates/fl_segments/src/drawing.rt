@@ -1,5 +1,5 @@
 //! A graph that is being made, node by node.
-ghost use Rattle.std.specs.Prelude.{◌≡◌, ◌+◌, ◌++◌, [], ◌∷◌, IfOk, OnOk};
+ghost use Rattle.std.specs.Prelude.{◌≡◌, ◌+◌, ◌++◌, [], ◌∷◌, length, IfOk, OnOk};
 
 use fl_graph::{Node, NodeKind, Seq};
 use ps_lines::Memory;
@@ -32,6 +32,16 @@ impl Drawing {
             nodes: Vec::new(alloc),
             next: 0,
         }
+    }
+
+    /// The number of the next node. A node that has no number of 32 bits wants memory.
+    pub(crate) fn next_node(&self) -> Result<u32, Memory>
+        ensures { IfOk result (λ node. node ≡ length self.now.nodes.items) }
+    {
+        let Ok(node) = u32::try_from(self.nodes.len()) else {
+            return Err(Memory);
+        };
+        Ok(node)
     }
 
     /// The edges of a node that takes these and gives the next one. An edge that has no number of 32 bits wants memory.

@@ -1,15 +1,19 @@
 //! Segments of pipelines as graphs.
 //!
 //! A segment is a list of stages that are utilities, behind all expansion: each says what it reads, where its output goes, and what was told
-//! of it. `chain` makes the graph of a segment, with one node for each utility.
+//! of it. `chain` makes the graph of a segment, with one node for each utility: what each stage writes is the stream of the next one.
 //!
 //! `specs/Stages.antt` says which stages there may be, and which files they read and write; `specs/Chains.antt` what a segment means.
 //! `specs/Inner/` has words that only proofs need.
 #![tactic(auto)]
 
 mod chains;
+mod commands;
 mod drawing;
+mod inputs;
+mod nodes;
+mod outputs;
 mod stages;
 
-pub use chains::chain;
+pub use chains::{MAX_STAGES, chain};
 pub use stages::{Does, First, In, Out, Stage};

@@ -1,0 +1,278 @@
+//! What a stage reads: the nodes of its inputs, and one that joins them.
+ghost use Rattle.std.specs.Prelude.{◌≡◌, ◌+◌, ◌++◌, [], ◌∷◌, ℕ, List, length, IfOk, OnOk};
+ghost use Rattle.std.specs.List.{list_any};
+ghost use Rattle.fl_segments.specs.Stages.{closes_before as closes_before_lem, is_reader as is_reader_lem, is_stream as is_stream_lem, joins_before as joins_before_lem};
+ghost use Rattle.fl_segments.specs.Inner.Drawing.{behind, drawn, step};
+ghost use Rattle.fl_segments.specs.Inner.Steps.{begins as begins_lem, drain_steps, front_edges, front_steps, in_edge, in_edges, in_steps, input_steps, is_joined as is_joined_lem, join_steps, joined_edges, kind_first as kind_first_lem, kind_in, kind_stream, read_edges, read_steps, stream_edge};
+
+use crate::drawing::Drawing;
+use crate::nodes::{add_end, add_nothing, add_text};
+use crate::stages::{Does, First, In, Stage};
+use fl_graph::{From, NodeKind};
+use ps_lines::Memory;
+use ps_world::Path;
+use std::alloc::Global;
+use ut_args::Inv;
+
+/// What comes to a stage.
+#[derive(Clone, Copy)]
+pub(crate) enum Coming<'from> {
+    /// What the segment begins with: the stage is its first.
+    Begins(&'from First),
+    /// The stream on this edge.
+    On(u32),
+    /// No stream: the output of the stage before goes elsewhere, and this stage reads none.
+    Nothing,
+}
+
+/// Whether the stage to which this comes is the segment's first.
+pub(crate) fn begins(coming: Coming<'_>) -> bool
+    ensures { result ≡ begins_lem coming.entry }
+{
+    matches!(coming, Coming::Begins(_))
+}
+
+/// Whether a stage reads the stream that comes to it.
+pub(crate) fn is_reader(stage: &Stage) -> bool
+    ensures { result ≡ is_reader_lem stage.now }
+{
+    match &stage.does {
+        Does::Skip => false,
+        Does::Util(_) => reads_stream(stage.ins.as_slice()),
+    }
+}
+
+/// Whether one of these inputs is the stream.
+fn reads_stream(ins: &[In]) -> bool
+    ensures { result ≡ list_any is_stream_lem ins.now }
+{
+    ins.iter().any(|it| is_stream(it))
+}
+
+/// Whether this input is the stream.
+fn is_stream(it: &In) -> bool
+    ensures { result ≡ is_stream_lem it.now }
+{
+    matches!(it, In::Stream)
+}
+
+/// Adds the nodes of what a stage reads, and gives the edges that its utility takes. The stream is let go if the stage doesn't read it.
+pub(crate) fn add_front(
+    alloc: Global,
+    drawing: &mut Drawing,
+    number: u32,
+    stage: &Stage,
+    coming: Coming<'_>,
+) -> Result<Vec<u32>, Memory>
+    ensures nodes { OnOk result (drawing.new.nodes.items ≡ drawing.old.nodes.items ++ drawn drawing.old.next (front_steps number coming.entry stage.now drawing.old.next)) }
+    ensures next { OnOk result (drawing.new.next ≡ behind drawing.old.next (front_steps number coming.entry stage.now drawing.old.next)) }
+    ensures edges { IfOk result (λ edges. edges.items ≡ front_edges number coming.entry stage.now drawing.old.next) }
+{
+    add_drain(alloc, drawing, number, coming, is_reader(stage))?;
+    add_read(alloc, drawing, number, stage, coming)
+}
+
+/// Adds the end of a stream that isn't read.
+fn add_drain(
+    alloc: Global,
+    drawing: &mut Drawing,
+    number: u32,
+    coming: Coming<'_>,
+    is_read: bool,
+) -> Result<(), Memory>
+    ensures nodes { OnOk result (drawing.new.nodes.items ≡ drawing.old.nodes.items ++ drawn drawing.old.next (drain_steps number coming.entry is_read)) }
+    ensures next { OnOk result (drawing.new.next ≡ drawing.old.next) }
+{
+    if is_read {
+        return Ok(());
+    }
+    match coming {
+        Coming::Begins(_) => Ok(()),
+        Coming::On(edge) => add_end(alloc, drawing, number, edge),
+        Coming::Nothing => Ok(()),
+    }
+}
+
+/// Adds the nodes of the inputs of a stage, and one that joins them if its utility reads them joined. A stage that is skipped reads nothing.
+fn add_read(
+    alloc: Global,
+    drawing: &mut Drawing,
+    number: u32,
+    stage: &Stage,
+    coming: Coming<'_>,
+) -> Result<Vec<u32>, Memory>
+    ensures nodes { OnOk result (drawing.new.nodes.items ≡ drawing.old.nodes.items ++ drawn drawing.old.next (read_steps number coming.entry stage.now.does stage.now.ins drawing.old.next)) }
+    ensures next { OnOk result (drawing.new.next ≡ behind drawing.old.next (read_steps number coming.entry stage.now.does stage.now.ins drawing.old.next)) }
+    ensures edges { IfOk result (λ edges. edges.items ≡ read_edges number coming.entry stage.now.does stage.now.ins drawing.old.next) }
+{
+    match &stage.does {
+        Does::Skip => Ok(Vec::new(alloc)),
+        Does::Util(inv) => add_util_inputs(
+            alloc,
+            drawing,
+            number,
+            inv,
+            stage.ins.as_slice(),
+            coming,
+        ),
+    }
+}
+
+/// Adds the nodes of a utility's inputs, and one that joins them if it reads them joined.
+fn add_util_inputs(
+    alloc: Global,
+    drawing: &mut Drawing,
+    number: u32,
+    inv: &Inv,
+    ins: &[In],
+    coming: Coming<'_>,
+) -> Result<Vec<u32>, Memory>
+    ensures nodes { OnOk result (drawing.new.nodes.items ≡ drawing.old.nodes.items ++ drawn drawing.old.next (read_steps number coming.entry (Does.Util inv.now) ins.now drawing.old.next)) }
+    ensures next { OnOk result (drawing.new.next ≡ behind drawing.old.next (read_steps number coming.entry (Does.Util inv.now) ins.now drawing.old.next)) }
+    ensures edges { IfOk result (λ edges. edges.items ≡ read_edges number coming.entry (Does.Util inv.now) ins.now drawing.old.next) }
+{
+    let edges = add_inputs(alloc, drawing, number, ins, coming)?;
+    add_joined(alloc, drawing, number, inv, edges)
+}
+
+/// Adds the nodes of inputs, and gives their edges.
+fn add_inputs(
+    alloc: Global,
+    drawing: &mut Drawing,
+    number: u32,
+    ins: &[In],
+    coming: Coming<'_>,
+) -> Result<Vec<u32>, Memory>
+    ensures nodes { OnOk result (drawing.new.nodes.items ≡ drawing.old.nodes.items ++ drawn drawing.old.next (in_steps number coming.entry ins.now)) }
+    ensures next { OnOk result (drawing.new.next ≡ behind drawing.old.next (in_steps number coming.entry ins.now)) }
+    ensures edges { IfOk result (λ edges. edges.items ≡ in_edges number coming.entry ins.now drawing.old.next) }
+{
+    let mut edges = Vec::new(alloc);
+    for it in ins {
+        let edge = add_input(alloc, drawing, number, it, coming)?;
+        edges.push(edge)?;
+    }
+    Ok(edges)
+}
+
+/// Adds the node of an input, and gives its edge.
+fn add_input(
+    alloc: Global,
+    drawing: &mut Drawing,
+    number: u32,
+    it: &In,
+    coming: Coming<'_>,
+) -> Result<u32, Memory>
+    ensures nodes { OnOk result (drawing.new.nodes.items ≡ drawing.old.nodes.items ++ drawn drawing.old.next (input_steps number (kind_in coming.entry it.now))) }
+    ensures next { OnOk result (drawing.new.next ≡ behind drawing.old.next (input_steps number (kind_in coming.entry it.now))) }
+    ensures edge { IfOk result (λ edge. edge ≡ in_edge coming.entry it.now drawing.old.next) }
+{
+    match it {
+        In::Stream => add_stream(alloc, drawing, number, coming),
+        In::File(path, _) => add_file(alloc, drawing, number, path),
+        In::Empty => add_nothing(alloc, drawing, number),
+    }
+}
+
+/// Adds the node of the stream, if it isn't on an edge already, and gives its edge.
+fn add_stream(
+    alloc: Global,
+    drawing: &mut Drawing,
+    number: u32,
+    coming: Coming<'_>,
+) -> Result<u32, Memory>
+    ensures nodes { OnOk result (drawing.new.nodes.items ≡ drawing.old.nodes.items ++ drawn drawing.old.next (input_steps number (kind_stream coming.entry))) }
+    ensures next { OnOk result (drawing.new.next ≡ behind drawing.old.next (input_steps number (kind_stream coming.entry))) }
+    ensures edge { IfOk result (λ edge. edge ≡ stream_edge coming.entry drawing.old.next) }
+{
+    match coming {
+        Coming::Begins(from) => add_beginning(alloc, drawing, number, from),
+        Coming::On(edge) => Ok(edge),
+        Coming::Nothing => add_nothing(alloc, drawing, number),
+    }
+}
+
+/// Adds the node of what the segment begins with.
+fn add_beginning(
+    alloc: Global,
+    drawing: &mut Drawing,
+    number: u32,
+    from: &First,
+) -> Result<u32, Memory>
+    ensures nodes { OnOk result (drawing.new.nodes.items ≡ drawing.old.nodes.items ++ drawn drawing.old.next (step (kind_first_lem from.now) [] number ∷ [])) }
+    ensures next { OnOk result (drawing.new.next ≡ behind drawing.old.next (step (kind_first_lem from.now) [] number ∷ [])) }
+    ensures edge { IfOk result (λ edge. edge ≡ drawing.old.next) }
+{
+    match from {
+        First::Input => add_shell_input(alloc, drawing, number),
+        First::Text(text) => add_text(alloc, drawing, number, text),
+    }
+}
+
+/// Adds the node of the shell's input.
+fn add_shell_input(alloc: Global, drawing: &mut Drawing, number: u32) -> Result<u32, Memory>
+    ensures nodes { OnOk result (drawing.new.nodes.items ≡ drawing.old.nodes.items ++ drawn drawing.old.next (step (NodeKind.Source From.Input) [] number ∷ [])) }
+    ensures next { OnOk result (drawing.new.next ≡ drawing.old.next + 1) }
+    ensures edge { IfOk result (λ edge. edge ≡ drawing.old.next) }
+{
+    let edge = drawing.next;
+    let edges = drawing.giving(alloc, &[])?;
+    drawing.add(NodeKind::Source(From::Input), edges, number)?;
+    Ok(edge)
+}
+
+/// Adds the node of a file that is read.
+fn add_file(alloc: Global, drawing: &mut Drawing, number: u32, path: &Path) -> Result<u32, Memory>
+    ensures nodes { OnOk result (drawing.new.nodes.items ≡ drawing.old.nodes.items ++ drawn drawing.old.next (step (NodeKind.Source (From.File path.now)) [] number ∷ [])) }
+    ensures next { OnOk result (drawing.new.next ≡ drawing.old.next + 1) }
+    ensures edge { IfOk result (λ edge. edge ≡ drawing.old.next) }
+{
+    let edge = drawing.next;
+    let edges = drawing.giving(alloc, &[])?;
+    let copy = path.copy()?;
+    drawing.add(NodeKind::Source(From::File(copy)), edges, number)?;
+    Ok(edge)
+}
+
+/// Joins the inputs on these edges, where the utility reads them joined and has several, and gives the edges that it takes.
+fn add_joined(
+    alloc: Global,
+    drawing: &mut Drawing,
+    number: u32,
+    inv: &Inv,
+    edges: Vec<u32>,
+) -> Result<Vec<u32>, Memory>
+    ensures nodes { OnOk result (drawing.new.nodes.items ≡ drawing.old.nodes.items ++ drawn drawing.old.next (join_steps number inv.now edges.items)) }
+    ensures next { OnOk result (drawing.new.next ≡ behind drawing.old.next (join_steps number inv.now edges.items)) }
+    ensures edges { IfOk result (λ joined. joined.items ≡ joined_edges inv.now edges.items drawing.old.next) }
+{
+    if !is_joined(inv, edges.as_slice()) {
+        return Ok(edges);
+    }
+    let joined = Vec::from_slice(alloc, &[drawing.next])?;
+    let close = closes_before(inv);
+    let edges = drawing.giving(alloc, edges.as_slice())?;
+    drawing.add(NodeKind::Cat { close }, edges, number)?;
+    Ok(joined)
+}
+
+/// Whether the inputs on these edges are joined by a node of their own.
+fn is_joined(inv: &Inv, edges: &[u32]) -> bool
+    ensures { result ≡ is_joined_lem inv.now edges.now }
+{
+    joins_before(inv) && 1 < edges.len()
+}
+
+/// Whether the operands of a command are joined before it reads them.
+fn joins_before(inv: &Inv) -> bool
+    ensures { result ≡ joins_before_lem inv.now }
+{
+    matches!(inv, Inv::Cat(_) | Inv::Cut(_) | Inv::Sort(_))
+}
+
+/// Whether each of them but the last is closed then.
+fn closes_before(inv: &Inv) -> bool
+    ensures { result ≡ closes_before_lem inv.now }
+{
+    matches!(inv, Inv::Cut(_) | Inv::Sort(_))
+}

@@ -1,6 +1,7 @@
 -- Nothing waits for the outside behind a turn, where nothing did before it.
-use Rattle.std.proofs.Common.{◌≡◌, ℕ, ◌<◌, ◌==◌, List, [], ◌∷◌, ◌++◌, Bool, true, false, slice_get, get_or, length, drop, Option, Some, refl, ap, sym, subst, ◌∙◌}
+use Rattle.std.proofs.Common.{◌≡◌, ℕ, ◌<◌, ◌==◌, List, [], ◌∷◌, ◌++◌, Bool, true, false, slice_get, get_or, length, drop, Option, Some, refl, ap, sym, subst, ◌∙◌, eq-eqb}
 use Rattle.std.proofs.lemmas.Bool.{true≢false, eqb-true}
+use Rattle.std.proofs.lemmas.Option.{get_or_from_slice_get}
 use Rattle.fl_graph.specs.Net.{has}
 use Rattle.fl_graph.specs.Machines.{State}
 use Rattle.fl_graph.specs.declared.pieces.Piece.{Piece}
@@ -10,22 +11,21 @@ use Rattle.fl_core.specs.declared.nets.Ports.{Ports}
 use Rattle.fl_core.specs.declared.steps.Progress.{Progress}
 use Rattle.fl_core.specs.declared.steps.Progress.TheVariants as progress
 use Rattle.fl_core.proofs.OutsideLemmas.{some_at}
-use Rattle.fl_core.proofs.PlanLemmas.{sole_edge}
 use Rattle.fl_core.proofs.PortLemmas.{stands-has}
 
 module _ {Machine : Type 0} (state : Machine → State) (ports : List Ports) (machines : List Machine) (wires : List (List Piece)) (left taken : ℕ → Option (List ℕ))
     (goes : Goes state ports machines wires left taken) where
-  -- the one out of a node that writes
-  outer_out : (writer : ℕ) (own : Ports) → slice_get ports writer ≡ Some own → own.writes ≡ true → own.outs.items ≡ get_or own.outs.items 0 0 ∷ []
+  -- the first out of a node that writes
+  outer_out : (writer : ℕ) (own : Ports) → slice_get ports writer ≡ Some own → own.writes ≡ true → slice_get own.outs.items 0 ≡ Some (get_or own.outs.items 0 0)
   outer_out writer own at writes =
-      let one = goes.wired.one_out writer (goes.follows.writes writer own at ∙ writes) in
-      let outs : own.outs.items ≡ one.0 ∷ [] = sym (goes.follows.outs writer own at) ∙ one.1 in
-      outs ∙ ap (λ (edge : ℕ). edge ∷ []) (sym (ap (λ (edges : List ℕ). get_or edges 0 0) outs))
+      let one = goes.wired.first_out writer (goes.follows.writes writer own at ∙ writes) in
+      let first : slice_get own.outs.items 0 ≡ Some one.0 = ap (λ (edges : List ℕ). slice_get edges 0) (sym (goes.follows.outs writer own at)) ∙ one.1 in
+      first ∙ ap (λ (edge : ℕ). Some edge) (sym (get_or_from_slice_get own.outs.items 0 one.0 0 first))
 
   outer_there : (writer : ℕ) (own : Ports) → slice_get ports writer ≡ Some own → own.writes ≡ true → has (get_or own.outs.items 0 0) (goes.plan.outs writer) ≡ true
   outer_there writer own at writes =
       ap (has (get_or own.outs.items 0 0)) (goes.follows.outs writer own at)
-      ∙ stands-has own.outs.items 0 (get_or own.outs.items 0 0) (ap (λ (edges : List ℕ). slice_get edges 0) (outer_out writer own at writes))
+      ∙ stands-has own.outs.items 0 (get_or own.outs.items 0 0) (outer_out writer own at writes)
 
   -- a change of an edge that is no node's to the outside
   elsewhere : (edge : ℕ) (wires' : List (List Piece)) → SameBut edge wires wires'
@@ -44,23 +44,29 @@ module _ {Machine : Type 0} (state : Machine → State) (ports : List Ports) (ma
         elsewhere edge wires' others (λ writer other at writes same.
         true≢false
         (sym (ap (has (get_or other.outs.items 0 0)) (goes.follows.ins node own at_own) ∙ ap (λ (it : ℕ). has it own.ins.items) same ∙ there)
-        ∙ goes.wired.to_outside writer node (get_or other.outs.items 0 0) (goes.follows.writes writer other at ∙ writes) (outer_there writer other at writes)))
+        ∙ goes.wired.to_outside writer node (get_or other.outs.items 0 0) (goes.follows.writes writer other at ∙ writes)
+        (ap (λ (edges : List ℕ). slice_get edges 0) (goes.follows.outs writer other at) ∙ outer_out writer other at writes)))
 
     pub took_drained : (wires' : List (List Piece)) → TookFrom own.ins.items wires wires' → AreDrained ports wires → AreDrained ports wires'
     took_drained wires' took = in_drained took.edge wires' took.there took.others
 
-    -- nor is one that a node gives which writes nothing
+    -- nor is one that another node gives
+    same_giver : (edge writer : ℕ) (other : Ports) → has edge own.outs.items ≡ true → slice_get ports writer ≡ Some other → other.writes ≡ true → get_or other.outs.items 0 0 ≡ edge
+        → other ≡ own
+    same_giver edge writer other there at writes same =
+        let alone = goes.wired.one_giver writer node edge
+        (ap (λ (it : ℕ). has it (goes.plan.outs writer)) (sym same) ∙ outer_there writer other at writes)
+        (ap (has edge) (goes.follows.outs node own at_own) ∙ there) in
+        let found : Some other ≡ Some own = sym at ∙ ap (slice_get ports) alone ∙ at_own in
+        cc
+
     pub gave_drained : (wires' : List (List Piece)) → own.writes ≡ false → GaveTo own.outs.items wires wires' → AreDrained ports wires → AreDrained ports wires'
     gave_drained wires' silent gave =
         elsewhere gave.edge wires' gave.came.others (λ writer other at writes same.
-        let alone = goes.wired.one_giver writer node gave.edge
-        (ap (λ (it : ℕ). has it (goes.plan.outs writer)) (sym same) ∙ outer_there writer other at writes)
-        (ap (has gave.edge) (goes.follows.outs node own at_own) ∙ gave.there) in
-        let found : Some other ≡ Some own = sym at ∙ ap (slice_get ports) alone ∙ at_own in
-        let one : other ≡ own = cc in
+        let one = same_giver gave.edge writer other gave.there at writes same in
         true≢false (sym writes ∙ ap (λ (it : Ports). it.writes) one ∙ silent))
 
-    -- a piece that came to the edge of a node that writes has gone
+    -- a piece that came to the edge to the outside of a node that writes has gone
     pub went_drained : (wires₁ wires₂ : List (List Piece)) → own.writes ≡ true → GaveTo own.outs.items wires wires₁ → WentFrom (get_or own.outs.items 0 0) wires₁ wires₂
         → AreDrained ports wires → AreDrained ports wires₂
     went_drained wires₁ wires₂ writing gave went drained writer other at writes = by_test (get_or other.outs.items 0 0 == outer) refl
@@ -68,17 +74,26 @@ module _ {Machine : Type 0} (state : Machine → State) (ports : List Ports) (ma
         outer : ℕ
         outer = get_or own.outs.items 0 0
 
-        its : gave.edge ≡ outer
-        its = sole_edge outer gave.edge (ap (has gave.edge) (sym (outer_out node own at_own writing)) ∙ gave.there)
+        -- it waited there alone, or none did
+        has_gone : (here : Bool) → (outer == gave.edge) ≡ here → drop 1 (waiting_on wires₁ outer) ≡ []
+        has_gone true here =
+            let its : outer ≡ gave.edge = eqb-true outer gave.edge here in
+            ap (λ (edge : ℕ). drop 1 (waiting_on wires₁ edge)) its ∙ ap (drop 1) gave.came.last
+            ∙ ap (λ (pieces : List Piece). drop 1 (pieces ++ gave.came.piece ∷ [])) (ap (waiting_on wires) (sym its) ∙ drained node own at_own writing)
+        has_gone false here = ap (drop 1) (gave.came.others outer here ∙ drained node own at_own writing)
+
+        -- that of another node isn't this one's
+        apart : (here : Bool) → (get_or other.outs.items 0 0 == gave.edge) ≡ here → (get_or other.outs.items 0 0 == outer) ≡ false → here ≡ false
+        apart true here is =
+            let one = same_giver gave.edge writer other gave.there at writes (eqb-true (get_or other.outs.items 0 0) gave.edge here) in
+            absurd (true≢false (sym (eq-eqb (get_or other.outs.items 0 0) outer (ap (λ (it : Ports). get_or it.outs.items 0 0) one)) ∙ is))
+        apart false here is = refl
 
         by_test : (test : Bool) → (get_or other.outs.items 0 0 == outer) ≡ test → waiting_on wires₂ (get_or other.outs.items 0 0) ≡ []
-        by_test true is =
-            ap (waiting_on wires₂) (eqb-true (get_or other.outs.items 0 0) outer is) ∙ went.here
-            ∙ ap (λ (edge : ℕ). drop 1 (waiting_on wires₁ edge)) (sym its) ∙ ap (drop 1) gave.came.last
-            ∙ ap (λ (pieces : List Piece). drop 1 (pieces ++ gave.came.piece ∷ [])) (ap (waiting_on wires) its ∙ drained node own at_own writing)
+        by_test true is = ap (waiting_on wires₂) (eqb-true (get_or other.outs.items 0 0) outer is) ∙ went.here ∙ has_gone (outer == gave.edge) refl
         by_test false is =
             went.others (get_or other.outs.items 0 0) is
-            ∙ gave.came.others (get_or other.outs.items 0 0) (ap (λ (edge : ℕ). get_or other.outs.items 0 0 == edge) its ∙ is)
+            ∙ gave.came.others (get_or other.outs.items 0 0) (apart (get_or other.outs.items 0 0 == gave.edge) refl is)
             ∙ drained writer other at writes
 
 -- a turn of a node, whose step led to the middle

@@ -15,7 +15,7 @@ use Rattle.fl_graph.specs.declared.kinds.From.TheVariants as from
 use Rattle.fl_graph.specs.declared.kinds.To.TheVariants as to
 use Rattle.fl_classes.specs.Flow.{is_source}
 use Rattle.fl_core.specs.EndLists.{Blames, HasItsEnds, IsFaultOf, KeepsOthers, NodeEnd, Reader, Writer, end_at, numbers_of, own_end, place_of}
-use Rattle.fl_classes.specs.Kinds.{is_sink}
+use Rattle.fl_classes.specs.Kinds.{is_writer}
 use Rattle.fl_core.specs.Roles.{AreApart, HasRoles, end_by, is_read, is_written, kept, needs_no_more, role_at, Kept}
 use Rattle.fl_core.specs.declared.end_lists.Ends.{Ends}
 use Rattle.fl_core.specs.declared.end_lists.Ran.{Ran}
@@ -41,13 +41,16 @@ module _ {R W I O : Type 0} (it : NodeKind) (node : ℕ) (ends : Ends R W I O) (
   pub writer_there : (path : Components) (mode : Mode) → it ≡ kind.Sink (to.File path mode) → answer ≡ is_some (place_of (numbers_of ends.writers.items) node) → answer ≡ needs_no_more it node ends
   writer_there path mode is found = found ∙ file_end Writer ends.writers.items node ∙ sym (ap (λ (it : NodeKind). needs_no_more it node ends) is)
 
+  pub tee_there : (path : Components) (mode : Mode) → it ≡ kind.TeeFile path mode → answer ≡ is_some (place_of (numbers_of ends.writers.items) node) → answer ≡ needs_no_more it node ends
+  tee_there path mode is found = found ∙ file_end Writer ends.writers.items node ∙ sym (ap (λ (it : NodeKind). needs_no_more it node ends) is)
+
 -- one more node has its end
 module _ {R W I O : Type 0} (nodes : List (Cell NodeKind)) (ends : Ends R W I O) where
   abbrev pub HaveEndsBelow : ℕ → Type 0
-  HaveEndsBelow below = (node : ℕ) (cell : Cell NodeKind) → node < below → slice_get nodes node ≡ Some cell → (is_source cell.kind || is_sink cell.kind) ≡ true
+  HaveEndsBelow below = (node : ℕ) (cell : Cell NodeKind) → node < below → slice_get nodes node ≡ Some cell → (is_source cell.kind || is_writer cell.kind) ≡ true
       → is_some (own_end cell.kind node ends) ≡ true
 
-  has_its : (it : NodeKind) (node : ℕ) → needs_no_more it node ends ≡ true → (is_source it || is_sink it) ≡ true → is_some (own_end it node ends) ≡ true
+  has_its : (it : NodeKind) (node : ℕ) → needs_no_more it node ends ≡ true → (is_source it || is_writer it) ≡ true → is_some (own_end it node ends) ≡ true
   has_its it node has is = sym (ap (λ (test : Bool). not test || is_some (own_end it node ends)) is) ∙ has
 
   node_at : (node : ℕ) (it : Cell NodeKind) → node < length nodes → it ≡ get_or nodes node it → slice_get nodes node ≡ Some it
@@ -65,9 +68,9 @@ module _ {R W I O : Type 0} (nodes : List (Cell NodeKind)) (ends : Ends R W I O)
       ]
 
   pub lacks_end : (node : ℕ) (it : Cell NodeKind) → node < length nodes → it ≡ get_or nodes node it → needs_no_more it.kind node ends ≡ false → HasItsEnds nodes ends → ⊥
-  lacks_end node it within is lacks has = by_test (is_source it.kind || is_sink it.kind) refl
+  lacks_end node it within is lacks has = by_test (is_source it.kind || is_writer it.kind) refl
     where
-      by_test : (test : Bool) → (is_source it.kind || is_sink it.kind) ≡ test → ⊥
+      by_test : (test : Bool) → (is_source it.kind || is_writer it.kind) ≡ test → ⊥
       by_test true reads = true≢false (sym (has node it (node_at node it within is) reads) ∙ sym (ap (λ (test : Bool). not test || is_some (own_end it.kind node ends)) reads) ∙ lacks)
       by_test false reads = true≢false (sym (ap (λ (test : Bool). not test || is_some (own_end it.kind node ends)) reads) ∙ lacks)
 
@@ -84,14 +87,14 @@ module _ {R W I O : Type 0} (cells : List (Cell NodeKind)) (ends : Ends R W I O)
   at_cell : (node : ℕ) (cell : Cell NodeKind) → slice_get cells node ≡ Some cell → end_by (role_at roles node) ends ≡ own_end cell.kind node ends
   at_cell node cell at = here node ∙ ap (option_and_then (λ (cell : Cell NodeKind). own_end cell.kind node ends)) at
 
-  -- each source has an end to read, and each sink one to write
+  -- each source has an end to read, and each node that writes one to write
   pub reads_all : HasItsEnds cells ends → (node : ℕ) (cell : Cell NodeKind) → slice_get cells node ≡ Some cell → is_source cell.kind ≡ true → is_read (end_by (role_at roles node) ends) ≡ true
   reads_all has node cell at source =
-      ap is_read (at_cell node cell at) ∙ own_read cell.kind node ends source (has node cell at (or_left (is_source cell.kind) (is_sink cell.kind) source))
+      ap is_read (at_cell node cell at) ∙ own_read cell.kind node ends source (has node cell at (or_left (is_source cell.kind) (is_writer cell.kind) source))
 
-  pub writes_all : HasItsEnds cells ends → (node : ℕ) (cell : Cell NodeKind) → slice_get cells node ≡ Some cell → is_sink cell.kind ≡ true → is_written (end_by (role_at roles node) ends) ≡ true
-  writes_all has node cell at sink =
-      ap is_written (at_cell node cell at) ∙ own_written cell.kind node ends sink (has node cell at (or_right (is_source cell.kind) (is_sink cell.kind) sink))
+  pub writes_all : HasItsEnds cells ends → (node : ℕ) (cell : Cell NodeKind) → slice_get cells node ≡ Some cell → is_writer cell.kind ≡ true → is_written (end_by (role_at roles node) ends) ≡ true
+  writes_all has node cell at writes =
+      ap is_written (at_cell node cell at) ∙ own_written cell.kind node ends writes (has node cell at (or_right (is_source cell.kind) (is_writer cell.kind) writes))
 
   module _ (roles' : List Role) (ends' : Ends R W I O) (same : kept roles' ends' ≡ kept roles ends) where
     here' : (node : ℕ) → end_by (role_at roles' node) ends' ≡ end_at cells ends' node

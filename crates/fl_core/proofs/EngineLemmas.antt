@@ -11,7 +11,7 @@ use Rattle.fl_graph.specs.declared.kinds.NodeKind.{NodeKind}
 use Rattle.fl_graph.specs.declared.pieces.Act.TheVariants as doing
 use Rattle.fl_graph.specs.declared.pieces.Piece.{Piece}
 use Rattle.fl_classes.specs.Flow.{flow, is_source, only, selects, selections}
-use Rattle.fl_classes.specs.Kinds.{is_sink}
+use Rattle.fl_classes.specs.Kinds.{is_writer}
 use Rattle.fl_core.specs.Ends.{IsReadOff}
 use Rattle.fl_core.specs.Plans.{outer_edge, AreTold, HasRooms, IsNetOf}
 use Rattle.fl_core.specs.Runs.{AreDrained, Follows, Halted, Halts, Leads}
@@ -39,21 +39,21 @@ module _ {Machine : Type 0} (state : Machine → State) (cells : List (Cell Node
     (ports : List Ports) (machines : List Machine) (wires : List (List Piece)) (net : IsNetOf state cells ports machines wires) (left taken : ℕ → Option (List ℕ)) where
   -- a run that halted
   pub halted_front : (taken' : ℕ → Option (List ℕ)) → Halts state ports machines wires left taken taken'
-      → (sources : List (List ℕ)) → AreTold sources cells left → (node : ℕ) (cell : Cell NodeKind) → slice_get cells node ≡ Some cell → is_sink cell.kind ≡ true
+      → (sources : List (List ℕ)) → AreTold sources cells left → (node : ℕ) (cell : Cell NodeKind) → slice_get cells node ≡ Some cell → is_writer cell.kind ≡ true
       → GrewByPrefix (taken node) (taken' node) (only (map (flow cells sources) cell.ins))
-  halted_front taken' halts sources told node cell at sink =
+  halted_front taken' halts sources told node cell at writes =
       let own = net_plan state cells status valid ports machines wires net left taken in
-      halted_writes cells status own.0 valid own.1 taken' (subst (λ (nodes : ℕ). Halted own.0 nodes taken') net.all_machines (halts own.0 own.2 own.3 own.4)) sources told node cell at sink
+      halted_writes cells status own.0 valid own.1 taken' (subst (λ (nodes : ℕ). Halted own.0 nodes taken') net.all_machines (halts own.0 own.2 own.3 own.4)) sources told node cell at writes
 
   module _ (machines' : List Machine) (wires' : List (List Piece)) (left' taken' : ℕ → Option (List ℕ)) (counted : length machines' ≡ length machines)
       (leads : Leads state ports machines machines' wires wires' left left' taken taken') where
     -- a run that has come anywhere
-    pub reached_front : (sources : List (List ℕ)) → AreTold sources cells left → (node : ℕ) (cell : Cell NodeKind) → slice_get cells node ≡ Some cell → is_sink cell.kind ≡ true
+    pub reached_front : (sources : List (List ℕ)) → AreTold sources cells left → (node : ℕ) (cell : Cell NodeKind) → slice_get cells node ≡ Some cell → is_writer cell.kind ≡ true
         → GrewByPrefix (taken node) (taken' node) (only (map (flow cells sources) cell.ins))
-    reached_front sources told node cell at sink =
+    reached_front sources told node cell at writes =
         let own = net_plan state cells status valid ports machines wires net left taken in
         halted_writes cells status own.0 valid own.1 taken'
-        (reached_halts state own.0 machines' wires' left' taken' (leads own.0 own.2 own.3 own.4) (length cells) (counted ∙ net.all_machines)) sources told node cell at sink
+        (reached_halts state own.0 machines' wires' left' taken' (leads own.0 own.2 own.3 own.4) (length cells) (counted ∙ net.all_machines)) sources told node cell at writes
 
     pub reached_whole : (node : ℕ) (machine : Machine) → slice_get machines' node ≡ Some machine → (state machine).broken ≡ false
     reached_whole node machine at =
@@ -91,22 +91,22 @@ module _ {Machine : Type 0} (state : Machine → State) (cells : List (Cell Node
           finished_reads state cells status own.0 valid own.1 machines' wires' left' taken' (leads own.0 own.2 own.3 own.4) (counted ∙ net.all_machines) ((leads own.0 own.2 own.3 own.4).sound own.7) stopped
 
       module _ (sources : List (List ℕ)) (told : AreTold sources cells left) where
-        pub done_writes : AreDrained ports wires' → (node : ℕ) (cell : Cell NodeKind) → slice_get cells node ≡ Some cell → is_sink cell.kind ≡ true
+        pub done_writes : AreDrained ports wires' → (node : ℕ) (cell : Cell NodeKind) → slice_get cells node ≡ Some cell → is_writer cell.kind ≡ true
             → taken' node ≡ then_bytes (taken node) (only (map (flow cells sources) cell.ins))
-        done_writes drained node cell at sink =
+        done_writes drained node cell at writes =
             let own = net_plan state cells status valid ports machines wires net left taken in
-            finished_writes state cells status own.0 valid own.1 machines' wires' left' taken' (leads own.0 own.2 own.3 own.4) (counted ∙ net.all_machines) ((leads own.0 own.2 own.3 own.4).sound own.7) stopped sources told node cell at sink
-            (outer_drained node cell at sink)
+            finished_writes state cells status own.0 valid own.1 machines' wires' left' taken' (leads own.0 own.2 own.3 own.4) (counted ∙ net.all_machines) ((leads own.0 own.2 own.3 own.4).sound own.7) stopped sources told node cell at writes
+            (outer_drained node cell at writes)
           where
-            outer_drained : (node : ℕ) (cell : Cell NodeKind) → slice_get cells node ≡ Some cell → is_sink cell.kind ≡ true → waiting_on wires' (outer_edge cells node) ≡ []
-            outer_drained node cell at sink =
+            outer_drained : (node : ℕ) (cell : Cell NodeKind) → slice_get cells node ≡ Some cell → is_writer cell.kind ≡ true → waiting_on wires' (outer_edge cells node) ≡ []
+            outer_drained node cell at writes =
                 let within = slice_get_within cells node cell at in
                 let all = net.all_ports in
                 let own = some_at ports node (omega (arith, within, all)) in
-                let outs : own.0.outs.items ≡ outer_edge cells node ∷ [] =
-                net.outs node cell own.0 at own.1 ∙ ap (λ (test : Bool). if test then outer_edge cells node ∷ [] else cell.outs) sink in
+                let outs : own.0.outs.items ≡ outer_edge cells node ∷ cell.outs =
+                net.outs node cell own.0 at own.1 ∙ ap (λ (test : Bool). if test then outer_edge cells node ∷ cell.outs else cell.outs) writes in
                 ap (waiting_on wires') (sym (ap (λ (edges : List ℕ). get_or edges 0 0) outs))
-                ∙ drained node own.0 own.1 (net.writes node cell own.0 at own.1 ∙ sink)
+                ∙ drained node own.0 own.1 (net.writes node cell own.0 at own.1 ∙ writes)
 
         -- what each node selects, in the order of the nodes
         pub done_selects : (node : ℕ) (machine : Machine) → slice_get machines' node ≡ Some machine

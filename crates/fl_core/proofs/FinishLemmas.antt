@@ -1,6 +1,6 @@
--- What a run leaves at the ends of a graph's plan: the sinks' ends have fronts of the flow where it halted, and where it finished all of
--- it, with the sources' ends at their end and each node selecting by the flow.
-use Rattle.std.proofs.Common.{◌≡◌, ℕ, ◌+◌, List, [], ◌∷◌, ◌++◌, Bool, true, false, ◌||◌, if◌then◌else◌, length, map, drop, slice_get, nat_lt, Option, Some, None, refl, ap, sym, subst, ◌∙◌, append-nil, arith}
+-- What a run leaves at the ends of a graph's plan: the ends of the nodes that write have fronts of the flow where it halted, and where it
+-- finished all of it, with the sources' ends at their end and each node selecting by the flow.
+use Rattle.std.proofs.Common.{◌≡◌, ℕ, suc, ◌+◌, List, [], ◌∷◌, ◌++◌, Bool, true, false, ◌||◌, if◌then◌else◌, length, map, drop, slice_get, nat_lt, Option, Some, None, refl, ap, sym, subst, ◌∙◌, append-nil, arith}
 use Rattle.std.proofs.lemmas.Bool.{or_parts, true≢false, lt-ltb}
 use Rattle.std.proofs.lemmas.List.{take-append-drop}
 use Rattle.std.proofs.lemmas.Option.{slice_get_within}
@@ -18,7 +18,7 @@ use Rattle.fl_graph.specs.declared.pieces.Piece.{Piece}
 use Rattle.fl_graph.proofs.StateLemmas.{Run-shut}
 use Rattle.fl_classes.specs.Flow.{is_source, only, flow, selects}
 use Rattle.fl_classes.specs.Nodes.{texts_at}
-use Rattle.fl_classes.specs.Kinds.{is_sink, run_kind, run_ins}
+use Rattle.fl_classes.specs.Kinds.{is_sink, is_writer, run_kind, run_ins}
 use Rattle.fl_core.specs.Ends.{IsReadOff}
 use Rattle.fl_core.specs.Laws.{Carries, at_ports}
 use Rattle.fl_core.specs.Steps.{waiting_on}
@@ -26,9 +26,9 @@ use Rattle.fl_core.specs.Runs.{Plan, IsUnbroken, Reached, Halted}
 use Rattle.fl_core.specs.Plans.{outer_edge, IsPlanOf, AreTold}
 use Rattle.fl_core.proofs.PortLemmas.{stands-has, at_ports-stands}
 use Rattle.fl_core.proofs.LawLemmas.{texts-values, edge_carries, edge_completed}
-use Rattle.fl_core.proofs.PlanLemmas.{sink_has, source_no_sink, source_edge, sink_edge, own_ins, own_in_below}
+use Rattle.fl_core.proofs.PlanLemmas.{writer_has, source_no_writer, source_edge, writer_edge, writer_edges, own_ins, own_in_below}
 use Rattle.fl_core.proofs.HaltLemmas.{has_end-front, machine_at, taken_ends, reached_halts}
-use Rattle.fl_core.proofs.KeepLemmas.{owes_sink, hands_on, machine_keeps, halted_keeps}
+use Rattle.fl_core.proofs.KeepLemmas.{owes_writer, hands_on, machine_keeps, halted_keeps}
 
 -- what has grown by a prefix of what carries a text has grown by a prefix of the text
 grew_by_carried : (old new : Option (List ℕ)) (pieces : List Piece) (text : List ℕ) → Carries pieces text → GrewByPrefix old new (text_of pieces) → GrewByPrefix old new text
@@ -48,35 +48,35 @@ read_off text before (Some left) is ended = ended ∙ ap emptied_of (sym is)
 
 module _ (cells : List (Cell NodeKind)) (status : StatusRule) (plan : Plan) (valid : Valid cells status) (planned : IsPlanOf cells plan)
     (taken : ℕ → Option (List ℕ)) (halted : Halted plan (length cells) taken) (sources : List (List ℕ)) (told : AreTold sources cells plan.left)
-    (node : ℕ) (cell : Cell NodeKind) (at_node : slice_get cells node ≡ Some cell) (sink : is_sink cell.kind ≡ true) where
+    (node : ℕ) (cell : Cell NodeKind) (at_node : slice_get cells node ≡ Some cell) (writes : is_writer cell.kind ≡ true) where
   is_no_source : is_source cell.kind ≡ false
   is_no_source = by_test (is_source cell.kind) refl
     where
       by_test : (test : Bool) → is_source cell.kind ≡ test → test ≡ false
-      by_test true is = absurd (true≢false (sym sink ∙ source_no_sink cell.kind is))
+      by_test true is = absurd (true≢false (sym writes ∙ source_no_writer cell.kind is))
       by_test false is = refl
 
-  -- what a sink puts out carries the flow of its in
-  pub sink_carries : Carries (halted.put (outer_edge cells node)) (only (map (flow cells sources) cell.ins))
-  sink_carries =
-      let ports = sink_has cells status plan valid planned node cell at_node sink in
-      let edge : ℕ = ports.1.0 in
-      let stands : slice_get cell.ins 0 ≡ Some edge = ap (λ (edges : List ℕ). slice_get edges 0) ports.1.1 in
+  -- what a node that writes puts out carries the flow of its in
+  pub writer_carries : Carries (halted.put (outer_edge cells node)) (only (map (flow cells sources) cell.ins))
+  writer_carries =
+      let ports = writer_has cells status plan valid planned node cell at_node writes in
+      let edge : ℕ = ports.0 in
+      let stands : slice_get cell.ins 0 ≡ Some edge = ap (λ (edges : List ℕ). slice_get edges 0) ports.1 in
       let below = own_in_below cells status plan valid planned node edge cell at_node (stands-has cell.ins 0 edge stands) in
       let begins = planned.begins node cell at_node in
       let carried = edge_carries cells status valid sources halted.took halted.put (halted_keeps cells status plan valid planned taken halted sources told) edge below in
-      subst (λ (edges : List ℕ). Carries (halted.put (outer_edge cells node)) (only (map (flow cells sources) edges))) (sym ports.1.1)
-      (hands_on (plan.starts node).due halted.took halted.put halted.waiting halted.queued halted.clean edge (outer_edge cells node) (flow cells sources edge)
-      (λ texts port. begins.owes texts port ∙ owes_sink cell.kind (length cell.ins) (length cell.outs) texts port sink (ap (λ (edges : List ℕ). length edges) ports.1.1))
-      (machine_keeps cells status plan valid planned taken halted node cell (edge ∷ []) (outer_edge cells node ∷ []) at_node
-      (own_ins cells status plan valid planned node cell at_node is_no_source ∙ ports.1.1) (sink_edge cells status plan valid planned node cell at_node sink))
+      subst (λ (edges : List ℕ). Carries (halted.put (outer_edge cells node)) (only (map (flow cells sources) edges))) (sym ports.1)
+      (hands_on (plan.starts node).due halted.took halted.put halted.waiting halted.queued halted.clean edge (outer_edge cells node) cell.outs (flow cells sources edge)
+      (λ texts. begins.owes texts 0 ∙ owes_writer cell.kind (length cell.ins) (length cell.outs) texts writes (ap (λ (edges : List ℕ). length edges) ports.1))
+      (machine_keeps cells status plan valid planned taken halted node cell (edge ∷ []) (outer_edge cells node ∷ cell.outs) at_node
+      (own_ins cells status plan valid planned node cell at_node is_no_source ∙ ports.1) (writer_edges cells status plan valid planned node cell at_node writes))
       carried)
 
   -- so its end took a front of it
   pub halted_writes : GrewByPrefix (plan.taken node) (taken node) (only (map (flow cells sources) cell.ins))
   halted_writes =
-      grew_by_carried (plan.taken node) (taken node) (halted.put (outer_edge cells node)) (only (map (flow cells sources) cell.ins)) sink_carries
-      (halted.written node (outer_edge cells node) (planned.writes node cell at_node ∙ sink) (sink_edge cells status plan valid planned node cell at_node sink))
+      grew_by_carried (plan.taken node) (taken node) (halted.put (outer_edge cells node)) (only (map (flow cells sources) cell.ins)) writer_carries
+      (halted.written node (outer_edge cells node) (planned.writes node cell at_node ∙ writes) (writer_edge cells status plan valid planned node cell at_node writes))
 
 -- the machines of ends select nothing, as ends do, and any other selects what its node does
 selects_end : (node : NodeKind) (texts ins : List (List ℕ)) → (is_source node || is_sink node) ≡ true → selects (run_kind node) texts ≡ selects node ins
@@ -124,28 +124,27 @@ module _ {Machine : Type 0} (state : Machine → State) (cells : List (Cell Node
         (reached.ended node (outer_edge cells node) reads outer
         (ap has_end (reached.queued (outer_edge cells node)) ∙ has_end-front (reached.took (outer_edge cells node)) (waiting_on wires (outer_edge cells node)) ended))
 
-    -- a sink has put the end of its text
-    pub sink_ended : (node : ℕ) (cell : Cell NodeKind) → slice_get cells node ≡ Some cell → is_sink cell.kind ≡ true → has_end (reached.put (outer_edge cells node)) ≡ true
-    sink_ended node cell at_node sink =
+    -- a node that writes has put the end of its text
+    pub writer_ended : (node : ℕ) (cell : Cell NodeKind) → slice_get cells node ≡ Some cell → is_writer cell.kind ≡ true → has_end (reached.put (outer_edge cells node)) ≡ true
+    writer_ended node cell at_node writes =
         let found = its_machine node cell at_node in
-        let outs = sink_edge cells status plan valid planned node cell at_node sink in
         let begins = planned.begins node cell at_node in
         let stop = its_stop node found.0 found.1 in
-        let opened : (plan.starts node).puts 0 ≡ true = begins.puts_all 0 ∙ ap (λ (test : Bool). nat_lt 0 (if test then 1 else length cell.outs)) sink in
-        ap has_end (sym (at_ports-stands (plan.outs node) reached.put 0 (outer_edge cells node) (ap (λ (edges : List ℕ). slice_get edges 0) outs)))
+        let opened : (plan.starts node).puts 0 ≡ true = begins.puts_all 0 ∙ ap (λ (test : Bool). nat_lt 0 (if test then suc (length cell.outs) else length cell.outs)) writes ∙ lt-ltb 0 (suc (length cell.outs)) (omega arith) in
+        ap has_end (sym (at_ports-stands (plan.outs node) reached.put 0 (outer_edge cells node) (writer_edge cells status plan valid planned node cell at_node writes)))
         ∙ stop.ended (unbroken.whole node found.0 found.1) 0 opened
 
     module _ (sources : List (List ℕ)) (told : AreTold sources cells plan.left) where
-      pub finished_writes : (node : ℕ) (cell : Cell NodeKind) → slice_get cells node ≡ Some cell → is_sink cell.kind ≡ true → waiting_on wires (outer_edge cells node) ≡ []
+      pub finished_writes : (node : ℕ) (cell : Cell NodeKind) → slice_get cells node ≡ Some cell → is_writer cell.kind ≡ true → waiting_on wires (outer_edge cells node) ≡ []
           → taken node ≡ then_bytes (plan.taken node) (only (map (flow cells sources) cell.ins))
-      finished_writes node cell at_node sink drained =
+      finished_writes node cell at_node writes drained =
           let outer : ℕ = outer_edge cells node in
-          let outs = sink_edge cells status plan valid planned node cell at_node sink in
-          let carries = sink_carries cells status plan valid planned taken (reached_halts state plan machines wires left taken reached (length cells) counted) sources told node cell at_node sink in
+          let first = writer_edge cells status plan valid planned node cell at_node writes in
+          let carries = writer_carries cells status plan valid planned taken (reached_halts state plan machines wires left taken reached (length cells) counted) sources told node cell at_node writes in
           let all_taken : reached.put outer ≡ reached.took outer =
           reached.queued outer ∙ ap (λ (rest : List Piece). reached.took outer ++ rest) drained ∙ append-nil (reached.took outer) in
-          reached.written node outer (planned.writes node cell at_node ∙ sink) outs
-          ∙ ap (λ (text : List ℕ). then_bytes (plan.taken node) text) (ap text_of (sym all_taken) ∙ sym (carries.whole (sink_ended node cell at_node sink)))
+          reached.written node outer (planned.writes node cell at_node ∙ writes) first
+          ∙ ap (λ (text : List ℕ). then_bytes (plan.taken node) text) (ap text_of (sym all_taken) ∙ sym (carries.whole (writer_ended node cell at_node writes)))
 
       -- the ins of a node that is no source come to their flow, whatever is said to follow
       ins_come : (node : ℕ) (cell : Cell NodeKind) (machine : Machine) → slice_get cells node ≡ Some cell → slice_get machines node ≡ Some machine → is_source cell.kind ≡ false

@@ -8,7 +8,7 @@ use Rattle.fl_graph.specs.Machines.{State}
 use Rattle.fl_graph.specs.declared.kinds.NodeKind.{NodeKind}
 use Rattle.fl_graph.specs.declared.pieces.Piece.{Piece}
 use Rattle.fl_classes.specs.Flow.{is_source}
-use Rattle.fl_classes.specs.Kinds.{is_sink}
+use Rattle.fl_classes.specs.Kinds.{is_writer}
 use Rattle.fl_core.specs.Plans.{IsNetOf}
 use Rattle.fl_core.specs.Starts.{BeginsAs, HasPorts, NodesHave}
 use Rattle.fl_core.specs.Steps.{waiting_on}
@@ -61,11 +61,11 @@ nodes_more {Own} has nodes owns now last node it more within is before here =
 -- ports with the edges of a node
 pub has_ports : (nodes : List (Cell NodeKind)) (node : ℕ) (it : Cell NodeKind) (edges : ℕ) (own : Ports) → edges ≡ length (gives nodes)
     → own.ins.items ≡ (if is_source it.kind then (edges + node) ∷ [] else it.ins)
-    → own.outs.items ≡ (if is_sink it.kind then (edges + node) ∷ [] else it.outs)
-    → own.reads ≡ is_source it.kind → own.writes ≡ is_sink it.kind → HasPorts nodes node it own
+    → own.outs.items ≡ (if is_writer it.kind then (edges + node) ∷ it.outs else it.outs)
+    → own.reads ≡ is_source it.kind → own.writes ≡ is_writer it.kind → HasPorts nodes node it own
 has_ports nodes node it edges own counted ins outs reads writes = record {
   ins = ins ∙ ap (λ (count : ℕ). if is_source it.kind then (count + node) ∷ [] else it.ins) counted;
-  outs = outs ∙ ap (λ (count : ℕ). if is_sink it.kind then (count + node) ∷ [] else it.outs) counted;
+  outs = outs ∙ ap (λ (count : ℕ). if is_writer it.kind then (count + node) ∷ it.outs else it.outs) counted;
   reads = reads;
   writes = writes;
 }

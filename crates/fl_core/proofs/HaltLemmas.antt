@@ -47,7 +47,7 @@ module _ {Machine : Type 0} (state : Machine → State) (plan : Plan) (machines 
   each_keeps nodes counted node within = let found = machine_at machines node (omega (arith, within, counted)) in reached_keeps node found.0 found.1
 
   -- and what an end took is a front of what was put
-  pub written_front : (node edge : ℕ) → plan.writes node ≡ true → plan.outs node ≡ edge ∷ [] → GrewByPrefix (plan.taken node) (taken node) (text_of (reached.put edge))
+  pub written_front : (node edge : ℕ) → plan.writes node ≡ true → slice_get (plan.outs node) 0 ≡ Some edge → GrewByPrefix (plan.taken node) (taken node) (text_of (reached.put edge))
   written_front node edge writes is =
       let more : text_of (reached.put edge) ≡ text_of (reached.took edge) ++ text_of (waiting_on wires edge) =
       ap text_of (reached.queued edge) ∙ text_of-append (reached.took edge) (waiting_on wires edge) in

@@ -1,5 +1,5 @@
 -- Where each machine of a graph's plan has kept its equation, each node has: those that are no ends by their machines, a source by what
--- came from outside, and a sink since it has no outs.
+-- came from outside, a sink since it has no outs, and a node that writes a file and hands on by the outs behind the one to the outside.
 use Rattle.std.proofs.Common.{◌≡◌, ℕ, zero, suc, ◌+◌, List, [], ◌∷◌, ◌++◌, Bool, true, false, if◌then◌else◌, length, drop, get_or, slice_get, Option, Some, None, refl, ap, sym, subst, ◌∙◌, append-nil}
 use Rattle.std.proofs.Math.Seq.{take-append_seam}
 use Rattle.std.proofs.lemmas.Bool.{true≢false}
@@ -15,30 +15,39 @@ use Rattle.fl_graph.specs.declared.kinds.NodeKind.TheVariants as kind
 use Rattle.fl_graph.specs.declared.pieces.Piece.{Piece}
 use Rattle.fl_classes.specs.Flow.{Placed, placed, placed_from, is_source, texts_given}
 use Rattle.fl_classes.specs.Nodes.{given_on}
-use Rattle.fl_classes.specs.Kinds.{is_sink, run_kind, run_ins, run_outs}
+use Rattle.fl_classes.specs.Kinds.{is_sink, is_writer, run_kind, run_ins, run_outs}
 use Rattle.fl_core.specs.Laws.{Carries, is_clean, at_ports, given, Keeps, NodesKeep, NetKeeps}
 use Rattle.fl_core.specs.Runs.{Plan, Halted}
 use Rattle.fl_core.specs.Plans.{outer_edge, IsPlanOf, AreTold}
 use Rattle.fl_core.proofs.PieceLemmas.{taken_completes}
-use Rattle.fl_core.proofs.PlanLemmas.{source_no_sink, source_has, sink_has, source_edge, own_ins, own_outs}
+use Rattle.fl_core.proofs.PlanLemmas.{source_no_writer, source_has, sink_has, source_edge, writer_edges, own_ins, own_outs}
 
--- what is due of the machine of a source, and of a sink, is what comes at its one in
-owes_source : (node : NodeKind) (ins outs : ℕ) (texts : ℕ → List ℕ) (port : ℕ) → is_source node ≡ true
-    → given_on (run_kind node) (run_ins node ins) (run_outs node outs) texts port ≡ given_on (kind.Cat false) 1 1 texts port
-owes_source (kind.Source source) ins outs texts port is = refl
-owes_source other ins outs texts port is = absurd (true≢false (sym is))
+-- what is due on the first out of the machine of a source, and of a node that writes, is what comes at its one in
+owes_source : (node : NodeKind) (ins outs : ℕ) (texts : ℕ → List ℕ) → is_source node ≡ true
+    → given_on (run_kind node) (run_ins node ins) (run_outs node outs) texts 0 ≡ texts 0
+owes_source (kind.Source source) ins outs texts is = append-nil (texts 0)
+owes_source other ins outs texts is = absurd (true≢false (sym is))
 
-pub owes_sink : (node : NodeKind) (ins outs : ℕ) (texts : ℕ → List ℕ) (port : ℕ) → is_sink node ≡ true → ins ≡ 1
-    → given_on (run_kind node) (run_ins node ins) (run_outs node outs) texts port ≡ given_on (kind.Cat false) 1 1 texts port
-owes_sink (kind.Sink sink) ins outs texts port is one = ap (λ (ins : ℕ). given_on (kind.Cat false) ins 1 texts port) one
-owes_sink other ins outs texts port is one = absurd (true≢false (sym is))
+pub owes_writer : (node : NodeKind) (ins outs : ℕ) (texts : ℕ → List ℕ) → is_writer node ≡ true → ins ≡ 1
+    → given_on (run_kind node) (run_ins node ins) (run_outs node outs) texts 0 ≡ texts 0
+owes_writer (kind.Sink sink) ins outs texts is one = ap (λ (ins : ℕ). given_on (kind.Cat false) ins (suc outs) texts 0) one ∙ append-nil (texts 0)
+owes_writer (kind.TeeFile path mode) ins outs texts is one = ap (λ (ins : ℕ). given_on (kind.TeeFile path mode) ins (suc outs) texts 0) one
+owes_writer other ins outs texts is one = absurd (true≢false (sym is))
 
--- and of any other node's it is the node's equation
-owes_other : (sources : List (List ℕ)) (number : ℕ) (node : NodeKind) (ins outs : ℕ) (texts : ℕ → List ℕ) (port : ℕ) → is_source node ≡ false → is_sink node ≡ false
+-- on the outs behind the one to the outside it is the node's equation
+owes_behind : (sources : List (List ℕ)) (number : ℕ) (node : NodeKind) (ins outs : ℕ) (texts : ℕ → List ℕ) (port : ℕ) → is_writer node ≡ true → is_sink node ≡ false
+    → given_on (run_kind node) (run_ins node ins) (run_outs node outs) texts (suc port) ≡ given sources (number, node) ins outs texts port
+owes_behind sources number (kind.TeeFile path mode) ins outs texts port writes no_sink = refl
+owes_behind sources number (kind.Sink sink) ins outs texts port writes no_sink = absurd (true≢false no_sink)
+owes_behind sources number other ins outs texts port writes no_sink = absurd (true≢false (sym writes))
+
+-- and on all of any other node
+owes_other : (sources : List (List ℕ)) (number : ℕ) (node : NodeKind) (ins outs : ℕ) (texts : ℕ → List ℕ) (port : ℕ) → is_source node ≡ false → is_writer node ≡ false
     → given_on (run_kind node) (run_ins node ins) (run_outs node outs) texts port ≡ given sources (number, node) ins outs texts port
-owes_other sources number (kind.Source source) ins outs texts port no_source no_sink = absurd (true≢false no_source)
-owes_other sources number (kind.Sink sink) ins outs texts port no_source no_sink = absurd (true≢false no_sink)
-owes_other sources number other ins outs texts port no_source no_sink = refl
+owes_other sources number (kind.Source source) ins outs texts port no_source no_writer = absurd (true≢false no_source)
+owes_other sources number (kind.Sink sink) ins outs texts port no_source no_writer = absurd (true≢false no_writer)
+owes_other sources number (kind.TeeFile path mode) ins outs texts port no_source no_writer = absurd (true≢false no_writer)
+owes_other sources number other ins outs texts port no_source no_writer = refl
 
 -- a source gives its text on its out
 given_source : (sources : List (List ℕ)) (number : ℕ) (node : NodeKind) (outs : ℕ) (ins : List (List ℕ)) → is_source node ≡ true
@@ -53,6 +62,11 @@ Keeps-same one other taken put same keeps = record {
   front = λ rest port. subst (λ (text : List ℕ). BeginsWith text (text_of (put port))) (same (completion taken rest) port) (keeps.front rest port);
   whole = λ port ended rest. sym (same (completion taken rest) port) ∙ keeps.whole port ended rest;
 }
+
+-- on the outs behind the first an equation is kept where it is on all
+Keeps-behind : (equation : (ℕ → List ℕ) → ℕ → List ℕ) (taken put : ℕ → List Piece) (first : ℕ) (edges : List ℕ) → Keeps equation taken (at_ports (first ∷ edges) put)
+    → Keeps (λ texts port. equation texts (suc port)) taken (at_ports edges put)
+Keeps-behind equation taken put first edges keeps = record { front = λ rest port. keeps.front rest (suc port); whole = λ port. keeps.whole (suc port) }
 
 -- an equation is kept where no piece was put, and where the pieces of the one out carry its text
 Keeps-none : (equation : (ℕ → List ℕ) → ℕ → List ℕ) (taken put : ℕ → List Piece) → Keeps equation taken (at_ports [] put)
@@ -85,16 +99,16 @@ told_carries text before (Some after) pieces told read ended =
       whole = λ closed. whole ∙ ap (λ (rest : List ℕ). text_of pieces ++ rest) (same_text after [] (ended closed)) ∙ append-nil (text_of pieces);
     }
 
--- a machine that hands on carries over what its one in carries
+-- a machine that hands on carries over to its first out what its one in carries
 module _ (due : (ℕ → List ℕ) → ℕ → List ℕ) (took put waiting : ℕ → List Piece)
     (queued : (edge : ℕ) → put edge ≡ took edge ++ waiting edge) (clean : (edge : ℕ) → is_clean (put edge) ≡ true)
-    (from to : ℕ) (text : List ℕ) where
-  pub hands_on : ((texts : ℕ → List ℕ) (port : ℕ) → due texts port ≡ given_on (kind.Cat false) 1 1 texts port)
-      → Keeps due (at_ports (from ∷ []) took) (at_ports (to ∷ []) put) → Carries (put from) text → Carries (put to) text
+    (from to : ℕ) (behind : List ℕ) (text : List ℕ) where
+  pub hands_on : ((texts : ℕ → List ℕ) → due texts 0 ≡ texts 0)
+      → Keeps due (at_ports (from ∷ []) took) (at_ports (to ∷ behind) put) → Carries (put from) text → Carries (put to) text
   hands_on owes keeps carries =
       let rest : ℕ → List ℕ = λ port. drop (length (text_of (took from))) text in
       let texts = completion (at_ports (from ∷ []) took) rest in
-      let met : due texts 0 ≡ text = owes texts 0 ∙ append-nil (texts 0) ∙ taken_completes (put from) (took from) (waiting from) text (queued from) (clean from) carries in
+      let met : due texts 0 ≡ text = owes texts ∙ taken_completes (put from) (took from) (waiting from) text (queued from) (clean from) carries in
       record {
         front = subst (λ (it : List ℕ). BeginsWith it (text_of (put to))) met (keeps.front rest 0);
         whole = λ ended. sym met ∙ keeps.whole 0 ended rest;
@@ -136,10 +150,10 @@ module _ (cells : List (Cell NodeKind)) (status : StatusRule) (plan : Plan) (val
         let outer = source_edge cells status plan valid planned node (unplaced cell) at_cell is in
         let reads : plan.reads node ≡ true = planned.reads node (unplaced cell) at_cell ∙ is in
         let begins = planned.begins node (unplaced cell) at_cell in
-        hands_on (plan.starts node).due halted.took halted.put halted.waiting halted.queued halted.clean (outer_edge cells node) edge (get_or sources cell.kind.0 [])
-        (λ texts port. begins.owes texts port ∙ owes_source cell.kind.1 (length cell.ins) (length cell.outs) texts port is)
+        hands_on (plan.starts node).due halted.took halted.put halted.waiting halted.queued halted.clean (outer_edge cells node) edge [] (get_or sources cell.kind.0 [])
+        (λ texts. begins.owes texts 0 ∙ owes_source cell.kind.1 (length cell.ins) (length cell.outs) texts is)
         (machine_keeps node (unplaced cell) (outer_edge cells node ∷ []) (edge ∷ []) at_cell outer
-        (own_outs cells status plan valid planned node (unplaced cell) at_cell (source_no_sink cell.kind.1 is) ∙ outs))
+        (own_outs cells status plan valid planned node (unplaced cell) at_cell (source_no_writer cell.kind.1 is) ∙ outs))
         (told_carries (get_or sources cell.kind.0 []) (plan.left node) (halted.left node) (halted.put (outer_edge cells node)) (told node cell at_node is)
         (halted.read node (outer_edge cells node) reads outer) (halted.ended node (outer_edge cells node) reads outer))
 
@@ -148,29 +162,36 @@ module _ (cells : List (Cell NodeKind)) (status : StatusRule) (plan : Plan) (val
     KeepsAt cell ins outs = Keeps (given sources cell.kind (length cell.ins) (length cell.outs)) (at_ports ins halted.took) (at_ports outs halted.put)
 
     node_keeps : (node : ℕ) (cell : Cell Placed) → slice_get (placed cells) node ≡ Some cell → KeepsAt cell cell.ins cell.outs
-    node_keeps node cell at_node = by_ends (is_source cell.kind.1) (is_sink cell.kind.1) refl refl
+    node_keeps node cell at_node = by_ends (is_source cell.kind.1) (is_writer cell.kind.1) (is_sink cell.kind.1) refl refl refl
       where
         at_cell : slice_get cells node ≡ Some (unplaced cell)
         at_cell = at_unplaced 0 cells node cell at_node
 
-        by_ends : (source sink : Bool) → is_source cell.kind.1 ≡ source → is_sink cell.kind.1 ≡ sink → KeepsAt cell cell.ins cell.outs
-        by_ends true sink is_one is_other =
+        by_ends : (source writer sink : Bool) → is_source cell.kind.1 ≡ source → is_writer cell.kind.1 ≡ writer → is_sink cell.kind.1 ≡ sink → KeepsAt cell cell.ins cell.outs
+        by_ends true writer sink is_one is_other is_third =
             let ports = source_has cells status plan valid planned node (unplaced cell) at_cell is_one in
             let carries = source_carries node ports.1.0 cell at_node is_one ports.1.1 in
             subst (λ (outs : List ℕ). KeepsAt cell cell.ins outs) (sym ports.1.1)
             (Keeps-one (given sources cell.kind (length cell.ins) (length cell.outs)) (at_ports cell.ins halted.took) halted.put ports.1.0
             (λ rest. subst (λ (texts : List (List ℕ)). Carries (halted.put ports.1.0) (get_or texts 0 []))
             (sym (given_source sources cell.kind.0 cell.kind.1 (length cell.outs) _ is_one)) carries))
-        by_ends false true no_source is_one =
-            let ports = sink_has cells status plan valid planned node (unplaced cell) at_cell is_one in
-            subst (λ (outs : List ℕ). KeepsAt cell cell.ins outs) (sym ports.0)
+        by_ends false true true no_source writes is_one =
+            subst (λ (outs : List ℕ). KeepsAt cell cell.ins outs) (sym (sink_has cells status plan valid planned node (unplaced cell) at_cell is_one))
             (Keeps-none (given sources cell.kind (length cell.ins) (length cell.outs)) (at_ports cell.ins halted.took) halted.put)
-        by_ends false false no_source no_sink =
+        by_ends false true false no_source writes no_sink =
+            let begins = planned.begins node (unplaced cell) at_cell in
+            Keeps-same (λ texts port. (plan.starts node).due texts (suc port)) (given sources cell.kind (length cell.ins) (length cell.outs)) (at_ports cell.ins halted.took)
+            (at_ports cell.outs halted.put)
+            (λ texts port. begins.owes texts (suc port) ∙ owes_behind sources cell.kind.0 cell.kind.1 (length cell.ins) (length cell.outs) texts port writes no_sink)
+            (Keeps-behind (plan.starts node).due (at_ports cell.ins halted.took) halted.put (outer_edge cells node) cell.outs
+            (machine_keeps node (unplaced cell) cell.ins (outer_edge cells node ∷ cell.outs) at_cell
+            (own_ins cells status plan valid planned node (unplaced cell) at_cell no_source) (writer_edges cells status plan valid planned node (unplaced cell) at_cell writes)))
+        by_ends false false sink no_source no_writer is_third =
             let begins = planned.begins node (unplaced cell) at_cell in
             Keeps-same (plan.starts node).due (given sources cell.kind (length cell.ins) (length cell.outs)) (at_ports cell.ins halted.took) (at_ports cell.outs halted.put)
-            (λ texts port. begins.owes texts port ∙ owes_other sources cell.kind.0 cell.kind.1 (length cell.ins) (length cell.outs) texts port no_source no_sink)
+            (λ texts port. begins.owes texts port ∙ owes_other sources cell.kind.0 cell.kind.1 (length cell.ins) (length cell.outs) texts port no_source no_writer)
             (machine_keeps node (unplaced cell) cell.ins cell.outs at_cell
-            (own_ins cells status plan valid planned node (unplaced cell) at_cell no_source) (own_outs cells status plan valid planned node (unplaced cell) at_cell no_sink))
+            (own_ins cells status plan valid planned node (unplaced cell) at_cell no_source) (own_outs cells status plan valid planned node (unplaced cell) at_cell no_writer))
 
     pub halted_keeps : NetKeeps sources cells halted.took halted.put
     halted_keeps = record {

@@ -15,7 +15,6 @@ joint_if_run (kind.Sink sink) run ends runs = absurd (true≢false ends)
 joint_if_run (kind.Map inv) run ends runs = absurd (true≢false runs)
 joint_if_run (kind.Whole inv) run ends runs = absurd (true≢false runs)
 joint_if_run (kind.Finish inv) run ends runs = absurd (true≢false runs)
-joint_if_run (kind.TeeFile path mode) run ends runs = absurd (true≢false (sym run))
 joint_if_run (kind.Agg (inv.Wc wc)) run ends runs = refl
 joint_if_run (kind.Agg other) run ends runs = absurd (true≢false (sym run))
 joint_if_run other run ends runs = refl

@@ -3,6 +3,7 @@ use Rattle.std.proofs.Common.{◌≡◌, ℕ, ◌+◌, ◌<◌, ◌≤◌, List,
 use Rattle.std.specs.List.{list_all, range_with_len, sum_by}
 use Rattle.std.proofs.lemmas.Bool.{and_parts, true≢false}
 use Rattle.std.proofs.lemmas.List.{length-take}
+use Rattle.std.proofs.lemmas.List.Sums.{sum_by-cons}
 use Rattle.fl_graph.specs.Net.{gives, takes}
 use Rattle.fl_graph.specs.declared.graphs.Cell.{Cell}
 use Rattle.ps_lines.specs.Texts.{BeginsWith}
@@ -16,7 +17,7 @@ use Rattle.fl_graph.specs.declared.pieces.Piece.TheVariants as piece
 use Rattle.fl_graph.proofs.ListLemmas.{count-has}
 use Rattle.fl_classes.specs.Flow.{Placed, flow, is_source, only, placed}
 use Rattle.fl_core.specs.Inputs.{RunsOver}
-use Rattle.fl_classes.specs.Kinds.{is_sink}
+use Rattle.fl_classes.specs.Kinds.{is_writer}
 use Rattle.fl_core.specs.Laws.{is_clean, NetKeeps}
 use Rattle.fl_core.specs.Moves.{moves_at, most_moves, most_pieces, outer_texts}
 use Rattle.fl_core.specs.Plans.{outer_edge, AreTold}
@@ -28,7 +29,7 @@ use Rattle.fl_core.proofs.KeepLemmas.{at_unplaced, halted_keeps, unplaced}
 use Rattle.fl_core.proofs.LawLemmas.{edge_carries}
 use Rattle.fl_core.proofs.OuterLemmas.{put_carries}
 use Rattle.fl_core.proofs.PlacedLemmas.{gives-placed, length-placed, takes-placed}
-use Rattle.fl_core.proofs.PlanLemmas.{given_below, own_in_below, own_ins, own_out_below, own_outs, sink_edge, source_edge, source_no_sink}
+use Rattle.fl_core.proofs.PlanLemmas.{given_below, own_in_below, own_ins, own_out_below, own_outs, source_edge, source_no_writer, writer_edges}
 use Rattle.fl_core.proofs.SumLemmas.{edges-le, nodes-le, once-le, sum_by-both, sum_by-flat_map}
 
 has_some : (bytes : List ℕ) → has_bytes (piece.Bytes bytes) ≡ true → 1 ≤ length bytes
@@ -118,7 +119,7 @@ module _ {Machine : Type 0} (state : Machine → State) (cells : List (Cell Node
         (edges-le (λ (edge : ℕ). length (reached.took edge)) most cell.ins
         (λ edge there. took_from edge (own_in_below cells status plan valid runs.planned node edge (unplaced cell) at_cell there)))
 
-    own_given : is_sink cell.kind.1 ≡ false → sum_by (λ (edge : ℕ). length (reached.put edge)) (plan.outs node) ≤ sum_by most cell.outs
+    own_given : is_writer cell.kind.1 ≡ false → sum_by (λ (edge : ℕ). length (reached.put edge)) (plan.outs node) ≤ sum_by most cell.outs
     own_given is =
         subst (λ (edges : List ℕ). sum_by (λ (edge : ℕ). length (reached.put edge)) edges ≤ sum_by most cell.outs)
         (sym (own_outs cells status plan valid runs.planned node (unplaced cell) at_cell is))
@@ -138,40 +139,44 @@ module _ {Machine : Type 0} (state : Machine → State) (cells : List (Cell Node
         subst (λ (edges : List ℕ). sum_by (λ (edge : ℕ). length (reached.took edge)) edges ≤ most_pieces (get_or sources cell.kind.0 [])) (sym outer)
         (omega (arith, few, same, less))
 
-    outer_given : is_sink cell.kind.1 ≡ true → sum_by (λ (edge : ℕ). length (reached.put edge)) (plan.outs node) ≤ most_pieces (only (map (flow cells sources) cell.ins))
+    outer_given : is_writer cell.kind.1 ≡ true
+        → sum_by (λ (edge : ℕ). length (reached.put edge)) (plan.outs node) ≤ most_pieces (only (map (flow cells sources) cell.ins)) + sum_by most cell.outs
     outer_given is =
+        let own = edges-le (λ (edge : ℕ). length (reached.put edge)) most cell.outs
+        (λ edge there. put_on edge (own_out_below cells status plan valid runs.planned node edge (unplaced cell) at_cell there)) in
+        let all = sum_by-cons (λ (edge : ℕ). length (reached.put edge)) (outer_edge cells node) cell.outs in
         let few = put_few (outer_edge cells node) (only (map (flow cells sources) cell.ins))
         (put_carries state cells status valid inputs moves failed ports machines wires runs sources told node (unplaced cell) at_cell is).front in
-        subst (λ (edges : List ℕ). sum_by (λ (edge : ℕ). length (reached.put edge)) edges ≤ most_pieces (only (map (flow cells sources) cell.ins)))
-        (sym (sink_edge cells status plan valid runs.planned node (unplaced cell) at_cell is))
-        (omega (arith, few))
+        subst (λ (edges : List ℕ). sum_by (λ (edge : ℕ). length (reached.put edge)) edges ≤ most_pieces (only (map (flow cells sources) cell.ins)) + sum_by most cell.outs)
+        (sym (writer_edges cells status plan valid runs.planned node (unplaced cell) at_cell is))
+        (omega (arith, few, own, all))
 
     -- the texts of a node of this kind
     abbrev ends : Bool → Bool → List (List ℕ)
-    ends source sink = if source then get_or sources cell.kind.0 [] ∷ [] else if sink then only (map (flow cells sources) cell.ins) ∷ [] else []
+    ends source writer = if source then get_or sources cell.kind.0 [] ∷ [] else if writer then only (map (flow cells sources) cell.ins) ∷ [] else []
 
     node_few : moves_at plan reached.took reached.put node ≤ most_at cell
-    node_few = by_kind (is_source cell.kind.1) (is_sink cell.kind.1) refl refl
+    node_few = by_kind (is_source cell.kind.1) (is_writer cell.kind.1) refl refl
       where
-        outer : (source sink : Bool) → is_source cell.kind.1 ≡ source → is_sink cell.kind.1 ≡ sink
-            → sum_by most_pieces (outer_texts (flow cells sources) sources cell) ≡ sum_by most_pieces (ends source sink)
-        outer source sink is_one is_other =
-            ap (λ (test : Bool). sum_by most_pieces (ends test (is_sink cell.kind.1))) is_one ∙ ap (λ (test : Bool). sum_by most_pieces (ends source test)) is_other
+        outer : (source writer : Bool) → is_source cell.kind.1 ≡ source → is_writer cell.kind.1 ≡ writer
+            → sum_by most_pieces (outer_texts (flow cells sources) sources cell) ≡ sum_by most_pieces (ends source writer)
+        outer source writer is_one is_other =
+            ap (λ (test : Bool). sum_by most_pieces (ends test (is_writer cell.kind.1))) is_one ∙ ap (λ (test : Bool). sum_by most_pieces (ends source test)) is_other
 
-        by_kind : (source sink : Bool) → is_source cell.kind.1 ≡ source → is_sink cell.kind.1 ≡ sink → moves_at plan reached.took reached.put node ≤ most_at cell
-        by_kind true sink is_one is_other =
+        by_kind : (source writer : Bool) → is_source cell.kind.1 ≡ source → is_writer cell.kind.1 ≡ writer → moves_at plan reached.took reached.put node ≤ most_at cell
+        by_kind true writer is_one is_other =
             let taken = outer_taken is_one in
-            let given = own_given (source_no_sink cell.kind.1 is_one) in
-            let texts = outer true sink is_one is_other in
+            let given = own_given (source_no_writer cell.kind.1 is_one) in
+            let texts = outer true writer is_one is_other in
             omega (arith, taken, given, texts)
         by_kind false true no_source is_one =
             let taken = own_taken no_source in
             let given = outer_given is_one in
             let texts = outer false true no_source is_one in
             omega (arith, taken, given, texts)
-        by_kind false false no_source no_sink =
+        by_kind false false no_source no_writer =
             let taken = own_taken no_source in
-            let given = own_given no_sink in
+            let given = own_given no_writer in
             omega (arith, taken, given)
 
   -- each edge is taken once and given once

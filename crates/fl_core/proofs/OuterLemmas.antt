@@ -14,7 +14,7 @@ use Rattle.fl_graph.specs.declared.pieces.Piece.{Piece}
 use Rattle.fl_classes.specs.Flow.{flow, only}
 use Rattle.fl_graph.proofs.StateLemmas.{Run-weaken}
 use Rattle.fl_core.specs.Inputs.{marked, AreBrought, RunsOver}
-use Rattle.fl_classes.specs.Kinds.{is_sink}
+use Rattle.fl_classes.specs.Kinds.{is_writer}
 use Rattle.fl_core.specs.Laws.{Carries}
 use Rattle.fl_core.specs.Plans.{outer_edge, AreTold, IsPlanOf}
 use Rattle.fl_core.specs.Moves.{moves_of}
@@ -22,11 +22,11 @@ use Rattle.fl_core.specs.Runs.{Plan, Follows, IsWired, Reached}
 use Rattle.fl_core.specs.Steps.{has_moved, waiting_on}
 use Rattle.fl_core.specs.declared.nets.Ports.{Ports}
 use Rattle.fl_core.specs.declared.steps.Progress.{Progress}
-use Rattle.fl_core.proofs.FinishLemmas.{sink_carries, sink_ended}
+use Rattle.fl_core.proofs.FinishLemmas.{writer_carries, writer_ended}
 use Rattle.fl_core.proofs.HaltLemmas.{reached_halts}
 use Rattle.fl_core.proofs.NetLemmas.{FailsBy, LeadsBy}
 use Rattle.fl_core.proofs.PieceLemmas.{text_of-append}
-use Rattle.fl_core.proofs.PlanLemmas.{sink_edge}
+use Rattle.fl_core.proofs.PlanLemmas.{writer_edge}
 
 some_is : {X : Type 0} (one other : X) → Some one ≡ Some other → one ≡ other
 some_is one other is = cc
@@ -92,7 +92,7 @@ module _ (node : ℕ) (plan : Plan) where
     from_outside = wired.from_outside;
     to_outside = wired.to_outside;
     one_in = wired.one_in;
-    one_out = wired.one_out;
+    first_out = wired.first_out;
   }
 
   follows_still : (ports : List Ports) (wires : ℕ) → Follows plan ports wires → Follows (failing node plan) ports wires
@@ -193,7 +193,7 @@ steps_fail {Machine} state ports machines machines' wires wires' node machine (E
 module _ {Machine : Type 0} (state : Machine → State) (cells : List (Cell NodeKind)) (status : StatusRule) (valid : Valid cells status) (inputs : ℕ → List ℕ)
     (moves : ℕ) (failed : ℕ → Bool) (ports : List Ports) (machines : List Machine) (wires : List (List Piece)) (runs : RunsOver state cells inputs moves failed ports machines wires)
     (sources : List (List ℕ)) (told : AreTold sources cells (λ node. Some (inputs node)))
-    (node : ℕ) (cell : Cell NodeKind) (at_node : slice_get cells node ≡ Some cell) (sink : is_sink cell.kind ≡ true) where
+    (node : ℕ) (cell : Cell NodeKind) (at_node : slice_get cells node ≡ Some cell) (writes : is_writer cell.kind ≡ true) where
   abbrev plan : Plan
   plan = runs.goes.plan
 
@@ -202,14 +202,14 @@ module _ {Machine : Type 0} (state : Machine → State) (cells : List (Cell Node
 
   pub put_carries : Carries (reached.put (outer_edge cells node)) (only (map (flow cells sources) cell.ins))
   put_carries =
-      sink_carries cells status plan valid runs.planned (λ node. Some [])
+      writer_carries cells status plan valid runs.planned (λ node. Some [])
       (reached_halts state plan machines wires (λ node. Some []) (λ node. Some []) reached (length cells) runs.counted) sources
-      (λ number found at_number source. runs.told number ∙ told number found at_number source) node cell at_node sink
+      (λ number found at_number source. runs.told number ∙ told number found at_number source) node cell at_node writes
 
   none_taken : text_of (reached.took (outer_edge cells node)) ≡ []
   none_taken =
       sym (some_is [] (text_of (reached.took (outer_edge cells node)))
-      (reached.written node (outer_edge cells node) (runs.planned.writes node cell at_node ∙ sink) (sink_edge cells status plan valid runs.planned node cell at_node sink)
+      (reached.written node (outer_edge cells node) (runs.planned.writes node cell at_node ∙ writes) (writer_edge cells status plan valid runs.planned node cell at_node writes)
       ∙ ap (λ (old : Option (List ℕ)). then_bytes old (text_of (reached.took (outer_edge cells node)))) (runs.untaken node)))
 
   waiting_text : text_of (reached.put (outer_edge cells node)) ≡ text_of (waiting_on wires (outer_edge cells node))
@@ -217,7 +217,7 @@ module _ {Machine : Type 0} (state : Machine → State) (cells : List (Cell Node
       ap text_of (reached.queued (outer_edge cells node)) ∙ text_of-append (reached.took (outer_edge cells node)) (waiting_on wires (outer_edge cells node))
       ∙ ap (λ (front : List ℕ). front ++ text_of (waiting_on wires (outer_edge cells node))) none_taken
 
-  -- what waits behind a sink carries the flow of its in
+  -- what waits for the outside behind a node that writes carries the flow of its in
   pub waiting_carries : Carries (waiting_on wires (outer_edge cells node)) (only (map (flow cells sources) cell.ins))
   waiting_carries = record {
     front = subst (λ (text : List ℕ). BeginsWith (only (map (flow cells sources) cell.ins)) text) waiting_text put_carries.front;
@@ -232,5 +232,5 @@ module _ {Machine : Type 0} (state : Machine → State) (cells : List (Cell Node
       → only (map (flow cells sources) cell.ins) ≡ text_of (waiting_on wires (outer_edge cells node))
   waiting_whole unfailed stopped =
       put_carries.whole
-      (sink_ended state cells status plan valid runs.planned machines wires (λ node. Some []) (λ node. Some []) reached runs.counted (reached.sound (λ number. runs.marked number ∙ unfailed number)) stopped node cell at_node sink)
+      (writer_ended state cells status plan valid runs.planned machines wires (λ node. Some []) (λ node. Some []) reached runs.counted (reached.sound (λ number. runs.marked number ∙ unfailed number)) stopped node cell at_node writes)
       ∙ waiting_text

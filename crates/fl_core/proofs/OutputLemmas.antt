@@ -13,7 +13,7 @@ use Rattle.fl_graph.specs.declared.kinds.NodeKind.TheVariants as kind
 use Rattle.fl_graph.specs.declared.kinds.To.TheVariants as to
 use Rattle.fl_classes.specs.Flow.{Write, flow, only, outcome, to_output, writes_of}
 use Rattle.fl_core.specs.EndLists.{KeepsOthers, Output, own_end, taken_at, taken_by}
-use Rattle.fl_classes.specs.Kinds.{is_sink}
+use Rattle.fl_classes.specs.Kinds.{is_writer}
 use Rattle.fl_core.specs.declared.end_lists.Ends.{Ends}
 use Rattle.fl_core.proofs.LawLemmas.{writes_of_the_flow}
 use Rattle.fl_core.proofs.RoleLemmas.{counted, is_counted, mark, marked}
@@ -50,9 +50,9 @@ heard_kind : (it : NodeKind) (ins : List (List ℕ)) → is_output it ≡ true �
 heard_kind (kind.Sink to.Output) ins is = append-nil (only ins)
 heard_kind other ins is = absurd (true≢false (sym is))
 
-out_sink : (it : NodeKind) → is_output it ≡ true → is_sink it ≡ true
-out_sink (kind.Sink to.Output) is = refl
-out_sink other is = absurd (true≢false (sym is))
+out_writes : (it : NodeKind) → is_output it ≡ true → is_writer it ≡ true
+out_writes (kind.Sink to.Output) is = refl
+out_writes other is = absurd (true≢false (sym is))
 
 -- none writes to it where none is counted
 unheard : (cells : List (Cell NodeKind)) → count_by (λ (cell : Cell NodeKind). is_output cell.kind) cells ≤ 0
@@ -110,11 +110,11 @@ module _ {R W I O : Type 0} where
   out_end (kind.Sink to.Output) node ends is = refl
   out_end other node ends is = absurd (true≢false (sym is))
 
-  -- the output grows by what the graph leaves there, as each sink's end does by its text
+  -- the output grows by what the graph leaves there, as the end of each node that writes does by its text
   module _ (grows : Option (List ℕ) → Option (List ℕ) → List ℕ → Type 0) (nothing : (told : Option (List ℕ)) → grows told told []) where
     pub output_grows : (graph : Graph) → Valid graph.nodes graph.status → (ends ends' : Ends R W I O) → KeepsOthers graph.nodes ends ends'
         → (of_writer : W → Option (List ℕ)) (of_output : O → Option (List ℕ)) (sources : List (List ℕ))
-        → ((node : ℕ) (cell : Cell NodeKind) → slice_get graph.nodes node ≡ Some cell → is_sink cell.kind ≡ true
+        → ((node : ℕ) (cell : Cell NodeKind) → slice_get graph.nodes node ≡ Some cell → is_writer cell.kind ≡ true
         → grows (taken_at of_writer of_output graph.nodes ends node) (taken_at of_writer of_output graph.nodes ends' node)
         (only (map (flow graph.nodes sources) cell.ins)))
         → grows (of_output ends.out) (of_output ends'.out) (outcome graph sources).output
@@ -138,7 +138,7 @@ module _ {R W I O : Type 0} where
             (sym (output_is ∙ heard_once (flow graph.nodes sources) graph.nodes valid.ends.output node cell at is))
             (subst (λ (told : Option (List ℕ)). grows told (of_output ends'.out) (only (map (flow graph.nodes sources) cell.ins))) (at_out ends node cell at is)
             (subst (λ (told : Option (List ℕ)). grows (taken_at of_writer of_output graph.nodes ends node) told (only (map (flow graph.nodes sources) cell.ins))) (at_out ends' node cell at is)
-            (grown node cell at (out_sink cell.kind is))))
+            (grown node cell at (out_writes cell.kind is))))
         by_node (inr none) =
             subst (grows (of_output ends.out) (of_output ends'.out)) (sym (output_is ∙ silent (flow graph.nodes sources) graph.nodes none))
             (subst (λ (told : Option (List ℕ)). grows (of_output ends.out) told []) (ap of_output (sym (keeps.out none))) (nothing (of_output ends.out)))

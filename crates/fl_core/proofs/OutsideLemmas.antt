@@ -11,8 +11,7 @@ use Rattle.fl_core.specs.Laws.{at_ports, Keeps}
 use Rattle.fl_core.specs.Steps.{waiting_on, SameBut}
 use Rattle.fl_core.specs.Runs.{Plan, IsWired, Reached, Halted}
 use Rattle.fl_core.proofs.PieceLemmas.{text_of-append}
-use Rattle.fl_core.proofs.PortLemmas.{at_ports-elsewhere}
-use Rattle.fl_core.proofs.ReachLemmas.{only_has}
+use Rattle.fl_core.proofs.PortLemmas.{at_ports-elsewhere, stands-has}
 
 -- below the length something stands
 pub some_at : {X : Type 0} (items : List X) (place : ℕ) → place < length items → (item : X) × (slice_get items place ≡ Some item)
@@ -21,14 +20,14 @@ some_at (first ∷ items) zero within = (first, refl)
 some_at (first ∷ items) (suc place) within = some_at items place (omega (arith, within))
 
 module _ {Machine : Type 0} (state : Machine → State) (plan : Plan) (wired : IsWired plan) where
-  -- the outs of two nodes differ
-  out_differs : (node other edge out : ℕ) → plan.outs node ≡ edge ∷ [] → plan.outs other ≡ out ∷ [] → (other == node) ≡ false → (out == edge) ≡ false
+  -- the first outs of two nodes differ
+  out_differs : (node other edge out : ℕ) → slice_get (plan.outs node) 0 ≡ Some edge → slice_get (plan.outs other) 0 ≡ Some out → (other == node) ≡ false → (out == edge) ≡ false
   out_differs node other edge out is at apart = by_test (out == edge) refl
     where
       by_test : (test : Bool) → (out == edge) ≡ test → test ≡ false
       by_test true same =
-          let here : has edge (plan.outs other) ≡ true = ap (λ (it : ℕ). has it (plan.outs other)) (sym (eqb-true out edge same)) ∙ only_has out (plan.outs other) at in
-          let node_is : node ≡ other = wired.one_giver node other edge (only_has edge (plan.outs node) is) here in
+          let here : has edge (plan.outs other) ≡ true = ap (λ (it : ℕ). has it (plan.outs other)) (sym (eqb-true out edge same)) ∙ stands-has (plan.outs other) 0 out at in
+          let node_is : node ≡ other = wired.one_giver node other edge (stands-has (plan.outs node) 0 edge is) here in
           absurd (true≢false (sym (eq-eqb other other refl) ∙ ap (λ (it : ℕ). other == it) (sym node_is) ∙ apart))
       by_test false same = refl
 
@@ -38,7 +37,7 @@ module _ {Machine : Type 0} (state : Machine → State) (plan : Plan) (wired : I
     pub others : SameBut edge wires wires'
 
   pub reached_went : (machines : List Machine) (wires wires' : List (List Piece)) (left taken taken' : ℕ → Option (List ℕ)) (node edge : ℕ) (first : Piece)
-      → plan.writes node ≡ true → plan.outs node ≡ edge ∷ [] → Went wires wires' node edge first
+      → plan.writes node ≡ true → slice_get (plan.outs node) 0 ≡ Some edge → Went wires wires' node edge first
       → taken' node ≡ then_bytes (taken node) (text_of (first ∷ [])) → ((other : ℕ) → (other == node) ≡ false → taken' other ≡ taken other)
       → Reached state plan machines wires left taken → Reached state plan machines wires' left taken'
   reached_went machines wires wires' left taken taken' node edge first writes is went grew elsewhere reached = record {
@@ -50,7 +49,7 @@ module _ {Machine : Type 0} (state : Machine → State) (plan : Plan) (wired : I
     sized = reached.sized;
     runs = λ other now at.
         subst (λ (pieces : ℕ → List Piece). Run (plan.starts other) (state now) pieces (at_ports (plan.outs other) reached.put) (plan.failed other))
-        (sym (at_ports-elsewhere (plan.ins other) edge first reached.took (wired.to_outside node other edge writes (only_has edge (plan.outs node) is))))
+        (sym (at_ports-elsewhere (plan.ins other) edge first reached.took (wired.to_outside node other edge writes is)))
         (reached.runs other now at);
     sound = reached.sound;
     read = reached.read;
@@ -66,18 +65,18 @@ module _ {Machine : Type 0} (state : Machine → State) (plan : Plan) (wired : I
           ∙ sym (append_assoc (reached.took other) (first ∷ []) (waiting_on wires' other))
       queue other false same = reached.queued other ∙ ap (λ (pieces : List Piece). reached.took other ++ pieces) (sym (went.others other same))
 
-      told : (other out : ℕ) → plan.writes other ≡ true → plan.outs other ≡ out ∷ [] → (here : Bool) → (other == node) ≡ here
+      told : (other out : ℕ) → plan.writes other ≡ true → slice_get (plan.outs other) 0 ≡ Some out → (here : Bool) → (other == node) ≡ here
           → taken' other ≡ then_bytes (plan.taken other) (text_of (add edge first reached.took out))
       told other out other_writes at true same =
           let at_node : other ≡ node = eqb-true other node same in
-          let out_is : out ≡ edge = first_is (sym at ∙ ap plan.outs at_node ∙ is) in
+          let out_is : out ≡ edge = first_is (sym at ∙ ap (λ (it : ℕ). slice_get (plan.outs it) 0) at_node ∙ is) in
           ap taken' at_node ∙ grew ∙ ap (λ (it : ℕ). then_bytes (taken it) (text_of (first ∷ []))) (sym at_node)
           ∙ ap (λ (told : Option (List ℕ)). then_bytes told (text_of (first ∷ []))) (reached.written other out other_writes at)
           ∙ then_bytes-append (plan.taken other) (text_of (reached.took out)) (text_of (first ∷ []))
           ∙ ap (then_bytes (plan.taken other)) (sym (text_of-append (reached.took out) (first ∷ [])))
           ∙ ap (λ (here : Bool). then_bytes (plan.taken other) (text_of (if here then reached.took out ++ first ∷ [] else reached.took out))) (sym (eq-eqb out edge out_is))
         where
-          first_is : out ∷ [] ≡ edge ∷ [] → out ≡ edge
+          first_is : Some out ≡ Some edge → out ≡ edge
           first_is same = cc
       told other out other_writes at false apart =
           elsewhere other apart ∙ reached.written other out other_writes at
@@ -91,7 +90,7 @@ module _ {Machine : Type 0} (state : Machine → State) (plan : Plan) (wired : I
         record { front = run.texts.front; whole = run.texts.ended }
 
     -- where a node stands as before, its end took a front of what was put
-    grew_still : (node edge : ℕ) → plan.writes node ≡ true → plan.outs node ≡ edge ∷ [] → taken' node ≡ taken node → GrewByPrefix (plan.taken node) (taken' node) (text_of (reached.put edge))
+    grew_still : (node edge : ℕ) → plan.writes node ≡ true → slice_get (plan.outs node) 0 ≡ Some edge → taken' node ≡ taken node → GrewByPrefix (plan.taken node) (taken' node) (text_of (reached.put edge))
     grew_still node edge writes is still =
         subst (λ (text : List ℕ). GrewByPrefix (plan.taken node) (taken' node) text)
         (sym (text_of-append (reached.took edge) (waiting_on wires edge)) ∙ ap text_of (sym (reached.queued edge)))
@@ -114,7 +113,7 @@ module _ {Machine : Type 0} (state : Machine → State) (plan : Plan) (wired : I
     }
 
     -- a halt where a front of the first piece that waits was written
-    pub part_halted : (node edge : ℕ) (first : Piece) (rest : List Piece) → plan.writes node ≡ true → plan.outs node ≡ edge ∷ [] → waiting_on wires edge ≡ first ∷ rest
+    pub part_halted : (node edge : ℕ) (first : Piece) (rest : List Piece) → plan.writes node ≡ true → slice_get (plan.outs node) 0 ≡ Some edge → waiting_on wires edge ≡ first ∷ rest
         → GrewByPrefix (taken node) (taken' node) (text_of (first ∷ [])) → ((other : ℕ) → (other == node) ≡ false → taken' other ≡ taken other)
         → Halted plan (length machines) taken'
     part_halted node edge first rest writes is waits grew elsewhere = record {
@@ -130,11 +129,11 @@ module _ {Machine : Type 0} (state : Machine → State) (plan : Plan) (wired : I
       written = λ other out other_writes at. told other out other_writes at (other == node) refl;
     }
       where
-        told : (other out : ℕ) → plan.writes other ≡ true → plan.outs other ≡ out ∷ [] → (here : Bool) → (other == node) ≡ here
+        told : (other out : ℕ) → plan.writes other ≡ true → slice_get (plan.outs other) 0 ≡ Some out → (here : Bool) → (other == node) ≡ here
             → GrewByPrefix (plan.taken other) (taken' other) (text_of (reached.put out))
         told other out other_writes at true same =
             let at_node : other ≡ node = eqb-true other node same in
-            let out_is : out ≡ edge = first_is (sym at ∙ ap plan.outs at_node ∙ is) in
+            let out_is : out ≡ edge = first_is (sym at ∙ ap (λ (it : ℕ). slice_get (plan.outs it) 0) at_node ∙ is) in
             let whole : text_of (reached.took edge) ++ (text_of (first ∷ []) ++ text_of rest) ≡ text_of (reached.put edge) =
             ap (λ (text : List ℕ). text_of (reached.took edge) ++ text) (sym (text_of-append (first ∷ []) rest) ∙ ap text_of (sym waits))
             ∙ sym (text_of-append (reached.took edge) (waiting_on wires edge)) ∙ ap text_of (sym (reached.queued edge)) in
@@ -145,6 +144,6 @@ module _ {Machine : Type 0} (state : Machine → State) (plan : Plan) (wired : I
             (reached.written node edge writes is)
             (grew_by_front (taken node) (taken' node) (text_of (first ∷ [])) (text_of rest) grew))))
           where
-            first_is : out ∷ [] ≡ edge ∷ [] → out ≡ edge
+            first_is : Some out ≡ Some edge → out ≡ edge
             first_is same = cc
         told other out other_writes at false apart = grew_still other out other_writes at (elsewhere other apart)

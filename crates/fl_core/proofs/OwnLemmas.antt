@@ -16,7 +16,7 @@ use Rattle.fl_graph.specs.declared.kinds.From.TheVariants as from
 use Rattle.fl_graph.specs.declared.kinds.To.TheVariants as to
 use Rattle.fl_graph.proofs.ListLemmas.{holds-has}
 use Rattle.fl_classes.specs.Flow.{Placed, is_source, placed_from}
-use Rattle.fl_classes.specs.Kinds.{is_sink}
+use Rattle.fl_classes.specs.Kinds.{is_writer}
 use Rattle.fl_classes.specs.Sources.{source_texts, text_read}
 use Rattle.fl_core.specs.EndLists.{GrewByFiles, HasItsEnds, NodeEnd, Reader, Writer, end_at, end_in, end_of, file_nodes, file_sources, left_at, left_by, numbers_of, numbers_where, own_end, place_of, reads_file, writes_file}
 use Rattle.fl_core.specs.OwnEnds.{HasOwnEnds, IsTold, each_of, grown, texts_for}
@@ -239,6 +239,7 @@ module _ {R W I O : Type 0} (cells : List (Cell NodeKind)) (ends : Ends R W I O)
   writer-end : (it : NodeKind) (node : ℕ) → writes_file it ≡ true → own_end it node ends ≡ option_map Writer (end_of ends.writers.items node)
   writer-end (kind.Sink (to.File path mode)) node is = refl
   writer-end (kind.Sink to.Output) node is = absurd (true≢false (sym is))
+  writer-end (kind.TeeFile path mode) node is = refl
   writer-end other node is = absurd (true≢false (sym is))
 
   -- what is told of the ends of the nodes that read a file is told of the readers in order, and so of the writers
@@ -265,13 +266,16 @@ module _ {R W I O : Type 0} (cells : List (Cell NodeKind)) (ends : Ends R W I O)
       let there : has node (numbers_where test 0 cells) ≡ true = subst (λ (number : ℕ). has number (numbers_where test 0 cells) ≡ true) here (node-has test 0 cells node cell at is) in
       sym (ap is_some (own-at node cell at)) ∙ holds-has (λ node. is_some (end_at cells ends node)) node (numbers_where test 0 cells) all there
 
-  has-ends : (it : NodeKind) (node : ℕ) (cell : Cell NodeKind) → slice_get cells node ≡ Some cell → cell.kind ≡ it → (is_source it || is_sink it) ≡ true → is_some (own_end it node ends) ≡ true
+  has-ends : (it : NodeKind) (node : ℕ) (cell : Cell NodeKind) → slice_get cells node ≡ Some cell → cell.kind ≡ it → (is_source it || is_writer it) ≡ true → is_some (own_end it node ends) ≡ true
   has-ends (kind.Source from.Input) node cell at same is = refl
   has-ends (kind.Source (from.File path)) node cell at same is =
       sym (ap (λ (it : NodeKind). is_some (own_end it node ends)) same)
       ∙ some-at reads_file (all-told (λ node. is_some (end_at cells ends node)) (file_sources 0 cells) ends.readers.items (of-readers is_some)) node cell at (ap reads_file same)
   has-ends (kind.Sink to.Output) node cell at same is = refl
   has-ends (kind.Sink (to.File path mode)) node cell at same is =
+      sym (ap (λ (it : NodeKind). is_some (own_end it node ends)) same)
+      ∙ some-at writes_file (all-told (λ node. is_some (end_at cells ends node)) (file_nodes 0 cells) ends.writers.items (of-writers is_some)) node cell at (ap writes_file same)
+  has-ends (kind.TeeFile path mode) node cell at same is =
       sym (ap (λ (it : NodeKind). is_some (own_end it node ends)) same)
       ∙ some-at writes_file (all-told (λ node. is_some (end_at cells ends node)) (file_nodes 0 cells) ends.writers.items (of-writers is_some)) node cell at (ap writes_file same)
   has-ends other node cell at same is = absurd (true≢false (sym is))

@@ -183,6 +183,26 @@ module _ {R W I O : Type 0} (of_reader : R → Option (List ℕ)) (of_input : I 
           subst (λ (count : ℕ). Rose count (faults_of (own_end it failed back))) (faults-at ends failed cell it at same)
           (subst (Rose (faults ends failed)) (faults-at back failed cell it at same) rose)
 
+      -- or among the writers, where the node writes a file
+      writer-cause : (cell : Cell NodeKind) → slice_get graph.nodes failed ≡ Some cell → writes_file cell.kind ≡ true → is_input cell.kind ≡ false → is_output cell.kind ≡ false
+          → reads_file cell.kind ≡ false → HasCause came.Writer (counts ends) (counts back)
+      writer-cause cell at writes no_input no_output reads_none = (
+        subst (λ (old : List ℕ). RoseAmong old (each_of writer_faults back.writers.items)) (of-writers graph.nodes ends own faults_of)
+            (subst (RoseAmong (map (faults ends) (file_nodes 0 graph.nodes))) (of-writers graph.nodes back own-back faults_of)
+            (rose-among (faults ends) (faults back) (file_nodes 0 graph.nodes) failed there rose)),
+        λ i. record {
+          input = input-calm (other-kinds cell at is_input no_input) i;
+          output = output-calm (other-kinds cell at is_output no_output) i;
+          readers = readers-calm (other-kinds cell at reads_file reads_none) i;
+          writers = each_of writer_faults back.writers.items;
+        },
+      )
+        where
+          there : has failed (numbers_where writes_file 0 graph.nodes) ≡ true
+          there =
+              let here : 0 + failed ≡ failed = omega arith in
+              subst (λ (number : ℕ). has number (numbers_where writes_file 0 graph.nodes) ≡ true) here (node-has writes_file 0 graph.nodes failed cell at writes)
+
       by-kind : (cell : Cell NodeKind) (it : NodeKind) → slice_get graph.nodes failed ≡ Some cell → cell.kind ≡ it → HasCause (came_by it) (counts ends) (counts back)
       by-kind cell (kind.Source from.Input) at same = (
         rose-at cell (kind.Source from.Input) at same,
@@ -216,20 +236,10 @@ module _ {R W I O : Type 0} (of_reader : R → Option (List ℕ)) (of_input : I 
         where
           there : (test : NodeKind → Bool) → test cell.kind ≡ true → has failed (numbers_where test 0 graph.nodes) ≡ true
           there test is = let here : 0 + failed ≡ failed = omega arith in subst (λ (number : ℕ). has number (numbers_where test 0 graph.nodes) ≡ true) here (node-has test 0 graph.nodes failed cell at is)
-      by-kind cell (kind.Sink (to.File path mode)) at same = (
-        subst (λ (old : List ℕ). RoseAmong old (each_of writer_faults back.writers.items)) (of-writers graph.nodes ends own faults_of)
-            (subst (RoseAmong (map (faults ends) (file_nodes 0 graph.nodes))) (of-writers graph.nodes back own-back faults_of)
-            (rose-among (faults ends) (faults back) (file_nodes 0 graph.nodes) failed (there writes_file (ap writes_file same)) rose)),
-        λ i. record {
-          input = input-calm (other-kinds cell at is_input (ap is_input same)) i;
-          output = output-calm (other-kinds cell at is_output (ap is_output same)) i;
-          readers = readers-calm (other-kinds cell at reads_file (ap reads_file same)) i;
-          writers = each_of writer_faults back.writers.items;
-        },
-      )
-        where
-          there : (test : NodeKind → Bool) → test cell.kind ≡ true → has failed (numbers_where test 0 graph.nodes) ≡ true
-          there test is = let here : 0 + failed ≡ failed = omega arith in subst (λ (number : ℕ). has number (numbers_where test 0 graph.nodes) ≡ true) here (node-has test 0 graph.nodes failed cell at is)
+      by-kind cell (kind.Sink (to.File path mode)) at same =
+          writer-cause cell at (ap writes_file same) (ap is_input same) (ap is_output same) (ap reads_file same)
+      by-kind cell (kind.TeeFile path mode) at same =
+          writer-cause cell at (ap writes_file same) (ap is_input same) (ap is_output same) (ap reads_file same)
       by-kind cell other at same = absurd (no-rise (rose-at cell other at same))
 
       failed-cause : HasCause (came_at graph.nodes failed) (counts ends) (counts back)

@@ -19,7 +19,7 @@ use Rattle.fl_graph.proofs.EdgeLemmas.{leads_on-each}
 use Rattle.fl_graph.proofs.ListLemmas.{holds-has}
 use Rattle.fl_classes.specs.Flow.{is_source}
 use Rattle.fl_core.specs.Inputs.{RunsOver}
-use Rattle.fl_classes.specs.Kinds.{is_sink}
+use Rattle.fl_classes.specs.Kinds.{is_writer}
 use Rattle.fl_core.specs.Laws.{is_clean, at_ports}
 use Rattle.fl_core.specs.Plans.{outer_edge, HasRooms, IsPlanOf, is_sole}
 use Rattle.fl_core.specs.Runs.{Plan, IsWired, Follows, Reached}
@@ -28,7 +28,7 @@ use Rattle.fl_core.specs.Stuck.{is_stuck, IsStill, IsStuck}
 use Rattle.fl_core.specs.declared.nets.Ports.{Ports}
 use Rattle.fl_core.specs.declared.steps.Progress.TheVariants as progress
 use Rattle.fl_core.proofs.OutsideLemmas.{some_at}
-use Rattle.fl_core.proofs.PlanLemmas.{IsEndAt, own_ins, own_outs, sink_has, source_at, source_edge, source_has}
+use Rattle.fl_core.proofs.PlanLemmas.{IsEndAt, own_ins, own_outs, source_at, source_edge, source_has, writer_edges}
 use Rattle.fl_core.proofs.PortLemmas.{stands-has, port_of, at_ports-stands}
 
 -- an earlier node that gives an edge
@@ -239,23 +239,44 @@ module _ {Machine : Type 0} (state : Machine → State) (cells : List (Cell Node
       by_test true is = absurd (true≢false (sym there ∙ ap (has edge) (source_has cells status plan valid planned node cell at_node is).0))
       by_test false is = refl
 
-  -- and one that gives one is no sink
-  no_sink : (node : ℕ) (cell : Cell NodeKind) (edge : ℕ) → slice_get cells node ≡ Some cell → has edge cell.outs ≡ true → is_sink cell.kind ≡ false
-  no_sink node cell edge at_node there = by_test (is_sink cell.kind) refl
-    where
-      by_test : (test : Bool) → is_sink cell.kind ≡ test → test ≡ false
-      by_test true is = absurd (true≢false (sym there ∙ ap (has edge) (sink_has cells status plan valid planned node cell at_node is).0))
-      by_test false is = refl
-
   giver : (node : ℕ) (cell : Cell NodeKind) (edge : ℕ) → slice_get cells node ≡ Some cell → has edge cell.ins ≡ true → GivesBefore cells edge node
   giver node cell edge at_node there =
       let found = giver_before [] cells (sym (leads_on-each cells) ∙ valid.edges.later) node cell edge at_node there in
       let low = found.before in
       record { node = found.node; cell = found.cell; at_node = found.at_node; among_outs = found.among_outs; before = omega (arith, low) }
 
+  -- an edge that a node gives is an open out of its machine at the beginning
+  gives_at : (node : ℕ) (cell : Cell NodeKind) (edge : ℕ) → slice_get cells node ≡ Some cell → has edge cell.outs ≡ true
+      → (port : ℕ) × ((slice_get (plan.outs node) port ≡ Some edge) × ((plan.starts node).puts port ≡ true))
+  gives_at node cell edge at_node there = by_test (is_writer cell.kind) refl
+    where
+      own : (port : ℕ) × (slice_get cell.outs port ≡ Some edge)
+      own = port_of cell.outs edge there
+
+      begins : (port : ℕ) → (plan.starts node).puts port ≡ nat_lt port (if is_writer cell.kind then suc (length cell.outs) else length cell.outs)
+      begins port = (planned.begins node cell at_node).puts_all port
+
+      by_test : (test : Bool) → is_writer cell.kind ≡ test → (port : ℕ) × ((slice_get (plan.outs node) port ≡ Some edge) × ((plan.starts node).puts port ≡ true))
+      by_test true is =
+          let within = slice_get_within cell.outs own.0 edge own.1 in (
+            suc own.0,
+            (
+              ap (λ (edges : List ℕ). slice_get edges (suc own.0)) (writer_edges cells status plan valid planned node cell at_node is) ∙ own.1,
+              begins (suc own.0) ∙ ap (λ (test : Bool). nat_lt (suc own.0) (if test then suc (length cell.outs) else length cell.outs)) is
+                  ∙ lt-ltb (suc own.0) (suc (length cell.outs)) (omega (arith, within)),
+            ),
+          )
+      by_test false is = (
+        own.0,
+        (
+          ap (λ (edges : List ℕ). slice_get edges own.0) (own_outs cells status plan valid planned node cell at_node is) ∙ own.1,
+          begins own.0 ∙ ap (λ (test : Bool). nat_lt own.0 (if test then suc (length cell.outs) else length cell.outs)) is
+              ∙ lt-ltb own.0 (length cell.outs) (slice_get_within cell.outs own.0 edge own.1),
+        ),
+      )
+
   gives_in_plan : (node : ℕ) (cell : Cell NodeKind) (edge : ℕ) → slice_get cells node ≡ Some cell → has edge cell.outs ≡ true → has edge (plan.outs node) ≡ true
-  gives_in_plan node cell edge at_node there =
-      ap (has edge) (own_outs cells status plan valid planned node cell at_node (no_sink node cell edge at_node there)) ∙ there
+  gives_in_plan node cell edge at_node there = let out = gives_at node cell edge at_node there in stands-has (plan.outs node) out.0 edge out.1.0
 
   -- a full edge is the one in of a node, and something waits on it
   full_edge : (edge : ℕ) → is_full (room_on rooms edge) (waiting_on wires edge) ≡ true → TakesAlone cells edge × (is_empty (waiting_on wires edge) ≡ false)
@@ -338,26 +359,14 @@ module _ {Machine : Type 0} (state : Machine → State) (cells : List (Cell Node
           next : Stands found.node found.cell
           next = stand found.node found.cell found.at_node
 
-          there : (port : ℕ) × (slice_get (plan.outs found.node) port ≡ Some edge)
-          there = port_of (plan.outs found.node) edge (gives_in_plan found.node found.cell edge found.at_node found.among_outs)
-
-          own : (port : ℕ) × (slice_get found.cell.outs port ≡ Some edge)
-          own = port_of found.cell.outs edge found.among_outs
-
-          outs : plan.outs found.node ≡ found.cell.outs
-          outs = own_outs cells status plan valid planned found.node found.cell found.at_node (no_sink found.node found.cell edge found.at_node found.among_outs)
-
-          starts : (plan.starts found.node).puts own.0 ≡ true
-          starts =
-              (planned.begins found.node found.cell found.at_node).puts_all own.0
-              ∙ ap (λ (test : Bool). nat_lt own.0 (if test then 1 else length found.cell.outs)) (no_sink found.node found.cell edge found.at_node found.among_outs)
-              ∙ lt-ltb own.0 (length found.cell.outs) (slice_get_within found.cell.outs own.0 edge own.1)
+          own : (port : ℕ) × ((slice_get (plan.outs found.node) port ≡ Some edge) × ((plan.starts found.node).puts port ≡ true))
+          own = gives_at found.node found.cell edge found.at_node found.among_outs
 
           by_act : (next_act : Act) → (state next.machine).act ≡ next_act → ⊥
           by_act (doing.Take port') is' = let lower = found.before in go_on found.node found.cell next port' (omega (arith, lower, low)) is'
           by_act (doing.Put port') is' = never_waits (length cells) found.node found.cell next port' (omega arith) is'
           by_act doing.Stop is' =
-              let closed = put_all next own.0 edge (ap (λ (edges : List ℕ). slice_get edges own.0) outs ∙ own.1) starts ((may_do next doing.Stop is').1 own.0) in
+              let closed = put_all next own.0 edge own.1.0 own.1.1 ((may_do next doing.Stop is').1 own.0) in
               let all : reached.put edge ≡ reached.took edge =
               reached.queued edge ∙ ap (λ (rest : List Piece). reached.took edge ++ rest) none ∙ append-nil (reached.took edge) in
               true≢false (sym closed ∙ ap are_closed all ∙ unclosed)

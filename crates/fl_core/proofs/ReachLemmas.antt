@@ -172,7 +172,7 @@ module _ {Machine : Type 0} (state : Machine → State) (plan : Plan) (wired : I
               ∙ took.moved.sound (unrefused refused refl) first_whole ∙ before.whole node machine replaced.was
           still other now is false elsewhere = before.whole other now (sym (replaced.others other elsewhere) ∙ is)
 
-      untouched : (other out : ℕ) → plan.writes other ≡ true → plan.outs other ≡ out ∷ [] → add edge first reached.took out ≡ reached.took out
+      untouched : (other out : ℕ) → plan.writes other ≡ true → slice_get (plan.outs other) 0 ≡ Some out → add edge first reached.took out ≡ reached.took out
       untouched other out writes is =
           ap (λ (here : Bool). if here then reached.took out ++ first ∷ [] else reached.took out)
           (sees (out == edge) refl)
@@ -180,7 +180,7 @@ module _ {Machine : Type 0} (state : Machine → State) (plan : Plan) (wired : I
           sees : (here : Bool) → (out == edge) ≡ here → here ≡ false
           sees true same =
               absurd (true≢false (sym there ∙ ap (λ (it : ℕ). has it (plan.ins node)) (sym (eqb-true out edge same))
-              ∙ wired.to_outside other node out writes (only_has out (plan.outs other) is)))
+              ∙ wired.to_outside other node out writes is))
           sees false same = refl
 
   -- by one move

@@ -16,7 +16,7 @@ use Rattle.fl_graph.specs.declared.kinds.NodeKind.TheVariants as kind
 use Rattle.fl_graph.specs.declared.kinds.From.TheVariants as from
 use Rattle.fl_graph.specs.declared.kinds.To.TheVariants as to
 use Rattle.fl_classes.specs.Flow.{is_source}
-use Rattle.fl_classes.specs.Kinds.{is_sink}
+use Rattle.fl_classes.specs.Kinds.{is_writer}
 use Rattle.fl_core.specs.EndLists.{place_of, numbers_of, end_in, end_of, reads_file, writes_file, NodeEnd, Reader, Writer, Input, Output, own_end, end_at, KeepsOthers}
 use Rattle.fl_core.specs.Roles.{role_of, role_at, AreApart, is_same, is_used, end_by, HasRoles, is_read, is_written, Kept, kept}
 use Rattle.fl_core.specs.Starts.{NodesHave}
@@ -165,6 +165,11 @@ tells readers writers it node role.Output = is_output it ≡ true
 tells readers writers it node (role.Reader place) = (reads_file it ≡ true) × (place_of readers node ≡ Some place)
 tells readers writers it node (role.Writer place) = (writes_file it ≡ true) × (place_of writers node ≡ Some place)
 
+writer-tells : (readers writers : List ℕ) (it : NodeKind) (node : ℕ) → writes_file it ≡ true → (found : Option ℕ) → place_of writers node ≡ found
+    → tells readers writers it node (option_map_or role.Writer found role.Nothing)
+writer-tells readers writers it node writes None is = tt
+writer-tells readers writers it node writes (Some place) is = (writes, is)
+
 role_tells : (readers writers : List ℕ) (it : NodeKind) (node : ℕ) → tells readers writers it node (role_of it node readers writers)
 role_tells readers writers (kind.Source from.Input) node = refl
 role_tells readers writers (kind.Source (from.File path)) node = by_place (place_of readers node) refl
@@ -173,15 +178,16 @@ role_tells readers writers (kind.Source (from.File path)) node = by_place (place
     by_place None is = tt
     by_place (Some place) is = (refl, is)
 role_tells readers writers (kind.Sink to.Output) node = refl
-role_tells readers writers (kind.Sink (to.File path mode)) node = by_place (place_of writers node) refl
-  where
-    by_place : (found : Option ℕ) → place_of writers node ≡ found → tells readers writers (kind.Sink (to.File path mode)) node (option_map_or role.Writer found role.Nothing)
-    by_place None is = tt
-    by_place (Some place) is = (refl, is)
+role_tells readers writers (kind.Sink (to.File path mode)) node = writer-tells readers writers (kind.Sink (to.File path mode)) node refl (place_of writers node) refl
+role_tells readers writers (kind.TeeFile path mode) node = writer-tells readers writers (kind.TeeFile path mode) node refl (place_of writers node) refl
 role_tells readers writers other node = tt
 
 -- the end of a node's role is its own
 module _ {R W I O : Type 0} where
+  writer-role : (ends : Ends R W I O) (found : Option ℕ) → end_by (option_map_or role.Writer found role.Nothing) ends ≡ option_map Writer (option_and_then (end_in ends.writers.items) found)
+  writer-role ends None = refl
+  writer-role ends (Some place) = refl
+
   own_role : (it : NodeKind) (node : ℕ) (ends : Ends R W I O) → end_by (role_of it node (numbers_of ends.readers.items) (numbers_of ends.writers.items)) ends ≡ own_end it node ends
   own_role (kind.Source from.Input) node ends = refl
   own_role (kind.Source (from.File path)) node ends = by_place (place_of (numbers_of ends.readers.items) node)
@@ -190,11 +196,8 @@ module _ {R W I O : Type 0} where
       by_place None = refl
       by_place (Some place) = refl
   own_role (kind.Sink to.Output) node ends = refl
-  own_role (kind.Sink (to.File path mode)) node ends = by_place (place_of (numbers_of ends.writers.items) node)
-    where
-      by_place : (found : Option ℕ) → end_by (option_map_or role.Writer found role.Nothing) ends ≡ option_map Writer (option_and_then (end_in ends.writers.items) found)
-      by_place None = refl
-      by_place (Some place) = refl
+  own_role (kind.Sink (to.File path mode)) node ends = writer-role ends (place_of (numbers_of ends.writers.items) node)
+  own_role (kind.TeeFile path mode) node ends = writer-role ends (place_of (numbers_of ends.writers.items) node)
   own_role other node ends = refl
 
 pub has_roles : {R W I O : Type 0} (nodes : List (Cell NodeKind)) (ends : Ends R W I O) (roles : List Role) → length roles ≡ length nodes
@@ -349,16 +352,17 @@ module _ {R W I O : Type 0} where
   written_some found None is some = absurd (true≢false (sym some ∙ ap is_some is))
   written_some found (Some writer) is some = ap is_written is
 
-  -- a node's end is read where the node is a source, and written where it is a sink
+  -- a node's end is read where the node is a source, and written where it writes
   pub own_read : (it : NodeKind) (node : ℕ) (ends : Ends R W I O) → is_source it ≡ true → is_some (own_end it node ends) ≡ true → is_read (own_end it node ends) ≡ true
   own_read (kind.Source from.Input) node ends source some = refl
   own_read (kind.Source (from.File path)) node ends source some = read_some (own_end (kind.Source (from.File path)) node ends) (end_of ends.readers.items node) refl some
   own_read other node ends source some = absurd (true≢false (sym source))
 
-  pub own_written : (it : NodeKind) (node : ℕ) (ends : Ends R W I O) → is_sink it ≡ true → is_some (own_end it node ends) ≡ true → is_written (own_end it node ends) ≡ true
-  own_written (kind.Sink to.Output) node ends sink some = refl
-  own_written (kind.Sink (to.File path mode)) node ends sink some = written_some (own_end (kind.Sink (to.File path mode)) node ends) (end_of ends.writers.items node) refl some
-  own_written other node ends sink some = absurd (true≢false (sym sink))
+  pub own_written : (it : NodeKind) (node : ℕ) (ends : Ends R W I O) → is_writer it ≡ true → is_some (own_end it node ends) ≡ true → is_written (own_end it node ends) ≡ true
+  own_written (kind.Sink to.Output) node ends writes some = refl
+  own_written (kind.Sink (to.File path mode)) node ends writes some = written_some (own_end (kind.Sink (to.File path mode)) node ends) (end_of ends.writers.items node) refl some
+  own_written (kind.TeeFile path mode) node ends writes some = written_some (own_end (kind.TeeFile path mode) node ends) (end_of ends.writers.items node) refl some
+  own_written other node ends writes some = absurd (true≢false (sym writes))
 
 -- a call of one node's end: the ends of other roles are as they were
 module _ {R W I O : Type 0} (roles : List Role) (apart : AreApart roles) (old new : Ends R W I O) (node : ℕ) (some : role_at roles node ≡ role.Nothing → ⊥)

@@ -19,7 +19,7 @@ use Rattle.fl_graph.proofs.ListLemmas.{count-has, count-none}
 use Rattle.fl_graph.proofs.StateLemmas.{Run-start}
 use Rattle.fl_classes.specs.Flow.{is_source}
 use Rattle.fl_classes.specs.Nodes.{Begins}
-use Rattle.fl_classes.specs.Kinds.{is_sink, run_kind, run_ins, run_outs}
+use Rattle.fl_classes.specs.Kinds.{is_writer, run_kind, run_ins, run_outs}
 use Rattle.fl_core.specs.Laws.{at_ports}
 use Rattle.fl_core.specs.Runs.{Plan, IsWired, Follows, Reached}
 use Rattle.fl_core.specs.Plans.{outer_edge, edges_in, edges_out, IsPlanOf, IsNetOf}
@@ -35,14 +35,10 @@ at_ports-nothing [] port = refl
 at_ports-nothing (edge ∷ edges) zero = refl
 at_ports-nothing (edge ∷ edges) (suc port) = at_ports-nothing edges port
 
--- an end's one edge
-sole_below : (edge bound port : ℕ) → edge < bound → port < 1 → get_or (edge ∷ []) port 0 < bound
-sole_below edge bound zero low within = low
-sole_below edge bound (suc port) low within = absurd (omega (arith, within))
-
-sole_length : (test : Bool) (outer : ℕ) (edges : List ℕ) → length (if test then outer ∷ [] else edges) ≡ (if test then 1 else length edges)
-sole_length true outer edges = refl
-sole_length false outer edges = refl
+-- an end's edge to the outside, and those behind it
+outer_length : (test : Bool) (outer : ℕ) (behind edges : List ℕ) → length (if test then outer ∷ behind else edges) ≡ (if test then suc (length behind) else length edges)
+outer_length true outer behind edges = refl
+outer_length false outer behind edges = refl
 
 -- a machine of a node that isn't there
 abbrev pub no_state : State
@@ -65,7 +61,7 @@ module _ {Machine : Type 0} (state : Machine → State) (cells : List (Cell Node
     outs = λ node. option_map_or (edges_out cells node) (slice_get cells node) [];
     starts = λ node. option_map_or state (slice_get machines node) no_state;
     reads = λ node. option_map_or (λ cell. is_source cell.kind) (slice_get cells node) false;
-    writes = λ node. option_map_or (λ cell. is_sink cell.kind) (slice_get cells node) false;
+    writes = λ node. option_map_or (λ cell. is_writer cell.kind) (slice_get cells node) false;
     left = left;
     taken = taken;
     failed = λ node. false;
@@ -98,11 +94,11 @@ module _ {Machine : Type 0} (state : Machine → State) (cells : List (Cell Node
     ins = λ node cell at_node. ap (λ (found : Option (Cell NodeKind)). option_map_or (edges_in cells node) found []) at_node;
     outs = λ node cell at_node. ap (λ (found : Option (Cell NodeKind)). option_map_or (edges_out cells node) found []) at_node;
     reads = λ node cell at_node. ap (λ (found : Option (Cell NodeKind)). option_map_or (λ (it : Cell NodeKind). is_source it.kind) found false) at_node;
-    writes = λ node cell at_node. ap (λ (found : Option (Cell NodeKind)). option_map_or (λ (it : Cell NodeKind). is_sink it.kind) found false) at_node;
+    writes = λ node cell at_node. ap (λ (found : Option (Cell NodeKind)). option_map_or (λ (it : Cell NodeKind). is_writer it.kind) found false) at_node;
     no_ins = λ node none. ap (λ (found : Option (Cell NodeKind)). option_map_or (edges_in cells node) found []) none;
     no_outs = λ node none. ap (λ (found : Option (Cell NodeKind)). option_map_or (edges_out cells node) found []) none;
     no_reads = λ node none. ap (λ (found : Option (Cell NodeKind)). option_map_or (λ (it : Cell NodeKind). is_source it.kind) found false) none;
-    no_writes = λ node none. ap (λ (found : Option (Cell NodeKind)). option_map_or (λ (it : Cell NodeKind). is_sink it.kind) found false) none;
+    no_writes = λ node none. ap (λ (found : Option (Cell NodeKind)). option_map_or (λ (it : Cell NodeKind). is_writer it.kind) found false) none;
     begins = λ node cell at_node.
         let its = node_machine node cell at_node in
         subst (λ (start : State). Begins (run_kind cell.kind) (run_ins cell.kind (length cell.ins)) (run_outs cell.kind (length cell.outs)) start)
@@ -117,27 +113,37 @@ module _ {Machine : Type 0} (state : Machine → State) (cells : List (Cell Node
   given_below edge some =
       valid.edges.below edge (true_from_ne_false (has edge (gives cells)) (λ none. let absent = count-none edge (gives cells) none in omega (arith, absent, some)))
 
-  module _ (part : Cell NodeKind → List ℕ) (ends : NodeKind → Bool) (below : (edge : ℕ) → 1 ≤ count edge (flat_map part cells) → edge < length (gives cells)) (node : ℕ) where
+  module _ (part behind : Cell NodeKind → List ℕ) (ends : NodeKind → Bool) (below : (edge : ℕ) → 1 ≤ count edge (flat_map part cells) → edge < length (gives cells))
+      (among : (cell : Cell NodeKind) (edge : ℕ) → has edge (behind cell) ≡ true → has edge (part cell) ≡ true) (node : ℕ) where
     abbrev edges_of : Option (Cell NodeKind) → List ℕ
-    edges_of found = option_map_or (λ (cell : Cell NodeKind). if ends cell.kind then outer_edge cells node ∷ [] else part cell) found []
+    edges_of found = option_map_or (λ (cell : Cell NodeKind). if ends cell.kind then outer_edge cells node ∷ behind cell else part cell) found []
 
-    own_below : (port : ℕ) (cell : Cell NodeKind) → slice_get cells node ≡ Some cell → port < length (part cell) → get_or (part cell) port 0 < length (gives cells)
-    own_below port cell at_node within =
-        let edge = get_or (part cell) port 0 in
-        let there = count-has edge (part cell) (stands-has (part cell) port edge (slice_get-get_or (part cell) port 0 within)) in
+    own_below : (edges : List ℕ) (port : ℕ) (cell : Cell NodeKind) → slice_get cells node ≡ Some cell → ((edge : ℕ) → has edge edges ≡ true → has edge (part cell) ≡ true)
+        → port < length edges → get_or edges port 0 < length (gives cells)
+    own_below edges port cell at_node own within =
+        let edge = get_or edges port 0 in
+        let there = count-has edge (part cell) (own edge (stands-has edges port edge (slice_get-get_or edges port 0 within))) in
         let all = part_within part edge cells node cell at_node in
         below edge (omega (arith, there, all))
+
+    outer_below : (port : ℕ) (cell : Cell NodeKind) → slice_get cells node ≡ Some cell → port < length (outer_edge cells node ∷ behind cell)
+        → get_or (outer_edge cells node ∷ behind cell) port 0 < length wires
+    outer_below zero cell at_node within =
+        let there = slice_get_within cells node cell at_node in
+        let all = net.all_wires in
+        let low : outer_edge cells node < length wires = omega (arith, there, all) in low
+    outer_below (suc port) cell at_node within =
+        let low = own_below (behind cell) port cell at_node (among cell) (omega (arith, within)) in
+        let all = net.all_wires in
+        let less : get_or (behind cell) port 0 < length wires = omega (arith, low, all) in less
 
     edges_wired : (port : ℕ) → port < length (edges_of (slice_get cells node)) → get_or (edges_of (slice_get cells node)) port 0 < length wires
     edges_wired port within = by_cell (slice_get cells node) refl within
       where
-        by_kind : (cell : Cell NodeKind) (outer : Bool) → slice_get cells node ≡ Some cell → port < length (if outer then outer_edge cells node ∷ [] else part cell)
-            → get_or (if outer then outer_edge cells node ∷ [] else part cell) port 0 < length wires
-        by_kind cell true at_node first =
-            let there = slice_get_within cells node cell at_node in
-            let all = net.all_wires in
-            sole_below (outer_edge cells node) (length wires) port (omega (arith, there, all)) first
-        by_kind cell false at_node inside = let low = own_below port cell at_node inside in let all = net.all_wires in omega (arith, low, all)
+        by_kind : (cell : Cell NodeKind) (outer : Bool) → slice_get cells node ≡ Some cell → port < length (if outer then outer_edge cells node ∷ behind cell else part cell)
+            → get_or (if outer then outer_edge cells node ∷ behind cell else part cell) port 0 < length wires
+        by_kind cell true at_node inside = outer_below port cell at_node inside
+        by_kind cell false at_node inside = let low = own_below (part cell) port cell at_node (λ edge there. there) inside in let all = net.all_wires in omega (arith, low, all)
 
         by_cell : (found : Option (Cell NodeKind)) → slice_get cells node ≡ found → port < length (edges_of found) → get_or (edges_of found) port 0 < length wires
         by_cell (Some cell) at_node here = by_kind cell (ends cell.kind) at_node here
@@ -146,7 +152,7 @@ module _ {Machine : Type 0} (state : Machine → State) (cells : List (Cell Node
     -- and the open ports of its machine are its own
     ports_own : (opened : State → ℕ → Bool) → ((port : ℕ) → opened no_state port ≡ false)
         → ((cell : Cell NodeKind) (machine : Machine) (port : ℕ) → slice_get cells node ≡ Some cell → slice_get machines node ≡ Some machine
-        → opened (state machine) port ≡ nat_lt port (if ends cell.kind then 1 else length (part cell)))
+        → opened (state machine) port ≡ nat_lt port (if ends cell.kind then suc (length (behind cell)) else length (part cell)))
         → (port : ℕ) → opened (option_map_or state (slice_get machines node) no_state) port ≡ true → port < length (edges_of (slice_get cells node))
     ports_own opened shut begins port is = by_machine (slice_get machines node) refl is
       where
@@ -155,9 +161,9 @@ module _ {Machine : Type 0} (state : Machine → State) (cells : List (Cell Node
         by_machine (Some machine) at_machine open_here =
             let its = machine_node node machine at_machine in
             let cell : Cell NodeKind = its.0 in
-            let within = ltb-true port (if ends cell.kind then 1 else length (part cell)) (sym (begins cell machine port its.1 at_machine) ∙ open_here) in
-            let same : length (edges_of (slice_get cells node)) ≡ (if ends cell.kind then 1 else length (part cell)) =
-            ap (λ (found : Option (Cell NodeKind)). length (edges_of found)) its.1 ∙ sole_length (ends cell.kind) (outer_edge cells node) (part cell) in
+            let within = ltb-true port (if ends cell.kind then suc (length (behind cell)) else length (part cell)) (sym (begins cell machine port its.1 at_machine) ∙ open_here) in
+            let same : length (edges_of (slice_get cells node)) ≡ (if ends cell.kind then suc (length (behind cell)) else length (part cell)) =
+            ap (λ (found : Option (Cell NodeKind)). length (edges_of found)) its.1 ∙ outer_length (ends cell.kind) (outer_edge cells node) (behind cell) (part cell) in
             subst (λ (count : ℕ). port < count) (sym same) within
         by_machine None at_machine open_here = absurd (true≢false (sym open_here ∙ shut port))
 
@@ -179,11 +185,11 @@ module _ {Machine : Type 0} (state : Machine → State) (cells : List (Cell Node
     outs = λ node own at_node. let its = ports_node node own at_node in start_is_planned.outs node its.0 its.1 ∙ sym (net.outs node its.0 own its.1 at_node);
     reads = λ node own at_node. let its = ports_node node own at_node in start_is_planned.reads node its.0 its.1 ∙ sym (net.reads node its.0 own its.1 at_node);
     writes = λ node own at_node. let its = ports_node node own at_node in start_is_planned.writes node its.0 its.1 ∙ sym (net.writes node its.0 own its.1 at_node);
-    wired_ins = λ node. edges_wired (λ (cell : Cell NodeKind). cell.ins) is_source taken_below node;
-    wired_outs = λ node. edges_wired (λ (cell : Cell NodeKind). cell.outs) is_sink given_below node;
-    in_ports = λ node. ports_own (λ (cell : Cell NodeKind). cell.ins) is_source taken_below node (λ (it : State) (port : ℕ). it.takes port) (λ port. refl)
+    wired_ins = λ node. edges_wired (λ (cell : Cell NodeKind). cell.ins) (λ (cell : Cell NodeKind). []) is_source taken_below (λ cell edge there. absurd (true≢false (sym there))) node;
+    wired_outs = λ node. edges_wired (λ (cell : Cell NodeKind). cell.outs) (λ (cell : Cell NodeKind). cell.outs) is_writer given_below (λ cell edge there. there) node;
+    in_ports = λ node. ports_own (λ (cell : Cell NodeKind). cell.ins) (λ (cell : Cell NodeKind). []) is_source taken_below (λ cell edge there. absurd (true≢false (sym there))) node (λ (it : State) (port : ℕ). it.takes port) (λ port. refl)
         (λ cell machine port at_node at_machine. (net.begins node cell machine at_node at_machine).takes_all port);
-    out_ports = λ node. ports_own (λ (cell : Cell NodeKind). cell.outs) is_sink given_below node (λ (it : State) (port : ℕ). it.puts port) (λ port. refl)
+    out_ports = λ node. ports_own (λ (cell : Cell NodeKind). cell.outs) (λ (cell : Cell NodeKind). cell.outs) is_writer given_below (λ cell edge there. there) node (λ (it : State) (port : ℕ). it.puts port) (λ port. refl)
         (λ cell machine port at_node at_machine. (net.begins node cell machine at_node at_machine).puts_all port);
     plain_outs = start_plain;
   }
@@ -222,10 +228,10 @@ module _ {Machine : Type 0} (state : Machine → State) (cells : List (Cell Node
   abbrev pub net_plan : (plan : Plan) × IsPlanOf cells plan × IsWired plan × Follows plan ports (length wires) × Reached state plan machines wires left taken × (plan.left ≡ left) × (plan.taken ≡ taken) × ((node : ℕ) → plan.failed node ≡ false)
   net_plan = (start_plan, start_is_planned, start_is_wired, start_follows, start_is_reached, refl, refl, λ node. refl)
 
-  -- so a run is under way, where each source has an end to read from and each sink one to write to
+  -- so a run is under way, where each source has an end to read from and each node that writes one to write to
   pub net_under_way : (reads writes : ℕ → Bool) (faults : ℕ → ℕ)
       → ((node : ℕ) (cell : Cell NodeKind) → slice_get cells node ≡ Some cell → is_source cell.kind ≡ true → reads node ≡ true)
-      → ((node : ℕ) (cell : Cell NodeKind) → slice_get cells node ≡ Some cell → is_sink cell.kind ≡ true → writes node ≡ true)
+      → ((node : ℕ) (cell : Cell NodeKind) → slice_get cells node ≡ Some cell → is_writer cell.kind ≡ true → writes node ≡ true)
       → IsUnderWay state (record { ports = ports; machines = machines; wires = wires; left = left; taken = taken; reads = reads; writes = writes; faults = faults })
   net_under_way reads writes faults readable writable = record {
     goes = record { plan = start_plan; wired = start_is_wired; follows = start_follows; reached = start_is_reached };

@@ -3,7 +3,7 @@ use Rattle.std.proofs.Common.{◌≡◌, ℕ, ◌==◌, ◌<◌, List, [], ◌�
 use Rattle.std.specs.List.{list_all}
 use Rattle.std.proofs.lemmas.Bool.{and_parts, true≢false}
 use Rattle.std.proofs.lemmas.List.{get_or-set_same, get_or-set_other}
-use Rattle.std.proofs.lemmas.Option.{get_or_from_slice_get, slice_get_read}
+use Rattle.std.proofs.lemmas.Option.{get_or_from_slice_get, slice_get_read, slice_get_within}
 use mathlib.Core.Path.{fun_ext}
 use Rattle.ps_world.specs.Told.{bytes_then, then_bytes, GrewByPrefix, IsEnded}
 use Rattle.fl_graph.specs.Machines.{State, is_broken, is_mark}
@@ -71,10 +71,11 @@ module _ {Machine : Type 0} (state : Machine → State) (ports : List Ports) (ma
 
   module _ (piece : Piece) (rest : List Piece) (writes : own.writes ≡ true) (within : get_or own.outs.items 0 0 < length wires)
       (waits : waiting_on wires (get_or own.outs.items 0 0) ≡ piece ∷ rest) (elsewhere : (other : ℕ) → (other == node) ≡ false → taken' other ≡ taken other) where
-    only_out : (plan : Plan) → IsWired plan → Follows plan ports (length wires) → plan.outs node ≡ get_or own.outs.items 0 0 ∷ []
-    only_out plan wired follows =
-        let one = wired.one_out node (follows.writes node own at_own ∙ writes) in
-        one.1 ∙ ap (λ (edge : ℕ). edge ∷ []) (sym (first_of own.outs.items one.0 (sym (follows.outs node own at_own) ∙ one.1)))
+    outer_out : (plan : Plan) → IsWired plan → Follows plan ports (length wires) → slice_get (plan.outs node) 0 ≡ Some (get_or own.outs.items 0 0)
+    outer_out plan wired follows =
+        let one = wired.first_out node (follows.writes node own at_own ∙ writes) in
+        let there : slice_get own.outs.items 0 ≡ Some one.0 = ap (λ (edges : List ℕ). slice_get edges 0) (sym (follows.outs node own at_own)) ∙ one.1 in
+        one.1 ∙ ap (λ (edge : ℕ). Some edge) (sym (get_or_from_slice_get own.outs.items 0 one.0 0 there))
 
     -- it is no mark, since none waits
     unmarked : (plan : Plan) → Reached state plan machines wires left taken → is_mark piece ≡ false
@@ -89,7 +90,7 @@ module _ {Machine : Type 0} (state : Machine → State) (ports : List Ports) (ma
     write_leads grew same plan wired follows reached =
         subst (λ (told : ℕ → Option (List ℕ)). Reached state plan machines (slice_set wires (get_or own.outs.items 0 0) rest) told taken') (sym (fun_ext same))
         (reached_went state plan wired machines wires (slice_set wires (get_or own.outs.items 0 0) rest) left taken taken' node (get_or own.outs.items 0 0) piece
-        (follows.writes node own at_own ∙ writes) (only_out plan wired follows)
+        (follows.writes node own at_own ∙ writes) (outer_out plan wired follows)
         (record {
           first = waits ∙ ap (λ (pieces : List Piece). piece ∷ pieces) (sym (set_there wires (get_or own.outs.items 0 0) rest within));
           others = set_others wires (get_or own.outs.items 0 0) rest;
@@ -100,7 +101,7 @@ module _ {Machine : Type 0} (state : Machine → State) (ports : List Ports) (ma
     pub write_halts : GrewByPrefix (taken node) (taken' node) (text_of (piece ∷ [])) → Halts state ports machines wires left taken taken'
     write_halts grew plan wired follows reached =
         part_halted state plan wired machines wires left taken taken' reached node (get_or own.outs.items 0 0) piece rest
-        (follows.writes node own at_own ∙ writes) (only_out plan wired follows) waits grew elsewhere
+        (follows.writes node own at_own ∙ writes) (outer_out plan wired follows) waits grew elsewhere
 
 -- the first edge, whatever stands in the place of none
 pub edge_at : (edges : List ℕ) (edge : ℕ) → 0 < length edges → edge ≡ get_or edges 0 edge → edge ≡ get_or edges 0 0
@@ -191,7 +192,7 @@ module _ {Machine : Type 0} (state : Machine → State) (ports : List Ports) (st
 -- a turn of a node, whose step has led to the middle
 module _ {Machine : Type 0} (state : Machine → State) (ports ports' : List Ports) (same_ports : ports' ≡ ports) (start mid : List Machine) (wires wires₁ : List (List Piece))
     (left taken : ℕ → Option (List ℕ)) (node : ℕ) (within : node < length ports) (same : length wires₁ ≡ length wires) where
-  -- a node that reads has one in, and one that writes one out
+  -- a node that reads has one in, and one that writes a first out
   pub turn_in : Goes state ports start wires left taken → (reading : Bool) → ((own : Ports) → slice_get ports' node ≡ Some own → reading ≡ own.reads) → reading ≡ true
       → (own : Ports) → slice_get ports' node ≡ Some own → (0 < length own.ins.items) × (get_or own.ins.items 0 0 < length wires₁)
   turn_in goes reading reads is own at =
@@ -208,10 +209,9 @@ module _ {Machine : Type 0} (state : Machine → State) (ports ports' : List Por
       → (own : Ports) → slice_get ports' node ≡ Some own → (0 < length own.outs.items) × (get_or own.outs.items 0 0 < length wires₁)
   turn_out goes writing writes is own at =
       let at_own : slice_get ports node ≡ Some own = ap (λ (it : List Ports). slice_get it node) (sym same_ports) ∙ at in
-      let one = goes.wired.one_out node (goes.follows.writes node own at_own ∙ sym (writes own at) ∙ is) in
-      let outs : own.outs.items ≡ one.0 ∷ [] = sym (goes.follows.outs node own at_own) ∙ one.1 in
-      let some : 0 < length (goes.plan.outs node) = subst (λ (edges : List ℕ). 0 < length edges) (sym one.1) (omega arith) in (
-        subst (λ (edges : List ℕ). 0 < length edges) (sym outs) (omega arith),
+      let one = goes.wired.first_out node (goes.follows.writes node own at_own ∙ sym (writes own at) ∙ is) in
+      let some : 0 < length (goes.plan.outs node) = slice_get_within (goes.plan.outs node) 0 one.0 one.1 in (
+        subst (λ (edges : List ℕ). 0 < length edges) (goes.follows.outs node own at_own) some,
         subst (λ (count : ℕ). get_or own.outs.items 0 0 < count) (sym same)
             (subst (λ (edges : List ℕ). get_or edges 0 0 < length wires) (goes.follows.outs node own at_own) (goes.follows.wired_outs node 0 some)),
       )

@@ -13,7 +13,7 @@ use Rattle.fl_graph.specs.declared.kinds.NodeKind.TheVariants as kind
 use Rattle.fl_graph.specs.declared.kinds.From.TheVariants as from
 use Rattle.fl_graph.specs.declared.kinds.To.TheVariants as to
 use Rattle.fl_classes.specs.Flow.{is_source}
-use Rattle.fl_classes.specs.Kinds.{is_sink}
+use Rattle.fl_classes.specs.Kinds.{is_writer}
 use Rattle.fl_core.specs.declared.end_lists.Ends.{Ends}
 use Rattle.fl_core.specs.declared.end_lists.Ran.{Ran}
 use Rattle.fl_core.specs.declared.end_lists.Ran.TheVariants as ran
@@ -42,6 +42,7 @@ reads_file other = false
 
 abbrev pub writes_file : NodeKind → Bool
 writes_file (kind.Sink (to.File path mode)) = true
+writes_file (kind.TeeFile path mode) = true
 writes_file other = false
 
 -- the numbers of the nodes of such kinds, counted on from this number
@@ -81,6 +82,7 @@ module _ {R W I O : Type 0} where
   own_end (kind.Source (from.File path)) node ends = option_map Reader (end_of ends.readers.items node)
   own_end (kind.Sink to.Output) node ends = Some (Output ends.out)
   own_end (kind.Sink (to.File path mode)) node ends = option_map Writer (end_of ends.writers.items node)
+  own_end (kind.TeeFile path mode) node ends = option_map Writer (end_of ends.writers.items node)
   own_end other node ends = None
 
   -- the end of each node, by its number
@@ -89,7 +91,7 @@ module _ {R W I O : Type 0} where
 
   -- each node that reads or writes has an end
   abbrev pub HasItsEnds : List (Cell NodeKind) → Ends R W I O → Type 0
-  HasItsEnds cells ends = (node : ℕ) (cell : Cell NodeKind) → slice_get cells node ≡ Some cell → (is_source cell.kind || is_sink cell.kind) ≡ true
+  HasItsEnds cells ends = (node : ℕ) (cell : Cell NodeKind) → slice_get cells node ≡ Some cell → (is_source cell.kind || is_writer cell.kind) ≡ true
       → is_some (own_end cell.kind node ends) ≡ true
 
   -- the bytes still to come at an end, where it tells them

@@ -54,7 +54,7 @@ module _ {Machine : Type 0} (state : Machine → State) (cells : List (Cell Node
     pub loaded : IsLoaded cells inputs wires
 
   -- it has come from there to here by so many moves, while these nodes may have failed: all was read at its beginning, and nothing was taken
-  -- from its sinks
+  -- to the outside
   pub record RunsOver (moves : ℕ) (failed : ℕ → Bool) (ports : List Ports) (machines : List Machine) (wires : List (List Piece)) : Type 0 where
     pub goes : Goes state ports machines wires (λ node. Some []) (λ node. Some [])
     pub planned : IsPlanOf cells goes.plan

@@ -6,7 +6,7 @@ use Rattle.fl_graph.specs.declared.graphs.Cell.{Cell}
 use Rattle.fl_graph.specs.declared.kinds.NodeKind.{NodeKind}
 use Rattle.fl_graph.specs.declared.pieces.Piece.{Piece}
 use Rattle.fl_classes.specs.Flow.{Placed, placed, flow, is_source, only}
-use Rattle.fl_classes.specs.Kinds.{is_sink}
+use Rattle.fl_classes.specs.Kinds.{is_writer}
 use Rattle.fl_core.specs.Runs.{Plan}
 
 -- what the steps of a node have moved, where so much was taken from each edge and put on it: what it took from its ins, and what it put on its outs
@@ -21,10 +21,10 @@ moves_of plan nodes took put = sum_by (moves_at plan took put) (range_with_len 0
 abbrev pub most_pieces : List ℕ → ℕ
 most_pieces text = length text + 1
 
--- the text that a source takes from outside, or that a sink gives there; other nodes have none
+-- the text that a source takes from outside, or that a node which writes gives there; other nodes have none
 abbrev pub outer_texts : (ℕ → List ℕ) → List (List ℕ) → Cell Placed → List (List ℕ)
 outer_texts texts sources cell =
-    if is_source cell.kind.1 then get_or sources cell.kind.0 [] ∷ [] else if is_sink cell.kind.1 then only (map texts cell.ins) ∷ [] else []
+    if is_source cell.kind.1 then get_or sources cell.kind.0 [] ∷ [] else if is_writer cell.kind.1 then only (map texts cell.ins) ∷ [] else []
 
 -- the most pieces that can be moved: on an edge of the graph each is put by one step and taken by another, on an edge from outside it is
 -- taken, and on one to the outside put

@@ -78,6 +78,7 @@ came_by (kind.Source from.Input) = came.Input
 came_by (kind.Source (from.File path)) = came.Reader
 came_by (kind.Sink to.Output) = came.Output
 came_by (kind.Sink (to.File path mode)) = came.Writer
+came_by (kind.TeeFile path mode) = came.Writer
 came_by other = came.Memory
 
 abbrev pub came_at : List (Cell NodeKind) → ℕ → Came

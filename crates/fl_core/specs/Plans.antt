@@ -6,14 +6,14 @@ use Rattle.fl_graph.specs.declared.graphs.Cell.{Cell}
 use Rattle.fl_graph.specs.declared.kinds.NodeKind.{NodeKind}
 use Rattle.fl_classes.specs.Flow.{Placed, placed, is_source}
 use Rattle.fl_classes.specs.Nodes.{Begins}
-use Rattle.fl_classes.specs.Kinds.{is_sink, run_kind, run_ins, run_outs}
+use Rattle.fl_classes.specs.Kinds.{is_writer, run_kind, run_ins, run_outs}
 use Rattle.fl_graph.specs.Machines.{State}
 use Rattle.fl_graph.specs.declared.pieces.Piece.{Piece}
 use Rattle.fl_core.specs.Runs.{Plan}
 use Rattle.fl_core.specs.Steps.{room_on, waiting_on}
 use Rattle.fl_core.specs.declared.nets.Ports.{Ports}
 
--- the edge from outside to a source, or to the outside from a sink: numbered behind the graph's edges
+-- the edge from outside to a source, or to the outside from a node that writes: numbered behind the graph's edges
 abbrev pub outer_edge : List (Cell NodeKind) → ℕ → ℕ
 outer_edge cells node = length (gives cells) + node
 
@@ -21,7 +21,7 @@ abbrev pub edges_in : List (Cell NodeKind) → ℕ → Cell NodeKind → List �
 edges_in cells node cell = if is_source cell.kind then outer_edge cells node ∷ [] else cell.ins
 
 abbrev pub edges_out : List (Cell NodeKind) → ℕ → Cell NodeKind → List ℕ
-edges_out cells node cell = if is_sink cell.kind then outer_edge cells node ∷ [] else cell.outs
+edges_out cells node cell = if is_writer cell.kind then outer_edge cells node ∷ cell.outs else cell.outs
 
 -- the edge is the only one in the list
 abbrev pub is_sole : ℕ → List ℕ → Bool
@@ -42,7 +42,7 @@ pub record IsPlanOf (cells : List (Cell NodeKind)) (plan : Plan) : Type 0 where
   pub ins : (node : ℕ) (cell : Cell NodeKind) → slice_get cells node ≡ Some cell → plan.ins node ≡ edges_in cells node cell
   pub outs : (node : ℕ) (cell : Cell NodeKind) → slice_get cells node ≡ Some cell → plan.outs node ≡ edges_out cells node cell
   pub reads : (node : ℕ) (cell : Cell NodeKind) → slice_get cells node ≡ Some cell → plan.reads node ≡ is_source cell.kind
-  pub writes : (node : ℕ) (cell : Cell NodeKind) → slice_get cells node ≡ Some cell → plan.writes node ≡ is_sink cell.kind
+  pub writes : (node : ℕ) (cell : Cell NodeKind) → slice_get cells node ≡ Some cell → plan.writes node ≡ is_writer cell.kind
   -- no other node has an edge
   pub no_ins : (node : ℕ) → slice_get cells node ≡ None → plan.ins node ≡ []
   pub no_outs : (node : ℕ) → slice_get cells node ≡ None → plan.outs node ≡ []
@@ -66,6 +66,6 @@ pub record IsNetOf {Machine : Type 0} (state : Machine → State) (cells : List 
   pub ins : (node : ℕ) (cell : Cell NodeKind) (own : Ports) → slice_get cells node ≡ Some cell → slice_get ports node ≡ Some own → own.ins.items ≡ edges_in cells node cell
   pub outs : (node : ℕ) (cell : Cell NodeKind) (own : Ports) → slice_get cells node ≡ Some cell → slice_get ports node ≡ Some own → own.outs.items ≡ edges_out cells node cell
   pub reads : (node : ℕ) (cell : Cell NodeKind) (own : Ports) → slice_get cells node ≡ Some cell → slice_get ports node ≡ Some own → own.reads ≡ is_source cell.kind
-  pub writes : (node : ℕ) (cell : Cell NodeKind) (own : Ports) → slice_get cells node ≡ Some cell → slice_get ports node ≡ Some own → own.writes ≡ is_sink cell.kind
+  pub writes : (node : ℕ) (cell : Cell NodeKind) (own : Ports) → slice_get cells node ≡ Some cell → slice_get ports node ≡ Some own → own.writes ≡ is_writer cell.kind
   pub begins : (node : ℕ) (cell : Cell NodeKind) (machine : Machine) → slice_get cells node ≡ Some cell → slice_get machines node ≡ Some machine
       → Begins (run_kind cell.kind) (run_ins cell.kind (length cell.ins)) (run_outs cell.kind (length cell.outs)) (state machine)

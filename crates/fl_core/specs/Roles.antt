@@ -8,7 +8,7 @@ use Rattle.fl_graph.specs.declared.kinds.NodeKind.TheVariants as kind
 use Rattle.fl_graph.specs.declared.kinds.From.TheVariants as from
 use Rattle.fl_graph.specs.declared.kinds.To.TheVariants as to
 use Rattle.fl_classes.specs.Flow.{is_source}
-use Rattle.fl_classes.specs.Kinds.{is_sink}
+use Rattle.fl_classes.specs.Kinds.{is_writer}
 use Rattle.fl_core.specs.EndLists.{place_of, numbers_of, end_in, own_end, NodeEnd, Reader, Writer, Input, Output}
 use Rattle.fl_core.specs.Starts.{NodesHave}
 use Rattle.fl_core.specs.declared.end_lists.Ends.{Ends}
@@ -21,6 +21,7 @@ role_of (kind.Source from.Input) node readers writers = role.Input
 role_of (kind.Source (from.File path)) node readers writers = option_map_or role.Reader (place_of readers node) role.Nothing
 role_of (kind.Sink to.Output) node readers writers = role.Output
 role_of (kind.Sink (to.File path mode)) node readers writers = option_map_or role.Writer (place_of writers node) role.Nothing
+role_of (kind.TeeFile path mode) node readers writers = option_map_or role.Writer (place_of writers node) role.Nothing
 role_of other node readers writers = role.Nothing
 
 abbrev pub role_at : List Role → ℕ → Role
@@ -52,7 +53,7 @@ module _ {R W I O : Type 0} where
 
   -- the node has an end, or neither reads nor writes
   abbrev pub needs_no_more : NodeKind → ℕ → Ends R W I O → Bool
-  needs_no_more it node ends = not (is_source it || is_sink it) || is_some (own_end it node ends)
+  needs_no_more it node ends = not (is_source it || is_writer it) || is_some (own_end it node ends)
 
   -- it is read, and it is written
   abbrev pub is_read : Option (NodeEnd R W I O) → Bool

@@ -23,16 +23,17 @@ pub record Plan : Type 0 where
   pub taken : ℕ → Option (List ℕ)
   pub failed : ℕ → Bool
 
--- each edge is taken by one node and given by one, and those from outside and to the outside by none
+-- each edge is taken by one node and given by one, and those from outside and to the outside by none. A node that writes has the edge to the
+-- outside before all others
 pub record IsWired (plan : Plan) : Type 0 where
   pub in_once : (node edge : ℕ) → has edge (plan.ins node) ≡ true → count edge (plan.ins node) ≡ 1
   pub out_once : (node edge : ℕ) → has edge (plan.outs node) ≡ true → count edge (plan.outs node) ≡ 1
   pub one_taker : (node other edge : ℕ) → has edge (plan.ins node) ≡ true → has edge (plan.ins other) ≡ true → node ≡ other
   pub one_giver : (node other edge : ℕ) → has edge (plan.outs node) ≡ true → has edge (plan.outs other) ≡ true → node ≡ other
   pub from_outside : (node other edge : ℕ) → plan.reads node ≡ true → has edge (plan.ins node) ≡ true → has edge (plan.outs other) ≡ false
-  pub to_outside : (node other edge : ℕ) → plan.writes node ≡ true → has edge (plan.outs node) ≡ true → has edge (plan.ins other) ≡ false
+  pub to_outside : (node other edge : ℕ) → plan.writes node ≡ true → slice_get (plan.outs node) 0 ≡ Some edge → has edge (plan.ins other) ≡ false
   pub one_in : (node : ℕ) → plan.reads node ≡ true → (edge : ℕ) × (plan.ins node ≡ edge ∷ [])
-  pub one_out : (node : ℕ) → plan.writes node ≡ true → (edge : ℕ) × (plan.outs node ≡ edge ∷ [])
+  pub first_out : (node : ℕ) → plan.writes node ≡ true → (edge : ℕ) × (slice_get (plan.outs node) 0 ≡ Some edge)
 
 -- the network's ports are the plan's, and their edges have wires
 pub record Follows (plan : Plan) (ports : List Ports) (wires : ℕ) : Type 0 where
@@ -66,7 +67,7 @@ module _ {Machine : Type 0} (state : Machine → State) where
     pub sound : ((node : ℕ) → plan.failed node ≡ false) → IsUnbroken machines put
     pub read : (node edge : ℕ) → plan.reads node ≡ true → plan.ins node ≡ edge ∷ [] → plan.left node ≡ bytes_then (text_of (put edge)) (left node)
     pub ended : (node edge : ℕ) → plan.reads node ≡ true → plan.ins node ≡ edge ∷ [] → has_end (put edge) ≡ true → IsEnded (left node)
-    pub written : (node edge : ℕ) → plan.writes node ≡ true → plan.outs node ≡ edge ∷ [] → taken node ≡ then_bytes (plan.taken node) (text_of (took edge))
+    pub written : (node edge : ℕ) → plan.writes node ≡ true → slice_get (plan.outs node) 0 ≡ Some edge → taken node ≡ then_bytes (plan.taken node) (text_of (took edge))
 
 -- a run that halted here: each node kept its equation, and the ends took fronts of what was put
 pub record Halted (plan : Plan) (nodes : ℕ) (taken : ℕ → Option (List ℕ)) : Type 0 where
@@ -79,7 +80,7 @@ pub record Halted (plan : Plan) (nodes : ℕ) (taken : ℕ → Option (List ℕ)
   pub left : ℕ → Option (List ℕ)
   pub read : (node edge : ℕ) → plan.reads node ≡ true → plan.ins node ≡ edge ∷ [] → plan.left node ≡ bytes_then (text_of (put edge)) (left node)
   pub ended : (node edge : ℕ) → plan.reads node ≡ true → plan.ins node ≡ edge ∷ [] → has_end (put edge) ≡ true → IsEnded (left node)
-  pub written : (node edge : ℕ) → plan.writes node ≡ true → plan.outs node ≡ edge ∷ [] → GrewByPrefix (plan.taken node) (taken node) (text_of (put edge))
+  pub written : (node edge : ℕ) → plan.writes node ≡ true → slice_get (plan.outs node) 0 ≡ Some edge → GrewByPrefix (plan.taken node) (taken node) (text_of (put edge))
 
 -- whatever plan the network follows, it goes from the one point to the other
 module _ {Machine : Type 0} (state : Machine → State) (ports : List Ports) where

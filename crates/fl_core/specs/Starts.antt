@@ -5,7 +5,7 @@ use Rattle.fl_graph.specs.Machines.{State}
 use Rattle.fl_graph.specs.declared.kinds.NodeKind.{NodeKind}
 use Rattle.fl_classes.specs.Flow.{is_source}
 use Rattle.fl_classes.specs.Nodes.{Begins}
-use Rattle.fl_classes.specs.Kinds.{is_sink, run_kind, run_ins, run_outs}
+use Rattle.fl_classes.specs.Kinds.{is_writer, run_kind, run_ins, run_outs}
 use Rattle.fl_core.specs.Plans.{edges_in, edges_out}
 use Rattle.fl_core.specs.declared.nets.Ports.{Ports}
 
@@ -14,7 +14,7 @@ pub record HasPorts (cells : List (Cell NodeKind)) (node : ℕ) (cell : Cell Nod
   pub ins : own.ins.items ≡ edges_in cells node cell
   pub outs : own.outs.items ≡ edges_out cells node cell
   pub reads : own.reads ≡ is_source cell.kind
-  pub writes : own.writes ≡ is_sink cell.kind
+  pub writes : own.writes ≡ is_writer cell.kind
 
 -- the machine of this node stands at its beginning
 abbrev pub BeginsAs : State → Cell NodeKind → Type 0

@@ -15,14 +15,14 @@ use fl_graph::Graph;
 use ps_world::{Sink, Source};
 use std::alloc::Global;
 
-/// The ends of a graph's nodes: what its sources read, and what its sinks write.
+/// The ends of a graph's nodes: what its sources read, and what those write that write outside.
 ///
-/// A source or a sink of a file has the first end with its node's number.
+/// A node that reads or writes a file has the first end with its number.
 #[derive(Debug, Drop)]
 pub struct Ends<R, W, I, O> {
     /// What the sources of files read, each with the number of its node.
     pub readers: Vec<(u32, R)>,
-    /// What the sinks of files write, each with the number of its node.
+    /// What the nodes that write files do, each with the number of its node.
     pub writers: Vec<(u32, W)>,
     /// What the source of standard input reads, where there is one.
     pub input: I,
@@ -43,10 +43,10 @@ pub enum Ran<R, W, I, O> {
 
 /// Runs a graph to its end on this thread, its nodes in turn, and gives the ends back in their order.
 ///
-/// Done comes where each node has stopped: the output and each file's writer have grown by their texts of the graph's outcome, and so each
-/// sink's end by its text of the graph's flow, each source's end is read to its
-/// end, and the status is the graph's. A fault is that of the one end that failed. After a fault and after Memory each sink's end has grown
-/// by a front of its text. `validate`, `are_run` and `have_ends` are the tests of what the caller owes.
+/// Done comes where each node has stopped: the output and each file's writer have grown by their texts of the graph's outcome, and so the
+/// end of each node that writes by its text of the graph's flow, each source's end is read to its end, and the status is the graph's. A
+/// fault is that of the one end that failed. After a fault and after Memory the end of each node that writes has grown by a front of its
+/// text. `validate`, `are_run` and `have_ends` are the tests of what the caller owes.
 pub fn run_in_turn<R: Source, W: Sink, I: Source, O: Sink>(
     alloc: Global,
     graph: &Graph,

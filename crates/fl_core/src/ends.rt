@@ -5,13 +5,13 @@ ghost use Rattle.ps_world.specs.Told.{bytes_then, then_bytes, GrewByPrefix, IsEn
 
 use ps_world::WorldErr;
 
-/// What a graph's sources read and its sinks write, by the numbers of their nodes.
+/// What a graph's sources read, and what those of its nodes write that write outside, by their numbers.
 ///
 /// A call touches the end of its node alone.
 pub trait NodeEnds {
     /// The bytes still to come at a source, where its end tells them.
     ghost left: { Self → ℕ → Option (List ℕ) };
-    /// The bytes that the end of a sink has taken, where it tells them.
+    /// The bytes that the end of a node that writes has taken, where it tells them.
     ghost taken: { Self → ℕ → Option (List ℕ) };
     /// How many calls of a node's end have failed.
     ghost faults: { Self → ℕ → ℕ };
@@ -40,7 +40,7 @@ pub trait NodeEnds {
         ensures writes { (other : ℕ) → writes self.new other ≡ writes self.old other }
         ensures borrows { borrows self.new ≡ borrows self.old };
 
-    /// Writes all of `bytes` to a sink's end. On an error it has taken a front of them.
+    /// Writes all of `bytes` to a node's end. On an error it has taken a front of them.
     fn write_all(&mut self, node: u32, bytes: &[u8]) -> Result<(), WorldErr>
         requires { writes self.old node ≡ true }
         ensures ok { OnOk result (taken self.new node ≡ then_bytes (taken self.old node) bytes.now) }

@@ -7,7 +7,7 @@ ghost use Rattle.fl_graph.specs.declared.kinds.NodeKind.{NodeKind};
 ghost use Rattle.fl_graph.specs.declared.pieces.TheConstants.{MAX_PIECE};
 ghost use Rattle.fl_classes.specs.Flow.{is_source, outcome};
 ghost use Rattle.fl_core.specs.Ends.{HasRead, HasWritten, HasWrittenFronts, OnDone};
-ghost use Rattle.fl_classes.specs.Kinds.{are_run, is_sink};
+ghost use Rattle.fl_classes.specs.Kinds.{are_run, is_writer};
 ghost use Rattle.fl_core.specs.Plans.{AreTold};
 
 use crate::ends::NodeEnds;
@@ -30,14 +30,14 @@ pub enum Ending {
 
 /// Runs a graph to its end on this thread, its nodes in turn.
 ///
-/// Done comes where each node has stopped: each sink's end has grown by its text of the graph's flow, each source's end is read to its
+/// Done comes where each node has stopped: the end of each that writes has grown by its text of the graph's flow, each source's end is read to its
 /// end, and the status is the graph's. A node's end that fails ends the run at once, so no other has failed then. After a fault and after
-/// Memory each sink's end has grown by a front of its text. A graph of 2^32 nodes or more wants memory.
+/// Memory the end of each node that writes has grown by a front of its text. A graph of 2^32 nodes or more wants memory.
 pub fn run_over_ends<E: NodeEnds>(alloc: Global, graph: &Graph, ends: &mut E) -> Ending
     requires valid { Valid graph.now.nodes graph.now.status }
     requires kinds { are_run graph.now.nodes ≡ true }
     requires reads { (node : ℕ) (cell : Cell NodeKind) → slice_get graph.now.nodes node ≡ Some cell → is_source cell.kind ≡ true → E.reads ends.old node ≡ true }
-    requires writes { (node : ℕ) (cell : Cell NodeKind) → slice_get graph.now.nodes node ≡ Some cell → is_sink cell.kind ≡ true → E.writes ends.old node ≡ true }
+    requires writes { (node : ℕ) (cell : Cell NodeKind) → slice_get graph.now.nodes node ≡ Some cell → is_writer cell.kind ≡ true → E.writes ends.old node ≡ true }
     ensures written { OnDone result (λ _. HasWritten graph.now.nodes (E.left ends.old) (E.taken ends.old) (E.taken ends.new)) }
     ensures read { OnDone result (λ _. HasRead graph.now.nodes (E.left ends.old) (E.left ends.new)) }
     ensures status { OnDone result (λ status. (sources : List (List ℕ)) → AreTold sources graph.now.nodes (E.left ends.old) →

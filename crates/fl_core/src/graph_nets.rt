@@ -5,7 +5,7 @@ ghost use Rattle.fl_graph.specs.Kinds.{has_its_ports, reads_one_input, runs_what
 ghost use Rattle.fl_graph.specs.Net.{gives};
 ghost use Rattle.fl_graph.specs.Valid.{Valid};
 ghost use Rattle.fl_classes.specs.Flow.{is_source as is_source_lem};
-ghost use Rattle.fl_classes.specs.Kinds.{are_run, is_run, is_sink as is_sink_lem};
+ghost use Rattle.fl_classes.specs.Kinds.{are_run, is_run, is_writer as is_writer_lem};
 ghost use Rattle.fl_core.specs.Plans.{HasRooms, IsNetOf, is_sole, room_of};
 ghost use Rattle.fl_core.specs.Starts.{BeginsAs, HasPorts, NodesHave};
 ghost use Rattle.fl_core.specs.Steps.{room_on, waiting_on};
@@ -89,14 +89,14 @@ fn ports_of(alloc: Global, nodes: &[Node], edges: usize) -> Result<Vec<Ports>, M
 /// The ports of a node, whose edge from outside or to the outside is this one where it is an end.
 fn ports_of_node(alloc: Global, node: &Node, outer: u32) -> Result<Ports, Memory>
     ensures ins { IfOk result (λ own. own.ins.items ≡ (if is_source_lem node.now.kind then outer ∷ [] else node.now.ins)) }
-    ensures outs { IfOk result (λ own. own.outs.items ≡ (if is_sink_lem node.now.kind then outer ∷ [] else node.now.outs)) }
+    ensures outs { IfOk result (λ own. own.outs.items ≡ (if is_writer_lem node.now.kind then outer ∷ node.now.outs else node.now.outs)) }
     ensures reads { IfOk result (λ own. own.reads ≡ is_source_lem node.now.kind) }
-    ensures writes { IfOk result (λ own. own.writes ≡ is_sink_lem node.now.kind) }
+    ensures writes { IfOk result (λ own. own.writes ≡ is_writer_lem node.now.kind) }
 {
     let reads = is_source(&node.kind);
-    let writes = is_sink(&node.kind);
-    let ins = edges_of(alloc, reads, node.ins.as_slice(), outer)?;
-    let outs = edges_of(alloc, writes, node.outs.as_slice(), outer)?;
+    let writes = is_writer(&node.kind);
+    let ins = ins_of(alloc, reads, node.ins.as_slice(), outer)?;
+    let outs = outs_of(alloc, writes, node.outs.as_slice(), outer)?;
     Ok(Ports {
         ins,
         outs,
@@ -105,15 +105,27 @@ fn ports_of_node(alloc: Global, node: &Node, outer: u32) -> Result<Ports, Memory
     })
 }
 
-/// The edges on one side of a node: at an end its outer edge, and else its own.
-fn edges_of(alloc: Global, is_end: bool, own: &[u32], outer: u32) -> Result<Vec<u32>, Memory>
-    ensures { IfOk result (λ edges. edges.items ≡ (if is_end then outer ∷ [] else own.now)) }
+/// The edges that lead to a node: from outside its outer edge, and else its own.
+fn ins_of(alloc: Global, reads: bool, own: &[u32], outer: u32) -> Result<Vec<u32>, Memory>
+    ensures { IfOk result (λ edges. edges.items ≡ (if reads then outer ∷ [] else own.now)) }
 {
-    if is_end {
+    if reads {
         Ok(Vec::from_slice(alloc, &[outer])?)
     } else {
         Ok(Vec::from_slice(alloc, own)?)
     }
+}
+
+/// The edges that lead from a node: where it writes, its outer edge and then its own.
+fn outs_of(alloc: Global, writes: bool, own: &[u32], outer: u32) -> Result<Vec<u32>, Memory>
+    ensures { IfOk result (λ edges. edges.items ≡ (if writes then outer ∷ own.now else own.now)) }
+{
+    if !writes {
+        return Ok(Vec::from_slice(alloc, own)?);
+    }
+    let mut edges = Vec::from_slice(alloc, &[outer])?;
+    edges.extend_from_slice(own)?;
+    Ok(edges)
 }
 
 /// Whether the node is a source.
@@ -126,12 +138,13 @@ pub(crate) fn is_source(kind: &NodeKind) -> bool
     }
 }
 
-/// Whether the node is a sink.
-fn is_sink(kind: &NodeKind) -> bool
-    ensures { result ≡ is_sink_lem kind.now }
+/// Whether the node writes to the outside.
+fn is_writer(kind: &NodeKind) -> bool
+    ensures { result ≡ is_writer_lem kind.now }
 {
     match kind {
         NodeKind::Sink(_) => true,
+        NodeKind::TeeFile(..) => true,
         _ => false,
     }
 }

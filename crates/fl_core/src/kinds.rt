@@ -23,8 +23,9 @@ pub fn is_run(kind: &NodeKind) -> bool
 {
     match kind {
         NodeKind::Agg(Inv::Wc(_)) => true,
-        NodeKind::Agg(_) | NodeKind::TeeFile(..) => false,
+        NodeKind::Agg(_) => false,
         NodeKind::Source(_) | NodeKind::Sink(_) | NodeKind::Text(_) => true,
+        NodeKind::TeeFile(..) => true,
         NodeKind::Split | NodeKind::Cat { .. } | NodeKind::Drain => true,
         NodeKind::Map(_) | NodeKind::Whole(_) | NodeKind::Finish(_) => true,
     }

@@ -14,7 +14,7 @@ ghost use Rattle.fl_graph.specs.declared.pieces.Piece.{Piece};
 ghost use Rattle.fl_classes.specs.Flow.{flow, is_source, only, writes, writes_of, selections, selects};
 ghost use Rattle.fl_classes.specs.Nodes.{Begins};
 ghost use Rattle.fl_core.specs.Inputs.{RunsOver};
-ghost use Rattle.fl_classes.specs.Kinds.{is_sink};
+ghost use Rattle.fl_classes.specs.Kinds.{is_writer};
 ghost use Rattle.fl_core.specs.Laws.{given, is_clean, Carries, NetKeeps, NetRan, NodeRan};
 ghost use Rattle.fl_core.specs.Moves.{most_moves};
 ghost use Rattle.fl_core.specs.Plans.{outer_edge, AreTold, HasRooms, IsPlanOf};
@@ -75,19 +75,19 @@ pub fn what_a_graph_leaves_is_of_the_flow(graph: &Graph)
         map (λ cell. selects cell.kind (map (flow graph.now.nodes sources) cell.ins)) graph.now.nodes }
 {}
 
-/// In a network over texts that are there from the beginning, what waits for the outside behind a sink is of the flow at any time: a front
+/// In a network over texts that are there from the beginning, what waits for the outside behind a node that writes is of the flow at any time: a front
 /// of its text, all of it where its end waits too, and all of it once each machine has stopped, where none has failed.
 pub fn what_waits_for_the_outside_is_of_the_flow<M: Machine>(graph: &Graph, net: &Net<M>)
     requires { Valid graph.now.nodes graph.now.status }
     ensures carries { (inputs : ℕ → List ℕ) (moves : ℕ) (failed : ℕ → Bool) → RunsOver M.state graph.now.nodes inputs moves failed net.now.ports.items net.now.machines.items net.now.wires.items →
         (sources : List (List ℕ)) → AreTold sources graph.now.nodes (λ node. Some (inputs node)) →
-        (node : ℕ) (cell : Cell NodeKind) → slice_get graph.now.nodes node ≡ Some cell → is_sink cell.kind ≡ true →
+        (node : ℕ) (cell : Cell NodeKind) → slice_get graph.now.nodes node ≡ Some cell → is_writer cell.kind ≡ true →
         Carries (waiting_on net.now.wires.items (outer_edge graph.now.nodes node)) (only (map (flow graph.now.nodes sources) cell.ins)) }
     ensures whole { (inputs : ℕ → List ℕ) (moves : ℕ) (failed : ℕ → Bool) → RunsOver M.state graph.now.nodes inputs moves failed net.now.ports.items net.now.machines.items net.now.wires.items →
         ((number : ℕ) → failed number ≡ false) →
         ((number : ℕ) (machine : M) → slice_get net.now.machines.items number ≡ Some machine → ((port : ℕ) → (M.state machine).takes port ≡ false) × ((port : ℕ) → (M.state machine).puts port ≡ false)) →
         (sources : List (List ℕ)) → AreTold sources graph.now.nodes (λ node. Some (inputs node)) →
-        (node : ℕ) (cell : Cell NodeKind) → slice_get graph.now.nodes node ≡ Some cell → is_sink cell.kind ≡ true →
+        (node : ℕ) (cell : Cell NodeKind) → slice_get graph.now.nodes node ≡ Some cell → is_writer cell.kind ≡ true →
         only (map (flow graph.now.nodes sources) cell.ins) ≡ text_of (waiting_on net.now.wires.items (outer_edge graph.now.nodes node)) }
 {}
 

@@ -23,7 +23,8 @@ pub enum NodeMachine {
 
 /// The machine of a node of this kind with so many ins and outs, at its beginning.
 ///
-/// A source and a sink hand on what comes: that of a source from outside, and that of a sink to the outside.
+/// A source and a sink hand on what comes: that of a source from outside, and that of a sink to the outside. A node that writes a file and
+/// hands on does so on two outs, of which the first leads to the outside.
 #[tactic(auto, using(crate::proofs::KindLemmas::joint_if_run))]
 pub fn node_machine(
     alloc: Global,

@@ -18,7 +18,7 @@ const STEPS_OF_A_TURN: u32 = 1024;
 
 /// The edges of a node, in the order of its ports.
 ///
-/// A node that reads has one in, on which the network puts what comes from outside, and one that writes has one out.
+/// A node that reads has one in, on which the network puts what comes from outside, and one that writes has its first out to there.
 #[derive(Drop)]
 pub struct Ports {
     pub ins: Vec<u32>,

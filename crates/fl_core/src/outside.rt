@@ -66,7 +66,7 @@ pub(crate) fn read_piece<E: NodeEnds>(
     }
 }
 
-/// Writes a piece to a sink's end: its bytes, where it has some; no mark comes there. On an error the end has taken a front of them.
+/// Writes a piece to a node's end: its bytes, where it has some; no mark comes there. On an error the end has taken a front of them.
 pub(crate) fn write_piece<E: NodeEnds>(node: u32, ends: &mut E, piece: &Piece) -> Result<(), Halt>
     requires writes { E.writes ends.old node ≡ true }
     ensures ok { OnOk result (is_mark piece.now ≡ false → E.taken ends.new node ≡ then_bytes (E.taken ends.old node) (text_of (piece.now ∷ []))) }

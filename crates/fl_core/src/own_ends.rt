@@ -107,6 +107,7 @@ fn failed_end(kind: &NodeKind) -> Came
         NodeKind::Source(From::File(_)) => Came::Reader,
         NodeKind::Sink(To::Output) => Came::Output,
         NodeKind::Sink(To::File(..)) => Came::Writer,
+        NodeKind::TeeFile(..) => Came::Writer,
         _ => Came::Memory,
     }
 }
@@ -169,7 +170,7 @@ fn has_file(kind: &NodeKind, written: bool) -> bool
     ensures { result ≡ has_file_lem written kind.now }
 {
     if written {
-        matches!(kind, NodeKind::Sink(To::File(..)))
+        matches!(kind, NodeKind::Sink(To::File(..)) | NodeKind::TeeFile(..))
     } else {
         matches!(kind, NodeKind::Source(From::File(_)))
     }

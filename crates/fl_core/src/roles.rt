@@ -1,6 +1,7 @@
 //! Which end each node has.
 ghost use Rattle.std.specs.Prelude.{◌≡◌, ◌==◌, true, IfOk};
 ghost use Rattle.std.specs.List.{position};
+ghost use Rattle.std.specs.Option.{option_map_or};
 ghost use Rattle.fl_core.specs.EndLists.{HasItsEnds, numbers_of, place_of as place_of_lem};
 ghost use Rattle.fl_core.specs.Roles.{HasRoles, needs_no_more, role_at as role_at_lem, role_of as role_of_lem};
 
@@ -49,6 +50,7 @@ fn has_end<R, W, I, O>(kind: &NodeKind, node: usize, ends: &Ends<R, W, I, O>) ->
     match kind {
         NodeKind::Source(From::File(_)) => place_of(ends.readers.as_slice(), node).is_some(),
         NodeKind::Sink(To::File(..)) => place_of(ends.writers.as_slice(), node).is_some(),
+        NodeKind::TeeFile(..) => place_of(ends.writers.as_slice(), node).is_some(),
         _ => true,
     }
 }
@@ -90,11 +92,19 @@ fn role_of<R, W, I, O>(kind: &NodeKind, node: usize, ends: &Ends<R, W, I, O>) ->
             None => Role::Nothing,
         },
         NodeKind::Sink(To::Output) => Role::Output,
-        NodeKind::Sink(To::File(..)) => match place_of(ends.writers.as_slice(), node) {
-            Some(place) => Role::Writer(place),
-            None => Role::Nothing,
-        },
+        NodeKind::Sink(To::File(..)) => writer_at(place_of(ends.writers.as_slice(), node)),
+        NodeKind::TeeFile(..) => writer_at(place_of(ends.writers.as_slice(), node)),
         _ => Role::Nothing,
+    }
+}
+
+/// The role of a node whose writer has this place.
+fn writer_at(place: Option<usize>) -> Role
+    ensures { result ≡ option_map_or Role.Writer place Role.Nothing }
+{
+    match place {
+        Some(place) => Role::Writer(place),
+        None => Role::Nothing,
     }
 }
 

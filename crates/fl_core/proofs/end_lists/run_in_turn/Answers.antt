@@ -43,7 +43,7 @@ returns-in-Done-clause-output g c = λ sources told.
 
 pub returns-in-Done-clause-files : goal.returns-in-Done-clause-files
 returns-in-Done-clause-files g c = λ sources told.
-    files_grew c.args.graph.now c.requires.valid c.requires.kinds sources _ _ (returns-in-Done-clause-written g c sources told)
+    files_grew c.args.graph.now c.requires.valid sources _ _ (returns-in-Done-clause-written g c sources told)
 
 pub returns-in-Done-clause-read : goal.returns-in-Done-clause-read
 returns-in-Done-clause-read g c =

@@ -119,5 +119,3 @@ ins-within taken (operand.At place.Null ∷ rest) = let others = ins-within take
 pub ins-most : (operands : List Operand) → length (ins_of operands) ≤ length operands + 1
 ins-most [] = omega arith
 ins-most (first ∷ rest) = let within = ins-within false (first ∷ rest) in omega (arith, within)
-
-pub ruleset input_steps = (ins-there)

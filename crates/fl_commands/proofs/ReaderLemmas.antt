@@ -2,15 +2,18 @@
 use Rattle.std.proofs.Common.{◌≡◌, ℕ, zero, ◌≤◌, ◌<◌, ◌+◌, suc, List, [], ◌∷◌, ◌++◌, Bool, true, false, ◌||◌, nat_lt, length, map, Option, Some, None, refl, sym, ap, subst, ◌∙◌, append_assoc, drop, get_or, IfSome, arith}
 use Rattle.std.specs.List.{filter_map}
 use Rattle.std.proofs.lemmas.Bool.{lt-ltb, true≢false}
-use Rattle.std.proofs.lemmas.List.{drop_more}
+use Rattle.std.proofs.lemmas.List.{drop_more, length-append, map-append}
 use Rattle.ps_world.specs.Counts.{Rose}
 use Rattle.ps_world.specs.Files.{Files, bytes_at}
 use Rattle.ps_world.specs.TreeState.{AreOut, TreeState, lend, take_back}
 use Rattle.ps_world.proofs.TreeStateLemmas.{balanced-none, out-lend, out-take_back}
 use Rattle.fl_core.specs.OwnEnds.{each_of}
-use Rattle.fl_segments.specs.Stages.{file_in}
+use Rattle.fl_segments.specs.Stages.{file_in, files_read, ins_of}
+use Rattle.fl_segments.specs.declared.stages.Stage.{Stage}
 use Rattle.fl_segments.specs.declared.stages.In.{In}
 use Rattle.fl_segments.specs.declared.stages.In.TheVariants as inlet
+use Rattle.fl_commands.specs.Inner.Overs.{Opens}
+use Rattle.fl_commands.specs.Inner.Segments.{AllThere}
 use Rattle.fl_commands.specs.Readers.{AreThere, IsThere, has_count}
 
 -- what is told of one more
@@ -149,8 +152,49 @@ module _ (ins : List In) (place : ℕ) (one : In) (here : one ≡ get_or ins pla
       let left = ap (λ (it : List In). length (filter_map file_in it)) cut ∙ files-more one (drop (place + 1) ins) in
       omega (arith, so, is, left)
 
+-- the first of the stages that are left, and the rest
+module _ (all left rest : List Stage) (stage : Stage) (is : left ≡ stage ∷ rest) where
+  pub stage-there : (held : Option Files) → IfSome held (λ files. AllThere files left) → IfSome held (λ files. AreThere files (ins_of stage))
+  stage-there None there = tt
+  stage-there (Some files) there = (subst (AllThere files) is there).0
+
+  pub stages-there : (held : Option Files) → IfSome held (λ files. AllThere files left) → IfSome held (λ files. AllThere files rest)
+  stages-there None there = tt
+  stages-there (Some files) there = (subst (AllThere files) is there).1
+
+  pub stages-texts : (files : Files) (first before after : List (Option (List ℕ)))
+      → first ++ map (λ path. Some (bytes_at files path)) (files_read all) ≡ before ++ map (λ path. Some (bytes_at files path)) (files_read left)
+      → after ≡ before ++ map (λ path. Some (bytes_at files path)) (filter_map file_in (ins_of stage))
+      → first ++ map (λ path. Some (bytes_at files path)) (files_read all) ≡ after ++ map (λ path. Some (bytes_at files path)) (files_read rest)
+  stages-texts files first before after so more =
+      so ∙ ap (λ (it : List Stage). before ++ map (λ path. Some (bytes_at files path)) (files_read it)) is
+      ∙ ap (λ (it : List (Option (List ℕ))). before ++ it) (map-append (λ path. Some (bytes_at files path)) (filter_map file_in (ins_of stage)) (files_read rest))
+      ∙ sym (append_assoc before (map (λ path. Some (bytes_at files path)) (filter_map file_in (ins_of stage))) (map (λ path. Some (bytes_at files path)) (files_read rest)))
+      ∙ ap (λ (it : List (Option (List ℕ))). it ++ map (λ path. Some (bytes_at files path)) (files_read rest)) (sym more)
+
+  pub stages-count : (first before after : ℕ) → first + length (files_read all) ≡ before + length (files_read left)
+      → after ≡ before + length (filter_map file_in (ins_of stage)) → first + length (files_read all) ≡ after + length (files_read rest)
+  stages-count first before after so more =
+      let cut = ap (λ (it : List Stage). length (files_read it)) is ∙ length-append (filter_map file_in (ins_of stage)) (files_read rest) in
+      omega (arith, so, more, cut)
+
 -- none is out yet
 pub out-none : {End : Type 0} (entries : List (ℕ × End)) → entries ≡ [] → (state : TreeState) → AreOut (length entries) state state
 out-none entries is state = subst (λ (it : List (ℕ × _)). AreOut (length it) state state) (sym is) (balanced-none state)
+
+-- readers of all files, where none was out before
+pub opens-so : {R : Type 0} (of_reader : R → Option (List ℕ)) (reader_faults : R → ℕ) (segment : List Stage) (tree tree' : TreeState) (none readers : List (ℕ × R)) → none ≡ []
+    → ((files : Files) → tree.held ≡ Some files → each_of of_reader readers ≡ each_of of_reader none ++ map (λ path. Some (bytes_at files path)) (files_read segment))
+    → length readers ≡ length none + length (files_read segment)
+    → (has_count (each_of reader_faults none) ≡ false → has_count (each_of reader_faults readers) ≡ false)
+    → ((first : TreeState) → AreOut (length none) first tree → AreOut (length readers) first tree')
+    → Opens of_reader reader_faults segment tree tree' readers
+opens-so of_reader reader_faults segment tree tree' none readers is texts count fresh out =
+    record {
+      texts = λ files told. texts files told ∙ ap (λ (it : List (ℕ × _)). each_of of_reader it ++ map (λ path. Some (bytes_at files path)) (files_read segment)) is;
+      count = let empty = ap (λ (it : List (ℕ × _)). length it) is in omega (arith, count, empty);
+      fresh = fresh (ap (λ (it : List (ℕ × _)). has_count (each_of reader_faults it)) is);
+      out = out tree (out-none none is tree);
+    }
 
 pub ruleset reader_steps = (each-more, count-opened, out-opened, fresh-opened, out-returned)

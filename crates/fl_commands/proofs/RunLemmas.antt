@@ -1,6 +1,6 @@
--- What comes of a utility that is run, from what comes of its graph.
-use Rattle.std.proofs.Common.{◌≡◌, inl, ℕ, zero, suc, ◌≤◌, ◌<◌, ◌+◌, List, [], ◌∷◌, ◌++◌, Bool, true, false, ◌||◌, nat_lt, if◌then◌else◌, length, map, slice_get, Option, Some, None, Result, Ok, Err, IfOk, refl, sym, ap, ◌∙◌, subst, arith}
-use Rattle.std.specs.List.{cons_option, filter_map}
+-- What comes of stages that are run, from what comes of their graph.
+use Rattle.std.proofs.Common.{◌≡◌, inl, ℕ, zero, suc, ◌≤◌, ◌<◌, ◌+◌, List, [], ◌∷◌, ◌++◌, Bool, true, false, ◌||◌, nat_lt, if◌then◌else◌, length, map, slice_get, Option, Some, None, Err, refl, sym, ap, ◌∙◌, subst, arith}
+use Rattle.std.specs.List.{cons_option, list_any}
 use Rattle.std.specs.Option.{option_map}
 use Rattle.std.proofs.lemmas.Bool.{lt-ltb, true≢false}
 use Rattle.std.proofs.lemmas.List.{length-map}
@@ -14,7 +14,6 @@ use Rattle.ps_world.specs.declared.error.WorldErr.{WorldErr}
 use Rattle.ps_world.specs.declared.error.WorldErr.TheVariants as error
 use Rattle.ps_world.proofs.ToldLemmas.{grew_by_nothing}
 use Rattle.ps_world.proofs.TreeStateLemmas.{balanced-none}
-use Rattle.ut_args.specs.declared.invocations.Inv.{Inv}
 use Rattle.fl_graph.specs.Paths.{path_read, path_written, paths_read, paths_written}
 use Rattle.fl_graph.specs.declared.graphs.Cell.{Cell}
 use Rattle.fl_graph.specs.declared.graphs.Graph.{Graph}
@@ -22,7 +21,11 @@ use Rattle.fl_graph.specs.declared.kinds.From.TheVariants as from
 use Rattle.fl_graph.specs.declared.kinds.NodeKind.{NodeKind}
 use Rattle.fl_graph.specs.declared.kinds.NodeKind.TheVariants as kind
 use Rattle.fl_graph.specs.declared.kinds.To.TheVariants as to
+use Rattle.fl_graph.specs.Kinds.{is_input}
+use Rattle.fl_graph.specs.Valid.{Valid}
 use Rattle.fl_classes.specs.Flow.{Outcome, outcome}
+use Rattle.fl_classes.specs.Kinds.{are_run}
+use Rattle.fl_classes.specs.Used.{words_used}
 use Rattle.fl_classes.specs.Sources.{source_texts}
 use Rattle.fl_core.specs.EndLists.{file_nodes, file_sources, numbers_of, reads_file, writes_file}
 use Rattle.fl_core.specs.OwnEnds.{EndCounts, IfCame, IsTold, RoseAmong, RunsOwn, counts_by, each_of, has_input}
@@ -30,34 +33,24 @@ use Rattle.fl_core.specs.OwnEnds.{HasCause as CauseOf}
 use Rattle.fl_core.specs.declared.end_lists.Ends.{Ends}
 use Rattle.fl_core.specs.declared.own_ends.Came.{Came}
 use Rattle.fl_core.specs.declared.own_ends.Came.TheVariants as came
-use Rattle.fl_segments.specs.Stages.{file_in}
+use Rattle.fl_segments.specs.Chains.{begins_with, chain_means}
+use Rattle.fl_segments.specs.Stages.{files_read, files_written, reads_input, words_at}
 use Rattle.fl_segments.specs.declared.stages.First.{First}
-use Rattle.fl_segments.specs.declared.stages.In.{In}
+use Rattle.fl_segments.specs.declared.stages.Stage.{Stage}
 use Rattle.fl_commands.specs.Inner.Overs.{Opens, RunsOver, ended_by, ended_of}
-use Rattle.fl_commands.specs.Inner.Stages.{IsGraphOf}
-use Rattle.fl_commands.specs.Operands.{ins_of}
+use Rattle.fl_commands.specs.Inner.Segments.{IsGraphOf, segment_asks}
 use Rattle.fl_commands.specs.Readers.{has_count}
-use Rattle.fl_commands.specs.Runs.{Counts, HasCause, IfDone, NoFewer, RunsCommand, counts_of, left_behind, reads_input}
-use Rattle.fl_commands.specs.declared.operands.Operand.{Operand}
-use Rattle.fl_commands.specs.declared.readers.Opened.{Opened}
+use Rattle.fl_commands.specs.Runs.{Asks, Counts, HasCause, IfDone, NoFewer, Runs, counts_of, left_behind}
+use Rattle.fl_commands.specs.declared.runs.Ended.{Ended}
 use Rattle.fl_commands.specs.declared.runs.Ended.TheVariants as ended
 
--- THE FILES THAT OPERANDS NAME, as they are opened
-pub opens-all : {R : Type 0} (of_reader : R → Option (List ℕ)) (reader_faults : R → ℕ) (operands : List Operand) (tree tree' : TreeState) (ins : List In) → ins ≡ ins_of operands
-    → (result : Result (Opened R) WorldErr)
-    → ((files : Files) → tree.held ≡ Some files → IfOk result (λ opened. each_of of_reader opened.readers.items ≡ map (λ path. Some (bytes_at files path)) (filter_map file_in ins)))
-    → IfOk result (λ opened. length opened.readers.items ≡ length (filter_map file_in ins))
-    → IfOk result (λ opened. has_count (each_of reader_faults opened.readers.items) ≡ false)
-    → IfOk result (λ opened. AreOut (length opened.readers.items) tree tree')
-    → IfOk result (λ opened. Opens of_reader reader_faults operands tree tree' opened.readers.items)
-opens-all of_reader reader_faults operands tree tree' ins is (Ok opened) texts count fresh out =
-    record {
-      texts = λ files told. texts files told ∙ ap (λ (it : List In). map (λ path. Some (bytes_at files path)) (filter_map file_in it)) is;
-      count = count ∙ ap (λ (it : List In). length (filter_map file_in it)) is;
-      fresh = fresh;
-      out = out;
-    }
-opens-all of_reader reader_faults operands tree tree' ins is (Err error) texts count fresh out = tt
+-- what is said of the graph of stages that write no file, in one
+pub graph-so : (segment : List Stage) (from : First) (graph : Graph) → Valid graph.nodes graph.status → are_run graph.nodes ≡ true → paths_read graph.nodes ≡ files_read segment
+    → paths_written graph.nodes ≡ files_written segment → files_written segment ≡ [] → list_any (λ cell. is_input cell.kind) graph.nodes ≡ reads_input segment from
+    → ((input : List ℕ) (files : Components → List ℕ) → outcome graph (source_texts graph.nodes input files) ≡ chain_means segment (begins_with from input) files)
+    → words_used graph.nodes ≡ words_at 1 segment → IsGraphOf segment from graph
+graph-so segment from graph valid kinds reads writes none input outcome_is used =
+    record { valid = valid; kinds = kinds; reads = reads; writes = writes ∙ none; input = input; outcome_is = outcome_is; used = used }
 
 -- HOW MANY ENDS A GRAPH HAS
 cons-length : {X : Type 0} (one : Option X) (items others : List X) → length items ≡ length others → length (cons_option one items) ≡ length (cons_option one others)
@@ -125,10 +118,16 @@ module _ {R W I O : Type 0} (of_reader : R → Option (List ℕ)) (of_input : I 
 no-fewer : (counts : Counts) → NoFewer counts counts
 no-fewer counts = record { input = omega arith; output = omega arith; tree = omega arith }
 
+-- what is asked for alike comes of the same runs
+pub asked-alike : (one other : Asks) → one ≡ other → (tree tree' : TreeState) (left left' taken taken' : Option (List ℕ)) (old new : Counts) (used used' : Option (List (List (List ℕ)))) (how : Ended)
+    → Runs one tree tree' left left' taken taken' old new used used' how → Runs other tree tree' left left' taken taken' old new used used' how
+asked-alike one other same tree tree' left left' taken taken' old new used used' how ran =
+    subst (λ (asks : Asks). Runs asks tree tree' left left' taken taken' old new used used' how) same ran
+
 -- nothing was done
-pub nothing-ran : (inv : Inv) (operands : List Operand) (from : First) (tree : TreeState) (left taken : Option (List ℕ)) (counts : Counts) (used : Option (List (List (List ℕ))))
-    → RunsCommand inv operands from tree tree left left taken taken counts counts used used ended.Memory
-nothing-ran inv operands from tree left taken counts used = record {
+pub nothing-ran : (asks : Asks) (tree : TreeState) (left taken : Option (List ℕ)) (counts : Counts) (used : Option (List (List (List ℕ))))
+    → Runs asks tree tree left left taken taken counts counts used used ended.Memory
+nothing-ran asks tree left taken counts used = record {
   output = λ input files told is. tt;
   status = λ input files told is. tt;
   read = tt;
@@ -141,10 +140,10 @@ nothing-ran inv operands from tree left taken counts used = record {
 }
 
 -- a file wasn't opened
-pub none-opened : {Given : Type 0} (inv : Inv) (operands : List Operand) (from : First) (tree tree' : TreeState) (left taken : Option (List ℕ)) (input output before now : ℕ) (used : Option (List (List (List ℕ))))
+pub none-opened : {Given : Type 0} (asks : Asks) (tree tree' : TreeState) (left taken : Option (List ℕ)) (input output before now : ℕ) (used : Option (List (List (List ℕ))))
     (error : WorldErr) → Balanced tree tree' → tree'.held ≡ tree.held → CountsOf {T = Given} before now (Err error)
-    → RunsCommand inv operands from tree tree' left left taken taken (counts_of input output before) (counts_of input output now) used used (ended_of error)
-none-opened inv operands from tree tree' left taken input output before now used error.Failed lent held counts = record {
+    → Runs asks tree tree' left left taken taken (counts_of input output before) (counts_of input output now) used used (ended_of error)
+none-opened asks tree tree' left taken input output before now used error.Failed lent held counts = record {
   output = λ text files told is. tt;
   status = λ text files told is. tt;
   read = tt;
@@ -155,7 +154,7 @@ none-opened inv operands from tree tree' left taken input output before now used
   later = record { input = omega arith; output = omega arith; tree = counts.later };
   cause = counts.failed refl;
 }
-none-opened inv operands from tree tree' left taken input output before now used error.Memory lent held counts = record {
+none-opened asks tree tree' left taken input output before now used error.Memory lent held counts = record {
   output = λ text files told is. tt;
   status = λ text files told is. tt;
   read = tt;
@@ -212,8 +211,8 @@ done-all came.Memory all = tt
 
 module _ {R W I O : Type 0} (of_reader : R → Option (List ℕ)) (of_input : I → Option (List ℕ)) (of_writer : W → Option (List ℕ)) (of_output : O → Option (List ℕ))
     (reader_faults : R → ℕ) (writer_faults : W → ℕ) (input_faults : I → ℕ) (output_faults : O → ℕ)
-    (inv : Inv) (operands : List Operand) (from : First) (graph : Graph) (is : IsGraphOf inv operands from graph)
-    (first mid last : TreeState) (readers : List (ℕ × R)) (opens : Opens of_reader reader_faults operands first mid readers) (held_mid : mid.held ≡ first.held)
+    (segment : List Stage) (from : First) (graph : Graph) (is : IsGraphOf segment from graph)
+    (first mid last : TreeState) (readers : List (ℕ × R)) (opens : Opens of_reader reader_faults segment first mid readers) (held_mid : mid.held ≡ first.held)
     (input : I) (out : O) (used used' : Option (List (List (List ℕ)))) (how : Came) (back : Ends R W I O)
     (over : RunsOver of_reader of_input of_writer of_output reader_faults writer_faults input_faults output_faults graph readers input out used used' how back) where
   -- as many readers come back, and no writer
@@ -257,7 +256,7 @@ module _ {R W I O : Type 0} (of_reader : R → Option (List ℕ)) (of_input : I 
     cause-so came.Writer rose = tt
     cause-so came.Memory same = tt
 
-    pub ran-so : RunsCommand inv operands from first last (of_input input) (of_input back.input) (of_output out) (of_output back.out)
+    pub ran-so : Runs (segment_asks segment from) first last (of_input input) (of_input back.input) (of_output out) (of_output back.out)
         (counts_of (input_faults input) (output_faults out) before) (counts_of (input_faults back.input) (output_faults back.out) now) used used' (ended_by how)
     ran-so =
         record {
@@ -266,7 +265,7 @@ module _ {R W I O : Type 0} (of_reader : R → Option (List ℕ)) (of_input : I 
               ∙ ap (λ (it : Outcome). then_bytes (of_output out) it.output) (is.outcome_is text (bytes_at files)));
           status = λ text files told is_text. done-so how (over.runs.leaves text (bytes_at files) (told-so text files told is_text)) (λ status left.
               left.status ∙ ap (λ (it : Outcome). it.status) (is.outcome_is text (bytes_at files)));
-          read = read-so (reads_input operands from) is.input;
+          read = read-so (reads_input segment from) is.input;
           noted = done-so how over.runs.used_whole (λ status noted. noted ∙ ap (λ (words : List (List (List ℕ))). option_map (λ used. used ++ words) used) is.used);
           part = λ text files told is_text.
               subst (λ (it : Outcome). GrewByPrefix (of_output out) (of_output back.out) it.output) (is.outcome_is text (bytes_at files))

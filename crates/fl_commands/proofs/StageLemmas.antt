@@ -1,9 +1,10 @@
--- The stage of a utility, and what its graph leaves.
-use Rattle.std.proofs.Common.{◌≡◌, ℕ, zero, suc, ◌<◌, ◌^◌, ◌+◌, min, List, [], ◌∷◌, ◌++◌, Bool, true, false, not, ◌&&◌, ◌||◌, ◌==◌, nat_le, if◌then◌else◌, length, map, take, drop, ◌-◌, get_or, Result, Ok, Err, IfOk, refl, sym, ap, ◌∙◌, subst, append-nil, arith}
+-- The stages of utilities, and what they mean.
+use Rattle.std.proofs.Common.{◌≡◌, ℕ, zero, suc, ◌<◌, ◌^◌, ◌+◌, min, List, [], ◌∷◌, ◌++◌, Bool, true, false, not, ◌&&◌, ◌||◌, ◌==◌, nat_le, if◌then◌else◌, length, map, take, drop, ◌-◌, get_or, Option, Some, None, IfSome, refl, sym, ap, ◌∙◌, subst, append-nil, arith}
 use Rattle.std.specs.List.{count_by, filter, filter_map, list_all, list_any, flat_map}
 use Rattle.std.specs.Prelude.{replicate}
 use Rattle.std.proofs.lemmas.Bool.{true≢false, eq-eqb, le-leb, ne_eqb}
-use Rattle.ps_lines.specs.declared.memory.Memory.{Memory}
+use Rattle.std.proofs.lemmas.List.Folds.{list_any-append}
+use Rattle.ps_world.specs.Files.{Files, NoWriterOut, bytes_at}
 use Rattle.ps_world.specs.Paths.{Components}
 use Rattle.ps_world.specs.Places.{is_null_path}
 use Rattle.ut_args.specs.Built.{is_built_by, is_built_of}
@@ -17,29 +18,31 @@ use Rattle.ut_args.specs.declared.invocations.Inv.TheVariants as inv
 use Rattle.ut_args.proofs.OperandLemmas.{all-named, joined-named, named-emptied, separate-named}
 use Rattle.ut_streams.specs.Utilities.{Input, Utility}
 use Rattle.fl_graph.specs.Kinds.{is_grep}
-use Rattle.fl_graph.specs.Paths.{ArePathsApart, paths_read, paths_written}
-use Rattle.fl_graph.specs.Kinds.{has_map, is_input, is_output}
-use Rattle.fl_graph.specs.Valid.{Valid}
-use Rattle.fl_graph.specs.declared.graphs.Graph.{Graph}
-use Rattle.fl_classes.specs.Flow.{outcome}
-use Rattle.fl_classes.specs.Kinds.{are_run}
-use Rattle.fl_classes.specs.Sources.{source_texts}
-use Rattle.fl_classes.specs.Used.{is_cat, words_used, words_with}
+use Rattle.fl_graph.specs.Paths.{ArePathsApart}
+use Rattle.fl_graph.specs.Kinds.{has_map}
+use Rattle.fl_classes.specs.Flow.{Outcome}
+use Rattle.fl_classes.specs.Used.{is_cat, words_with}
 use Rattle.fl_classes.specs.Utilities.{labelled, names_of, output_of, selects_of, silent, utility_by, utility_of}
 use Rattle.fl_classes.proofs.OperandLemmas.{apart_from_own, built-without, names-left, operands-without, utility-without}
-use Rattle.fl_segments.specs.Chains.{begins_with, chain_means, grep_status, is_quiet, joined_text, joined_texts, reports_nothing, stage_means, status_by, text_in, texts_by}
-use Rattle.fl_segments.specs.Stages.{closes_by, file_in, files_read, files_written, fits, gives_output, reads_input, is_stage, is_stream, is_tee, joins_by, read_of, times, words_at}
+use Rattle.fl_segments.specs.Chains.{begins_with, chain_means, grep_status, is_quiet, joined_text, joined_texts, reports_nothing, stage_means, status_by, text_in, texts_by, then_left}
+use Rattle.fl_segments.specs.Stages as S
+use Rattle.fl_segments.specs.Stages.{closes_by, file_in, file_out, files_read, files_written, fits, is_shell_input, is_stage, is_stream, is_tee, joins_by, read_of, reads_stream, times, words_at, words_by}
 use Rattle.fl_segments.specs.declared.stages.Does.TheVariants as does
 use Rattle.fl_segments.specs.declared.stages.First.{First}
 use Rattle.fl_segments.specs.declared.stages.In.{In}
 use Rattle.fl_segments.specs.declared.stages.Out.TheVariants as out
 use Rattle.fl_segments.specs.declared.stages.Stage.{Stage}
-use Rattle.fl_commands.specs.Inner.Stages.{IsGraphOf, IsStageOf, inputs_with, left_by, plain_status, some_lacks, words_noted}
+use Rattle.fl_commands.specs.Inner.Segments.{AllThere, segment_asks}
+use Rattle.fl_commands.specs.Inner.Stages.{AreStagesOf, IsStageOf, inputs_with, left_by, plain_status, some_lacks, words_noted}
 use Rattle.fl_commands.specs.Inputs.{inputs_read, output_for, selects_for, status_of}
 use Rattle.fl_commands.specs.Inputs.{joined_inputs as joined_for}
-use Rattle.fl_commands.specs.Operands.{AreNamed, ins_of, lacks}
+use Rattle.fl_commands.specs.Members.{AllCanRun, AllNamesStand, member_inputs, member_output, noted_of, output_through, reads_first, status_through}
+use Rattle.fl_commands.specs.Operands.{AllStand, AreNamed, ins_of, lacks}
+use Rattle.fl_commands.specs.Readers.{AreThere}
+use Rattle.fl_commands.specs.Runs.{command_asks, pipeline_asks}
+use Rattle.fl_commands.specs.declared.members.Member.{Member}
 use Rattle.fl_commands.specs.declared.operands.Operand.{Operand}
-use Rattle.fl_commands.proofs.InputLemmas.{ins-most, left-named, length-left, no-null-of, one-stream}
+use Rattle.fl_commands.proofs.InputLemmas.{ins-most, ins-there, left-named, length-left, no-null-of, one-stream}
 
 -- HOW MANY INPUTS. So many are named by operands that stand in the words
 inputs_named : List (List ℕ) → ℕ
@@ -265,114 +268,207 @@ status-for given other some selected = refl
 few-ins : (operands : List Operand) → length operands + 1 < 2 ^ 32 → length (ins_of operands) < 2 ^ 32
 few-ins operands few = let most = ins-most operands in omega (arith, few, most)
 
--- THE GRAPH OF THE STAGE
-module _ (inv' : Inv) (operands : List Operand) (stage : Stage) (one : IsStageOf inv' operands stage) (built : is_built_of inv' ≡ true)
-    (named : AreNamed (operands_of inv') operands) (few : length operands + 1 < 2 ^ 32) where
-  -- the segment is what the graph is made of
-  pub stages-so : list_all is_stage (stage ∷ []) ≡ true
-  stages-so =
-      ap (λ (it : Stage). is_stage it && true) one.is
-      ∙ ap (λ test. test && true) (fits-so inv' operands one.without one.asks named built (few-ins operands few))
+-- WHAT THE STAGE OF AN INVOCATION MEANS
+module _ (inv' : Inv) (operands : List Operand) (stage : Stage) (one : IsStageOf inv' operands stage) where
+  ins-so : S.ins_of stage ≡ ins_of operands
+  ins-so = ap (λ (it : Stage). S.ins_of it) one.is
 
-  pub files-read : files_read (stage ∷ []) ≡ filter_map file_in (ins_of operands)
-  files-read = ap (λ (it : Stage). files_read (it ∷ [])) one.is ∙ append-nil (filter_map file_in (ins_of operands))
+  written-so : stage.tees ++ file_out stage.out ≡ []
+  written-so = ap (λ (it : Stage). it.tees ++ file_out it.out) one.is
 
-  pub files-written : files_written (stage ∷ []) ≡ []
-  files-written = ap (λ (it : Stage). files_written (it ∷ [])) one.is
+  -- its files are there
+  stage-there : (files : Files) → NoWriterOut files → AllStand files operands → AreThere files (S.ins_of stage)
+  stage-there files whole stand = subst (AreThere files) (sym ins-so) (ins-there (Some files) operands whole stand)
 
-  pub paths-so : ArePathsApart (files_read (stage ∷ [])) (files_written (stage ∷ []))
-  paths-so =
-      subst (ArePathsApart (files_read (stage ∷ []))) (sym files-written)
-      (record {
-        apart = refl;
-        once = refl;
-        files = ap (λ paths. list_any is_null_path paths) (append-nil (files_read (stage ∷ [])) ∙ files-read) ∙ no-null-of (operands_of inv') operands named;
-      })
+  module _ (built : is_built_of inv' ≡ true) (named : AreNamed (operands_of inv') operands) (few : length operands + 1 < 2 ^ 32) where
+    is-stage : is_stage stage ≡ true
+    is-stage = ap (λ (it : Stage). is_stage it) one.is ∙ fits-so inv' operands one.without one.asks named built (few-ins operands few)
 
-  -- what the segment means
-  module _ (stream : List ℕ) (files : Components → List ℕ) where
-    abbrev its-texts : List (List ℕ)
-    its-texts = map (text_in stream files) (ins_of operands)
+    -- none of its files is the null device
+    no-null-in : list_any is_null_path (filter_map file_in (S.ins_of stage)) ≡ false
+    no-null-in = ap (λ (it : List In). list_any is_null_path (filter_map file_in it)) ins-so ∙ no-null-of (operands_of inv') operands named
 
-    abbrev its-inputs : List Input
-    its-inputs = inputs_with (operands_of inv') operands stream files
+    module _ (stream : List ℕ) (files : Components → List ℕ) where
+      abbrev its-texts : List (List ℕ)
+      its-texts = map (text_in stream files) (ins_of operands)
 
-    inputs-so : labelled (names_of one.without) (texts_by (command_of one.without) its-texts) ≡ inputs_read (command_of inv') its-inputs
-    inputs-so =
-        ap (λ names. labelled names (texts_by (command_of one.without) its-texts)) (names-left inv' one.without (map lacks operands) one.asks (left-named (operands_of inv') operands named))
-        ∙ ap (λ texts. labelled (remaining (map lacks operands) (operands_of inv')) texts)
-        (ap (λ asked. texts_by asked its-texts) one.asks ∙ texts-emptied (emptied (map lacks operands) (operands_of inv')) (command_of inv') its-texts)
-        ∙ joined-read (command_of inv') (remaining (map lacks operands) (operands_of inv')) its-texts
+      abbrev its-inputs : List Input
+      its-inputs = inputs_with (operands_of inv') operands stream files
 
-    utility-so : utility_of one.without ≡ apart_from_own (utility_by (command_of inv')) (utility_of one.without)
-    utility-so =
-        utility-without inv' one.without (map lacks operands) one.asks
-        ∙ ap (λ (is : Bool). apart_from_own (if is then utility_by (command_of inv') else silent) (utility_of one.without)) built
+      inputs-so : labelled (names_of one.without) (texts_by (command_of one.without) its-texts) ≡ inputs_read (command_of inv') its-inputs
+      inputs-so =
+          ap (λ names. labelled names (texts_by (command_of one.without) its-texts)) (names-left inv' one.without (map lacks operands) one.asks (left-named (operands_of inv') operands named))
+          ∙ ap (λ texts. labelled (remaining (map lacks operands) (operands_of inv')) texts)
+          (ap (λ asked. texts_by asked its-texts) one.asks ∙ texts-emptied (emptied (map lacks operands) (operands_of inv')) (command_of inv') its-texts)
+          ∙ joined-read (command_of inv') (remaining (map lacks operands) (operands_of inv')) its-texts
 
-    output-so : output_of one.without (texts_by (command_of one.without) its-texts) ≡ output_for (command_of inv') its-inputs
-    output-so = ap (λ (it : Utility). it.output (labelled (names_of one.without) (texts_by (command_of one.without) its-texts))) utility-so
-        ∙ ap (λ inputs. (utility_by (command_of inv')).output inputs) inputs-so
+      utility-so : utility_of one.without ≡ apart_from_own (utility_by (command_of inv')) (utility_of one.without)
+      utility-so =
+          utility-without inv' one.without (map lacks operands) one.asks
+          ∙ ap (λ (is : Bool). apart_from_own (if is then utility_by (command_of inv') else silent) (utility_of one.without)) built
 
-    selects-so : selects_of one.without (texts_by (command_of one.without) its-texts) ≡ selects_for (command_of inv') its-inputs
-    selects-so = ap (λ (it : Utility). it.selects (labelled (names_of one.without) (texts_by (command_of one.without) its-texts))) utility-so
-        ∙ ap (λ inputs. (utility_by (command_of inv')).selects inputs) inputs-so
+      output-so : output_of one.without (texts_by (command_of one.without) its-texts) ≡ output_for (command_of inv') its-inputs
+      output-so = ap (λ (it : Utility). it.output (labelled (names_of one.without) (texts_by (command_of one.without) its-texts))) utility-so
+          ∙ ap (λ inputs. (utility_by (command_of inv')).output inputs) inputs-so
 
-    status-so : status_by (does.Util one.without) (plain_status (command_of inv') (some_lacks operands)) its-texts
-        ≡ status_of (command_of inv') (some_lacks operands) (selects_for (command_of inv') its-inputs)
-    status-so =
-        ap (λ selected. if is_grep one.without then grep_status (is_quiet one.without) plain selected else plain) selects-so
-        ∙ ap (λ is. if is then grep_status (is_quiet one.without) plain selected else plain) (grep-is one.without ∙ ap grep_by one.asks)
-        ∙ ap (λ quiet. if grep_by (with_operands given (command_of inv')) then grep_status quiet plain selected else plain) (quiet-is one.without ∙ ap quiet_by one.asks)
-        ∙ status-for given (command_of inv') (some_lacks operands) selected
-      where
-        plain : ℕ
-        plain = plain_status (command_of inv') (some_lacks operands)
+      selects-so : selects_of one.without (texts_by (command_of one.without) its-texts) ≡ selects_for (command_of inv') its-inputs
+      selects-so = ap (λ (it : Utility). it.selects (labelled (names_of one.without) (texts_by (command_of one.without) its-texts))) utility-so
+          ∙ ap (λ inputs. (utility_by (command_of inv')).selects inputs) inputs-so
 
-        given : List (List ℕ)
-        given = emptied (map lacks operands) (operands_of inv')
+      status-so : status_by (does.Util one.without) (plain_status (command_of inv') (some_lacks operands)) its-texts
+          ≡ status_of (command_of inv') (some_lacks operands) (selects_for (command_of inv') its-inputs)
+      status-so =
+          ap (λ selected. if is_grep one.without then grep_status (is_quiet one.without) plain selected else plain) selects-so
+          ∙ ap (λ is. if is then grep_status (is_quiet one.without) plain selected else plain) (grep-is one.without ∙ ap grep_by one.asks)
+          ∙ ap (λ quiet. if grep_by (with_operands given (command_of inv')) then grep_status quiet plain selected else plain) (quiet-is one.without ∙ ap quiet_by one.asks)
+          ∙ status-for given (command_of inv') (some_lacks operands) selected
+        where
+          plain : ℕ
+          plain = plain_status (command_of inv') (some_lacks operands)
 
-        selected : Bool
-        selected = selects_for (command_of inv') its-inputs
+          given : List (List ℕ)
+          given = emptied (map lacks operands) (operands_of inv')
 
-    pub means-so : chain_means (stage ∷ []) stream files ≡ left_by (command_of inv') its-inputs (some_lacks operands)
-    means-so = ap (λ (it : Stage). stage_means it stream files) one.is ∙ (λ i. record { output = output-so i; files = []; status = status-so i })
+          selected : Bool
+          selected = selects_for (command_of inv') its-inputs
 
-  -- the words that are noted
-  pub words-so : words_at 1 (stage ∷ []) ≡ words_noted inv' operands
-  words-so =
-      ap (λ (it : Stage). words_at 1 (it ∷ [])) one.is
-      ∙ append-nil (flat_map (λ words. replicate (times 1 one.without) words) (words_with one.without (inputs_of one.without)))
-      ∙ each-once (has_map (class_of one.without) && (inputs_of one.without == 1)) (words_with one.without (inputs_of one.without))
-      ∙ ap (λ is. if is || (inputs_of one.without == 0) then [] else words_of one.without ∷ []) (cat-is one.without ∙ ap cat_by one.asks ∙ cat-emptied (emptied (map lacks operands) (operands_of inv')) (command_of inv') ∙ sym (cat-is inv'))
-      ∙ ap (λ none. if is_cat inv' || none then [] else words_of one.without ∷ [])
-      (ap (λ it. it == 0) (reads-all inv' operands one.without one.asks named built (few-ins operands few)) ∙ none-read (joins_by (command_of one.without)) (length (ins_of operands)))
-      ∙ ap (λ (words : List (List ℕ)). if is_cat inv' || (length (ins_of operands) == 0) then [] else words ∷ []) one.words
+      means-so : stage_means stage stream files ≡ left_by (command_of inv') its-inputs (some_lacks operands)
+      means-so = ap (λ (it : Stage). stage_means it stream files) one.is ∙ (λ i. record { output = output-so i; files = []; status = status-so i })
 
-  -- so it is the graph of the invocation, whatever the segment begins with
-  pub graph-so : (from : First) (graph : Graph) → Valid graph.nodes graph.status → are_run graph.nodes ≡ true → paths_read graph.nodes ≡ files_read (stage ∷ [])
-      → paths_written graph.nodes ≡ files_written (stage ∷ []) → list_any (λ cell. is_input cell.kind) graph.nodes ≡ reads_input (stage ∷ []) from
-      → list_any (λ cell. is_output cell.kind) graph.nodes ≡ gives_output (stage ∷ [])
-      → ((input : List ℕ) (files : Components → List ℕ) → outcome graph (source_texts graph.nodes input files) ≡ chain_means (stage ∷ []) (begins_with from input) files)
-      → words_used graph.nodes ≡ words_at 1 (stage ∷ []) → IsGraphOf inv' operands from graph
-  graph-so from graph valid kinds reads writes input output outcome_is used =
-      record {
-        valid = valid;
-        kinds = kinds;
-        reads = reads ∙ files-read;
-        writes = writes ∙ files-written;
-        input = input ∙ ap (λ (it : Stage). reads_input (it ∷ []) from) one.is;
-        output = output ∙ ap (λ (it : Stage). gives_output (it ∷ [])) one.is;
-        outcome_is = λ input files. outcome_is input files ∙ means-so (begins_with from input) files;
-        used = used ∙ words-so;
-      }
+    -- the words that are noted
+    words-so : words_by 1 stage.does ≡ words_noted inv' operands
+    words-so =
+        ap (λ (it : Stage). words_by 1 it.does) one.is
+        ∙ each-once (has_map (class_of one.without) && (inputs_of one.without == 1)) (words_with one.without (inputs_of one.without))
+        ∙ ap (λ is. if is || (inputs_of one.without == 0) then [] else words_of one.without ∷ []) (cat-is one.without ∙ ap cat_by one.asks ∙ cat-emptied (emptied (map lacks operands) (operands_of inv')) (command_of inv') ∙ sym (cat-is inv'))
+        ∙ ap (λ none. if is_cat inv' || none then [] else words_of one.without ∷ [])
+        (ap (λ it. it == 0) (reads-all inv' operands one.without one.asks named built (few-ins operands few)) ∙ none-read (joins_by (command_of one.without)) (length (ins_of operands)))
+        ∙ ap (λ (words : List (List ℕ)). if is_cat inv' || (length (ins_of operands) == 0) then [] else words ∷ []) one.words
 
-  pub graph-all : (segment : List Stage) → segment ≡ stage ∷ [] → (from : First) (result : Result Graph Memory) → IfOk result (λ graph. Valid graph.nodes graph.status)
-      → IfOk result (λ graph. are_run graph.nodes ≡ true) → IfOk result (λ graph. paths_read graph.nodes ≡ files_read segment) → IfOk result (λ graph. paths_written graph.nodes ≡ files_written segment)
-      → IfOk result (λ graph. list_any (λ cell. is_input cell.kind) graph.nodes ≡ reads_input segment from)
-      → IfOk result (λ graph. list_any (λ cell. is_output cell.kind) graph.nodes ≡ gives_output segment)
-      → IfOk result (λ graph. (input : List ℕ) (files : Components → List ℕ) → outcome graph (source_texts graph.nodes input files) ≡ chain_means segment (begins_with from input) files)
-      → IfOk result (λ graph. words_used graph.nodes ≡ words_at 1 segment) → IfOk result (λ graph. IsGraphOf inv' operands from graph)
-  graph-all segment is from (Ok graph) valid kinds reads writes input output outcome_is used =
-      graph-so from graph valid kinds (reads ∙ ap files_read is) (writes ∙ ap files_written is) (input ∙ ap (λ (it : List Stage). reads_input it from) is) (output ∙ ap gives_output is)
-      (λ text files. outcome_is text files ∙ ap (λ (it : List Stage). chain_means it (begins_with from text) files) is) (used ∙ ap (words_at 1) is)
-  graph-all segment is from (Err error) valid kinds reads writes input output outcome_is used = tt
+-- one stage alone
+apart-of : (read written : List Components) → written ≡ [] → list_any is_null_path read ≡ false → ArePathsApart read written
+apart-of read written none null =
+    subst (ArePathsApart read) (sym none) (record { apart = refl; once = refl; files = ap (λ paths. list_any is_null_path paths) (append-nil read) ∙ null })
+
+module _ (inv' : Inv) (operands : List Operand) (stage : Stage) (one : IsStageOf inv' operands stage) where
+  pub one-written : files_written (stage ∷ []) ≡ []
+  one-written = ap (λ (it : List Components). it ++ []) (written-so inv' operands stage one)
+
+  pub one-there : (held : Option Files) → IfSome held NoWriterOut → IfSome held (λ files. AllStand files operands) → IfSome held (λ files. AllThere files (stage ∷ []))
+  one-there None whole stand = tt
+  one-there (Some files) whole stand = (stage-there inv' operands stage one files whole stand, tt)
+
+  module _ (built : is_built_of inv' ≡ true) (named : AreNamed (operands_of inv') operands) (few : length operands + 1 < 2 ^ 32) where
+    pub one-stage : list_all is_stage (stage ∷ []) ≡ true
+    one-stage = ap (λ test. test && true) (is-stage inv' operands stage one built named few)
+
+    pub one-apart : ArePathsApart (files_read (stage ∷ [])) (files_written (stage ∷ []))
+    one-apart =
+        apart-of (files_read (stage ∷ [])) (files_written (stage ∷ [])) one-written
+        (ap (λ paths. list_any is_null_path paths) (append-nil (filter_map file_in (S.ins_of stage))) ∙ no-null-in inv' operands stage one built named few)
+
+    pub one-asks : (from : First) → segment_asks (stage ∷ []) from ≡ command_asks inv' operands from
+    one-asks from = λ i. record {
+      output = λ input files. (means-so inv' operands stage one built named few (begins_with from input) (bytes_at files) i).output;
+      status = λ input files. (means-so inv' operands stage one built named few (begins_with from input) (bytes_at files) i).status;
+      reads = is_shell_input from && list_any is_stream (ins-so inv' operands stage one i);
+      noted = (append-nil (words_by 1 stage.does) ∙ words-so inv' operands stage one built named few) i;
+    }
+
+-- THE STAGES OF A PIPELINE
+-- one more stage
+pub stages-more : (members : List Member) (stages : List Stage) (member : Member) (stage : Stage) → AreStagesOf members stages → IsStageOf member.inv member.operands.items stage
+    → AreStagesOf (members ++ member ∷ []) (stages ++ stage ∷ [])
+stages-more [] [] member stage are one = (one, tt)
+stages-more [] (other ∷ stages) member stage are one = absurd are
+stages-more (first ∷ members) [] member stage are one = absurd are
+stages-more (first ∷ members) (other ∷ stages) member stage are one = (are.0, stages-more members stages member stage are.1 one)
+
+pub as-many-stages : (members : List Member) (stages : List Stage) → AreStagesOf members stages → length stages ≡ length members
+as-many-stages [] [] are = refl
+as-many-stages [] (stage ∷ stages) are = absurd are
+as-many-stages (member ∷ members) [] are = absurd are
+as-many-stages (member ∷ members) (stage ∷ stages) are = ap suc (as-many-stages members stages are.1)
+
+-- none writes a file, and each file that is read is there
+pub all-written : (members : List Member) (stages : List Stage) → AreStagesOf members stages → files_written stages ≡ []
+all-written [] [] are = refl
+all-written [] (stage ∷ stages) are = absurd are
+all-written (member ∷ members) [] are = absurd are
+all-written (member ∷ members) (stage ∷ stages) are =
+    ap (λ (it : List Components). it ++ files_written stages) (written-so member.inv member.operands.items stage are.0) ∙ all-written members stages are.1
+
+there-in : (files : Files) → NoWriterOut files → (members : List Member) (stages : List Stage) → AreStagesOf members stages → AllNamesStand files members → AllThere files stages
+there-in files whole [] [] are stand = tt
+there-in files whole [] (stage ∷ stages) are stand = absurd are
+there-in files whole (member ∷ members) [] are stand = absurd are
+there-in files whole (member ∷ members) (stage ∷ stages) are stand =
+    (stage-there member.inv member.operands.items stage are.0 files whole stand.0, there-in files whole members stages are.1 stand.1)
+
+pub all-there : (held : Option Files) (members : List Member) (stages : List Stage) → AreStagesOf members stages → IfSome held NoWriterOut
+    → IfSome held (λ files. AllNamesStand files members) → IfSome held (λ files. AllThere files stages)
+all-there None members stages are whole stand = tt
+all-there (Some files) members stages are whole stand = there-in files whole members stages are stand
+
+-- each can be run, and none reads the null device
+pub all-stages : (members : List Member) (stages : List Stage) → AreStagesOf members stages → AllCanRun members → list_all is_stage stages ≡ true
+all-stages [] [] are can = refl
+all-stages [] (stage ∷ stages) are can = absurd are
+all-stages (member ∷ members) [] are can = absurd are
+all-stages (member ∷ members) (stage ∷ stages) are can =
+    ap (λ test. test && list_all is_stage stages) (is-stage member.inv member.operands.items stage are.0 can.0.built can.0.named can.0.few) ∙ all-stages members stages are.1 can.1
+
+no-null-read : (members : List Member) (stages : List Stage) → AreStagesOf members stages → AllCanRun members → list_any is_null_path (files_read stages) ≡ false
+no-null-read [] [] are can = refl
+no-null-read [] (stage ∷ stages) are can = absurd are
+no-null-read (member ∷ members) [] are can = absurd are
+no-null-read (member ∷ members) (stage ∷ stages) are can =
+    list_any-append is_null_path (filter_map file_in (S.ins_of stage)) (files_read stages)
+    ∙ ap (λ null. null || list_any is_null_path (files_read stages)) (no-null-in member.inv member.operands.items stage are.0 can.0.built can.0.named can.0.few)
+    ∙ no-null-read members stages are.1 can.1
+
+pub all-apart : (members : List Member) (stages : List Stage) → AreStagesOf members stages → AllCanRun members → ArePathsApart (files_read stages) (files_written stages)
+all-apart members stages are can = apart-of (files_read stages) (files_written stages) (all-written members stages are) (no-null-read members stages are can)
+
+-- each reads the output of the one before
+left_through : List Member → List ℕ → (Components → List ℕ) → Outcome
+left_through members stream files = record { output = output_through members files stream; files = []; status = status_through members files stream }
+
+means-all : (members : List Member) (stages : List Stage) → AreStagesOf members stages → AllCanRun members → (stream : List ℕ) (files : Components → List ℕ)
+    → chain_means stages stream files ≡ left_through members stream files
+unfolding left_through
+means-all [] [] are can stream files = refl
+means-all [] (stage ∷ stages) are can stream files = absurd are
+means-all (member ∷ members) [] are can stream files = absurd are
+means-all (member ∷ []) (stage ∷ []) are can stream files = means-so member.inv member.operands.items stage are.0 can.0.built can.0.named can.0.few stream files
+means-all (member ∷ []) (stage ∷ next ∷ stages) are can stream files = absurd are.1
+means-all (member ∷ other ∷ members) (stage ∷ []) are can stream files = absurd are.1
+means-all (member ∷ other ∷ members) (stage ∷ next ∷ stages) are can stream files =
+    ap (λ (it : Outcome). then_left it (chain_means (next ∷ stages) it.output files)) (means-so member.inv member.operands.items stage are.0 can.0.built can.0.named can.0.few stream files)
+    ∙ ap (then_left (left_by (command_of member.inv) (member_inputs member files stream) (some_lacks member.operands.items)))
+    (means-all (other ∷ members) (next ∷ stages) are.1 can.1 (member_output member files stream) files)
+
+reads-all-first : (members : List Member) (stages : List Stage) → AreStagesOf members stages → reads_stream stages ≡ reads_first members
+reads-all-first [] [] are = refl
+reads-all-first [] (stage ∷ stages) are = absurd are
+reads-all-first (member ∷ members) [] are = absurd are
+reads-all-first (member ∷ members) (stage ∷ stages) are = ap (λ (it : List In). list_any is_stream it) (ins-so member.inv member.operands.items stage are.0)
+
+words-all : (members : List Member) (stages : List Stage) → AreStagesOf members stages → AllCanRun members → words_at 1 stages ≡ noted_of members
+words-all [] [] are can = refl
+words-all [] (stage ∷ stages) are can = absurd are
+words-all (member ∷ members) [] are can = absurd are
+words-all (member ∷ members) (stage ∷ stages) are can =
+    ap (λ (it : List (List (List ℕ))). it ++ words_at 1 stages) (words-so member.inv member.operands.items stage are.0 can.0.built can.0.named can.0.few)
+    ∙ ap (λ (it : List (List (List ℕ))). words_noted member.inv member.operands.items ++ it) (words-all members stages are.1 can.1)
+
+pub all-asks : (members : List Member) (stages : List Stage) → AreStagesOf members stages → AllCanRun members → (from : First) → segment_asks stages from ≡ pipeline_asks members from
+unfolding left_through
+all-asks members stages are can from = λ i. record {
+  output = λ input files. (means-all members stages are can (begins_with from input) (bytes_at files) i).output;
+  status = λ input files. (means-all members stages are can (begins_with from input) (bytes_at files) i).status;
+  reads = is_shell_input from && reads-all-first members stages are i;
+  noted = words-all members stages are can i;
+}
+
+pub ruleset stage_steps = (stages-more)

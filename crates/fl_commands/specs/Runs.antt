@@ -1,4 +1,4 @@
--- What comes of a utility that is run over its inputs (own).
+-- What comes of utilities that are run over their inputs (own).
 use Rattle.std.specs.Prelude.{◌≡◌, ◌≤◌, ℕ, List, [], ◌++◌, ◌&&◌, Bool, Option, Some, if◌then◌else◌}
 use Rattle.std.specs.List.{list_any}
 use Rattle.std.specs.Option.{option_map}
@@ -15,7 +15,9 @@ use Rattle.fl_segments.specs.Stages.{is_shell_input, is_stream}
 use Rattle.fl_segments.specs.declared.stages.First.{First}
 use Rattle.fl_commands.specs.Inner.Stages.{inputs_with, some_lacks, words_noted}
 use Rattle.fl_commands.specs.Inputs.{output_for, selects_for, status_of}
+use Rattle.fl_commands.specs.Members.{noted_of, output_through, reads_first, status_through}
 use Rattle.fl_commands.specs.Operands.{ins_of}
+use Rattle.fl_commands.specs.declared.members.Member.{Member}
 use Rattle.fl_commands.specs.declared.operands.Operand.{Operand}
 use Rattle.fl_commands.specs.declared.runs.Ended.{Ended}
 use Rattle.fl_commands.specs.declared.runs.Ended.TheVariants as ended
@@ -50,32 +52,62 @@ pub record NoFewer (old new : Counts) : Type 0 where
   pub output : old.output ≤ new.output
   pub tree : old.tree ≤ new.tree
 
+-- what is asked for: what is written and the status that is left, for the text of the input and the files; whether the input is read; and the
+-- words that are noted
+pub record Asks : Type 0 where
+  pub output : List ℕ → Files → List ℕ
+  pub status : List ℕ → Files → ℕ
+  pub reads : Bool
+  pub noted : List (List (List ℕ))
+
+-- what is left of the input
+abbrev pub left_behind : Bool → Option (List ℕ) → Option (List ℕ)
+left_behind reads left = if reads then option_map (λ _. []) left else left
+
+-- what is asked for ran
+pub record Runs (asks : Asks) (tree tree' : TreeState) (left left' taken taken' : Option (List ℕ)) (old new : Counts) (used used' : Option (List (List (List ℕ)))) (came : Ended) : Type 0 where
+  -- where it has come to its end, its output is written, its status is left, the input is read to its end, and its words are noted
+  pub output : (input : List ℕ) (files : Files) → tree.held ≡ Some files → left ≡ Some input → IfDone came (λ status. taken' ≡ then_bytes taken (asks.output input files))
+  pub status : (input : List ℕ) (files : Files) → tree.held ≡ Some files → left ≡ Some input → IfDone came (λ status. status ≡ asks.status input files)
+  pub read : IfDone came (λ status. left' ≡ left_behind asks.reads left)
+  pub noted : IfDone came (λ status. used' ≡ option_map (λ used. used ++ asks.noted) used)
+  -- whatever comes, a front of its output is written
+  pub part : (input : List ℕ) (files : Files) → tree.held ≡ Some files → left ≡ Some input → GrewByPrefix taken taken' (asks.output input files)
+  pub held : tree'.held ≡ tree.held
+  pub lent : Balanced tree tree'
+  pub later : NoFewer old new
+  pub cause : HasCause came old new
+
 -- the run's own input is read: the stream begins with it, and an operand or the lack of one names the stream
 abbrev pub reads_input : List Operand → First → Bool
 reads_input operands from = is_shell_input from && list_any is_stream (ins_of operands)
-
--- what is left of the input then
-abbrev pub left_behind : Bool → Option (List ℕ) → Option (List ℕ)
-left_behind reads left = if reads then option_map (λ _. []) left else left
 
 -- the texts that an invocation reads, where the input has this text
 abbrev pub inputs_at : Inv → List Operand → First → List ℕ → Files → List Input
 inputs_at inv operands from input files = inputs_with (operands_of inv) operands (begins_with from input) (bytes_at files)
 
 -- an invocation with these operands ran
-pub record RunsCommand (inv : Inv) (operands : List Operand) (from : First) (tree tree' : TreeState) (left left' taken taken' : Option (List ℕ)) (old new : Counts)
-    (used used' : Option (List (List (List ℕ)))) (came : Ended) : Type 0 where
-  -- where it has come to its end, its output is written, its status is left, the input is read to its end, and its words are noted
-  pub output : (input : List ℕ) (files : Files) → tree.held ≡ Some files → left ≡ Some input
-      → IfDone came (λ status. taken' ≡ then_bytes taken (output_for (command_of inv) (inputs_at inv operands from input files)))
-  pub status : (input : List ℕ) (files : Files) → tree.held ≡ Some files → left ≡ Some input
-      → IfDone came (λ status. status ≡ status_of (command_of inv) (some_lacks operands) (selects_for (command_of inv) (inputs_at inv operands from input files)))
-  pub read : IfDone came (λ status. left' ≡ left_behind (reads_input operands from) left)
-  pub noted : IfDone came (λ status. used' ≡ option_map (λ used. used ++ words_noted inv operands) used)
-  -- whatever comes, a front of its output is written
-  pub part : (input : List ℕ) (files : Files) → tree.held ≡ Some files → left ≡ Some input
-      → GrewByPrefix taken taken' (output_for (command_of inv) (inputs_at inv operands from input files))
-  pub held : tree'.held ≡ tree.held
-  pub lent : Balanced tree tree'
-  pub later : NoFewer old new
-  pub cause : HasCause came old new
+abbrev pub command_asks : Inv → List Operand → First → Asks
+command_asks inv operands from = record {
+  output = λ input files. output_for (command_of inv) (inputs_at inv operands from input files);
+  status = λ input files. status_of (command_of inv) (some_lacks operands) (selects_for (command_of inv) (inputs_at inv operands from input files));
+  reads = reads_input operands from;
+  noted = words_noted inv operands;
+}
+
+abbrev pub RunsCommand : Inv → List Operand → First → TreeState → TreeState → Option (List ℕ) → Option (List ℕ) → Option (List ℕ) → Option (List ℕ) → Counts → Counts
+    → Option (List (List (List ℕ))) → Option (List (List (List ℕ))) → Ended → Type 0
+RunsCommand inv operands from tree tree' left left' taken taken' old new used used' came = Runs (command_asks inv operands from) tree tree' left left' taken taken' old new used used' came
+
+-- the members of a pipeline ran, each over the output of the one before
+abbrev pub pipeline_asks : List Member → First → Asks
+pipeline_asks members from = record {
+  output = λ input files. output_through members (bytes_at files) (begins_with from input);
+  status = λ input files. status_through members (bytes_at files) (begins_with from input);
+  reads = is_shell_input from && reads_first members;
+  noted = noted_of members;
+}
+
+abbrev pub RunsPipeline : List Member → First → TreeState → TreeState → Option (List ℕ) → Option (List ℕ) → Option (List ℕ) → Option (List ℕ) → Counts → Counts
+    → Option (List (List (List ℕ))) → Option (List (List (List ℕ))) → Ended → Type 0
+RunsPipeline members from tree tree' left left' taken taken' old new used used' came = Runs (pipeline_asks members from) tree tree' left left' taken taken' old new used used' came

@@ -1,16 +1,19 @@
 //! Utilities over what their operands name.
 //!
-//! `look_at` tells what the operands of a utility name, and `run_command` runs it over that, as a graph on an engine, and writes its output
-//! to any sink.
+//! `look_at` tells what the operands of a utility name. `run_command` runs it over that, and `run_pipeline` several utilities, each over the
+//! output of the one before: as one graph on an engine, whose output is written to any sink.
 //!
-//! `specs/Operands.antt` says what operands name, and which inputs they are; `specs/Inputs.antt` what a utility makes of its inputs, and
-//! `specs/Runs.antt` what comes of a run. `specs/Inner/` has words that only proofs need.
+//! `specs/Operands.antt` says what operands name, and which inputs they are; `specs/Inputs.antt` what a utility makes of its inputs,
+//! `specs/Members.antt` what the members of a pipeline make of theirs, and `specs/Runs.antt` what comes of a run. `specs/Inner/` has words that
+//! only proofs need.
 #![tactic(auto)]
 
+mod members;
 mod operands;
 mod readers;
 mod runs;
 mod stages;
 
+pub use members::Member;
 pub use operands::{Operand, ins_of, lacking, lacks, look_at};
-pub use runs::{Commanded, Ended, run_command};
+pub use runs::{Commanded, Ended, run_command, run_pipeline};

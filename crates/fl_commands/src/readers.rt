@@ -1,18 +1,20 @@
-//! The readers of the files among a utility's inputs.
+//! The readers of the files that stages read.
 ghost use Rattle.std.specs.Prelude.{◌≡◌, ℕ, ◌+◌, ◌≤◌, ◌∷◌, ◌++◌, [], false, true, length, map, Some, IfErr, IfOk, IfSome, OnErr, OnOk};
 ghost use Rattle.std.specs.List.{filter_map};
 ghost use Rattle.ps_world.specs.Counts.{Counts, Rose};
 ghost use Rattle.ps_world.specs.Files.{Files, IsFileAt, bytes_at};
 ghost use Rattle.ps_world.specs.TreeState.{AreOut, Balanced, TreeState};
 ghost use Rattle.fl_core.specs.OwnEnds.{each_of};
-ghost use Rattle.fl_segments.specs.Stages.{file_in};
+ghost use Rattle.fl_segments.specs.Stages.{file_in, files_read, ins_of};
+ghost use Rattle.fl_commands.specs.Inner.Overs.{Opens};
+ghost use Rattle.fl_commands.specs.Inner.Segments.{AllThere};
 ghost use Rattle.fl_commands.specs.Readers.{AreThere, IsThere, has_count};
 
-use fl_segments::In;
+use fl_segments::{Does, In, Stage};
 use ps_world::{Path, Tree, WorldErr};
 use std::alloc::Global;
 
-/// Readers that a tree has lent, and the paths of their files, in the order of a utility's inputs.
+/// Readers that a tree has lent, and the paths of their files, in the order of the inputs.
 pub(crate) struct Opened<R> {
     /// The readers. Each gets its number with the graph that it is read by.
     pub(crate) readers: Vec<(u32, R)>,
@@ -39,20 +41,16 @@ impl<R> Opened<R> {
     }
 }
 
-/// Opens the files among inputs, in their order.
+/// Opens the files that stages read, in their order.
 ///
 /// An error leaves none out. A fault is the tree's.
 pub(crate) fn open_files<T: Tree>(
     alloc: Global,
-    ins: &[In],
+    segment: &[Stage],
     tree: &mut T,
 ) -> Result<Opened<T::Reader>, WorldErr>
-    requires there { IfSome (T.state tree.old).held (λ files. AreThere files ins.now) }
-    ensures texts { (files : Files) → (T.state tree.old).held ≡ Some files
-        → IfOk result (λ opened. each_of T.Reader.left opened.readers.items ≡ map (λ path. Some (bytes_at files path)) (filter_map file_in ins.now)) }
-    ensures count { IfOk result (λ opened. length opened.readers.items ≡ length (filter_map file_in ins.now)) }
-    ensures fresh { IfOk result (λ opened. has_count (each_of T.Reader.faults opened.readers.items) ≡ false) }
-    ensures out { IfOk result (λ opened. AreOut (length opened.readers.items) (T.state tree.old) (T.state tree.new)) }
+    requires there { IfSome (T.state tree.old).held (λ files. AllThere files segment.now) }
+    ensures opens { IfOk result (λ opened. Opens T.Reader.left T.Reader.faults segment.now (T.state tree.old) (T.state tree.new) opened.readers.items) }
     ensures paths { IfOk result (λ opened. length opened.paths.items ≡ length opened.readers.items) }
     ensures back { OnErr result (Balanced (T.state tree.old) (T.state tree.new)) }
     ensures held { (T.state tree.new).held ≡ (T.state tree.old).held }
@@ -62,13 +60,59 @@ pub(crate) fn open_files<T: Tree>(
         readers: Vec::new(alloc),
         paths: Vec::new(alloc),
     };
-    match open_each(ins, &mut opened, tree) {
+    match open_stages(segment, &mut opened, tree) {
         Ok(()) => Ok(opened),
         Err(error) => {
             let Opened { readers, paths } = opened;
             give_back(readers, paths, tree);
             Err(error)
         }
+    }
+}
+
+/// Opens the files that stages read, behind those that are open.
+fn open_stages<T: Tree>(
+    segment: &[Stage],
+    opened: &mut Opened<T::Reader>,
+    tree: &mut T,
+) -> Result<(), WorldErr>
+    requires there { IfSome (T.state tree.old).held (λ files. AllThere files segment.now) }
+    ensures texts { (files : Files) → (T.state tree.old).held ≡ Some files
+        → OnOk result (each_of T.Reader.left opened.new.readers.items ≡ each_of T.Reader.left opened.old.readers.items ++ map (λ path. Some (bytes_at files path)) (files_read segment.now)) }
+    ensures count { OnOk result (length opened.new.readers.items ≡ length opened.old.readers.items + length (files_read segment.now)) }
+    ensures fresh { has_count (each_of T.Reader.faults opened.old.readers.items) ≡ false → has_count (each_of T.Reader.faults opened.new.readers.items) ≡ false }
+    ensures out { (first : TreeState) → AreOut (length opened.old.readers.items) first (T.state tree.old) → AreOut (length opened.new.readers.items) first (T.state tree.new) }
+    ensures paths { length opened.old.paths.items ≡ length opened.old.readers.items → length opened.new.paths.items ≡ length opened.new.readers.items }
+    ensures held { (T.state tree.new).held ≡ (T.state tree.old).held }
+    ensures cause { Counts (T.faults tree.old) (T.faults tree.new) result }
+{
+    let mut left = segment;
+    while let [stage, rest @ ..] = left {
+        open_stage(stage, opened, tree)?;
+        left = rest;
+    }
+    Ok(())
+}
+
+/// Opens the files that a stage reads, behind those that are open.
+fn open_stage<T: Tree>(
+    stage: &Stage,
+    opened: &mut Opened<T::Reader>,
+    tree: &mut T,
+) -> Result<(), WorldErr>
+    requires there { IfSome (T.state tree.old).held (λ files. AreThere files (ins_of stage.now)) }
+    ensures texts { (files : Files) → (T.state tree.old).held ≡ Some files
+        → OnOk result (each_of T.Reader.left opened.new.readers.items ≡ each_of T.Reader.left opened.old.readers.items ++ map (λ path. Some (bytes_at files path)) (filter_map file_in (ins_of stage.now))) }
+    ensures count { OnOk result (length opened.new.readers.items ≡ length opened.old.readers.items + length (filter_map file_in (ins_of stage.now))) }
+    ensures fresh { has_count (each_of T.Reader.faults opened.old.readers.items) ≡ false → has_count (each_of T.Reader.faults opened.new.readers.items) ≡ false }
+    ensures out { (first : TreeState) → AreOut (length opened.old.readers.items) first (T.state tree.old) → AreOut (length opened.new.readers.items) first (T.state tree.new) }
+    ensures paths { length opened.old.paths.items ≡ length opened.old.readers.items → length opened.new.paths.items ≡ length opened.new.readers.items }
+    ensures held { (T.state tree.new).held ≡ (T.state tree.old).held }
+    ensures cause { Counts (T.faults tree.old) (T.faults tree.new) result }
+{
+    match stage.does {
+        Does::Util(_) => open_each(stage.ins.as_slice(), opened, tree),
+        Does::Skip => Ok(()),
     }
 }
 

@@ -1,28 +1,31 @@
-//! Runs of a utility over what its operands name.
-ghost use Rattle.std.specs.Prelude.{◌≡◌, ◌+◌, ◌<◌, ◌^◌, [], length, true, IfOk, IfSome, OnErr};
-ghost use Rattle.ps_world.specs.Counts.{Counts};
+//! Runs of utilities over what their operands name.
+ghost use Rattle.std.specs.Prelude.{◌≡◌, ◌+◌, ◌<◌, ◌≤◌, ◌^◌, [], length, true, IfSome};
+ghost use Rattle.std.specs.List.{list_all};
 ghost use Rattle.ps_world.specs.Files.{NoWriterOut};
-ghost use Rattle.ps_world.specs.TreeState.{Balanced};
 ghost use Rattle.ut_args.specs.Built.{is_built_of};
 ghost use Rattle.ut_args.specs.Inputs.{operands_of};
-ghost use Rattle.fl_graph.specs.Paths.{paths_read, paths_written};
+ghost use Rattle.fl_graph.specs.Paths.{ArePathsApart, paths_read, paths_written};
 ghost use Rattle.fl_graph.specs.Valid.{Valid};
 ghost use Rattle.fl_classes.specs.Kinds.{are_run};
-ghost use Rattle.fl_commands.specs.Inner.Overs.{Opens, RunsOver, ended_by, ended_of};
+ghost use Rattle.fl_segments.specs.Stages.{files_read, files_written, is_stage};
+ghost use Rattle.fl_commands.specs.Inner.Overs.{RunsOver, ended_by, ended_of};
+ghost use Rattle.fl_commands.specs.Inner.Segments.{AllThere, segment_asks};
+ghost use Rattle.fl_commands.specs.Members.{AllCanRun, AllNamesStand};
 ghost use Rattle.fl_commands.specs.Operands.{AllStand, AreNamed};
-ghost use Rattle.fl_commands.specs.Runs.{RunsCommand, counts_of};
+ghost use Rattle.fl_commands.specs.Runs.{Runs, RunsCommand, RunsPipeline, counts_of};
 
-use crate::operands::{Operand, ins_of};
+use crate::members::Member;
+use crate::operands::Operand;
 use crate::readers::{Opened, give_back, open_files};
-use crate::stages::graph_of;
+use crate::stages::{stage_of, stages_of};
 use fl_core::{Came, Ends, Engine, Over, number_ends, run_own};
 use fl_graph::Graph;
-use fl_segments::First;
+use fl_segments::{First, MAX_STAGES, Stage, chain};
 use ps_world::{Gate, Sink, Source, Tree, WorldErr};
 use std::alloc::Global;
 use ut_args::Inv;
 
-/// How a run of a utility came out.
+/// How a run of utilities came out.
 #[derive(Clone, Copy, Debug, PartialEq, Eq)]
 pub enum Ended {
     /// It has run to its end, with this exit status.
@@ -37,7 +40,7 @@ pub enum Ended {
     Memory,
 }
 
-/// How a run of a utility came out, with the input and output that it was handed.
+/// How a run of utilities came out, with the input and output that it was handed.
 pub struct Commanded<I, O> {
     pub ended: Ended,
     pub input: I,
@@ -72,14 +75,97 @@ pub fn run_command<T: Tree, I: Source + Send, O: Sink + Send, G: Gate, X: Engine
         (counts_of (I.faults input) (O.faults out) (T.faults tree.old)) (counts_of (I.faults result.input) (O.faults result.out) (T.faults tree.new))
         (X.used engine.old) (X.used engine.new) result.ended }
 {
-    let Ok(graph) = graph_of(alloc, inv, operands, from) else {
+    let Ok(stage) = stage_of(alloc, inv, operands) else {
         return Commanded {
             ended: Ended::Memory,
             input,
             out,
         };
     };
-    let opened = match open_operands(alloc, operands, tree) {
+    run_segment(
+        alloc,
+        [stage].as_slice(),
+        from,
+        tree,
+        input,
+        out,
+        gate,
+        engine,
+    )
+}
+
+/// Runs the members of a pipeline (XCU 2.9.2), each over the output of the one before, as one graph on the engine, and writes what the last
+/// one writes.
+///
+/// Nothing is gathered between two members: bytes go on as they are written. The stream of the first begins so, and what is said of a utility
+/// (`run_command`) holds of each member. The status is the last one's.
+pub fn run_pipeline<T: Tree, I: Source + Send, O: Sink + Send, G: Gate, X: Engine>(
+    alloc: Global,
+    members: &[Member],
+    from: &First,
+    tree: &mut T,
+    input: I,
+    out: O,
+    gate: &G,
+    engine: &mut X,
+) -> Commanded<I, O>
+    requires some { 1 ≤ length members.now }
+    requires most { length members.now ≤ MAX_STAGES }
+    requires ready { AllCanRun members.now }
+    requires stand { IfSome (T.state tree.old).held (λ files. AllNamesStand files members.now) }
+    requires whole { IfSome (T.state tree.old).held NoWriterOut }
+    ensures { RunsPipeline members.now from.now (T.state tree.old) (T.state tree.new) (I.left input) (I.left result.input) (O.taken out) (O.taken result.out)
+        (counts_of (I.faults input) (O.faults out) (T.faults tree.old)) (counts_of (I.faults result.input) (O.faults result.out) (T.faults tree.new))
+        (X.used engine.old) (X.used engine.new) result.ended }
+{
+    let Ok(stages) = stages_of(alloc, members) else {
+        return Commanded {
+            ended: Ended::Memory,
+            input,
+            out,
+        };
+    };
+    run_segment(
+        alloc,
+        stages.as_slice(),
+        from,
+        tree,
+        input,
+        out,
+        gate,
+        engine,
+    )
+}
+
+/// Runs stages that write no file.
+fn run_segment<T: Tree, I: Source + Send, O: Sink + Send, G: Gate, X: Engine>(
+    alloc: Global,
+    segment: &[Stage],
+    from: &First,
+    tree: &mut T,
+    input: I,
+    out: O,
+    gate: &G,
+    engine: &mut X,
+) -> Commanded<I, O>
+    requires some { 1 ≤ length segment.now }
+    requires most { length segment.now ≤ MAX_STAGES }
+    requires stages { list_all is_stage segment.now ≡ true }
+    requires paths { ArePathsApart (files_read segment.now) (files_written segment.now) }
+    requires writes { files_written segment.now ≡ [] }
+    requires there { IfSome (T.state tree.old).held (λ files. AllThere files segment.now) }
+    ensures { Runs (segment_asks segment.now from.now) (T.state tree.old) (T.state tree.new) (I.left input) (I.left result.input) (O.taken out) (O.taken result.out)
+        (counts_of (I.faults input) (O.faults out) (T.faults tree.old)) (counts_of (I.faults result.input) (O.faults result.out) (T.faults tree.new))
+        (X.used engine.old) (X.used engine.new) result.ended }
+{
+    let Ok(graph) = chain(alloc, segment, from) else {
+        return Commanded {
+            ended: Ended::Memory,
+            input,
+            out,
+        };
+    };
+    let opened = match open_files(alloc, segment, tree) {
         Ok(opened) => opened,
         Err(error) => {
             return Commanded {
@@ -108,7 +194,7 @@ pub fn run_command<T: Tree, I: Source + Send, O: Sink + Send, G: Gate, X: Engine
     }
 }
 
-/// How a run of a utility came out, by how that of its graph did. It has no writers.
+/// How a run of utilities came out, by how that of its graph did. It has no writers.
 fn how_ended(came: Came) -> Ended
     ensures { result ≡ ended_by came }
 {
@@ -129,25 +215,6 @@ fn of_tree(error: WorldErr) -> Ended
         WorldErr::Failed => Ended::Tree,
         WorldErr::Memory => Ended::Memory,
     }
-}
-
-/// Opens the files that operands name, in their order. An error leaves none out.
-#[tactic(auto, using(crate::proofs::InputLemmas::input_steps))]
-fn open_operands<T: Tree>(
-    alloc: Global,
-    operands: &[Operand],
-    tree: &mut T,
-) -> Result<Opened<T::Reader>, WorldErr>
-    requires stand { IfSome (T.state tree.old).held (λ files. AllStand files operands.now) }
-    requires whole { IfSome (T.state tree.old).held NoWriterOut }
-    ensures opens { IfOk result (λ opened. Opens T.Reader.left T.Reader.faults operands.now (T.state tree.old) (T.state tree.new) opened.readers.items) }
-    ensures paths { IfOk result (λ opened. length opened.paths.items ≡ length opened.readers.items) }
-    ensures back { OnErr result (Balanced (T.state tree.old) (T.state tree.new)) }
-    ensures held { (T.state tree.new).held ≡ (T.state tree.old).held }
-    ensures cause { Counts (T.faults tree.old) (T.faults tree.new) result }
-{
-    let ins = ins_of(alloc, operands)?;
-    open_files(alloc, ins.as_slice(), tree)
 }
 
 /// Runs a graph that writes no file over these readers, the input and the output.

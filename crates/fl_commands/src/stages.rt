@@ -1,36 +1,41 @@
-//! The graph of a utility over what its operands name.
-ghost use Rattle.std.specs.Prelude.{◌≡◌, ◌+◌, ◌<◌, ◌^◌, length, true, IfOk};
-ghost use Rattle.ut_args.specs.Built.{is_built_of};
-ghost use Rattle.ut_args.specs.Inputs.{operands_of};
+//! The stages of utilities over what their operands name.
+ghost use Rattle.std.specs.Prelude.{◌≡◌, ◌∷◌, ◌++◌, [], List, IfOk, OnOk};
 ghost use Rattle.ut_args.specs.Invocations.{command_of};
-ghost use Rattle.fl_commands.specs.Inner.Stages.{IsGraphOf, IsStageOf, plain_status, some_lacks as some_lacks_lem};
-ghost use Rattle.fl_commands.specs.Operands.{AreNamed};
+ghost use Rattle.fl_commands.specs.Inner.Stages.{AreStagesOf, IsStageOf, plain_status, some_lacks as some_lacks_lem};
 
+use crate::members::Member;
 use crate::operands::{Operand, ins_of, lacking, lacks};
-use fl_graph::{Graph, Seq};
-use fl_segments::{Does, First, Out, Stage, chain};
+use fl_graph::Seq;
+use fl_segments::{Does, Out, Stage};
 use ps_lines::{Memory, Text};
 use std::alloc::Global;
 use ut_args::Inv;
 
-/// The graph of a utility, where its segment begins so.
-pub(crate) fn graph_of(
-    alloc: Global,
-    inv: &Inv,
-    operands: &[Operand],
-    from: &First,
-) -> Result<Graph, Memory>
-    requires built { is_built_of inv.now ≡ true }
-    requires named { AreNamed (operands_of inv.now) operands.now }
-    requires few { length operands.now + 1 < 2 ^ 32 }
-    ensures { IfOk result (λ graph. IsGraphOf inv.now operands.now from.now graph) }
+/// The stages of the members of a pipeline, in their order.
+pub(crate) fn stages_of(alloc: Global, members: &[Member]) -> Result<Vec<Stage>, Memory>
+    ensures { IfOk result (λ stages. AreStagesOf members.now stages.items) }
 {
-    let stage = stage_of(alloc, inv, operands)?;
-    chain(alloc, [stage].as_slice(), from)
+    let mut stages = Vec::new(alloc);
+    let mut left = members;
+    while let [member, rest @ ..] = left {
+        add_stage(alloc, member, &mut stages)?;
+        left = rest;
+    }
+    Ok(stages)
+}
+
+/// Puts the stage of a member behind those of others.
+#[tactic(auto, using(crate::proofs::StageLemmas::stage_steps))]
+fn add_stage(alloc: Global, member: &Member, stages: &mut Vec<Stage>) -> Result<(), Memory>
+    ensures { (members : List Member) → AreStagesOf members stages.old.items → OnOk result (AreStagesOf (members ++ member.now ∷ []) stages.new.items) }
+{
+    let stage = stage_of(alloc, &member.inv, member.operands.as_slice())?;
+    stages.push(stage)?;
+    Ok(())
 }
 
 /// The stage of a utility, whose output goes on.
-fn stage_of(alloc: Global, inv: &Inv, operands: &[Operand]) -> Result<Stage, Memory>
+pub(crate) fn stage_of(alloc: Global, inv: &Inv, operands: &[Operand]) -> Result<Stage, Memory>
     ensures { IfOk result (λ stage. IsStageOf inv.now operands.now stage) }
 {
     let flags = lacking(alloc, operands)?;

@@ -137,7 +137,7 @@ fn expect(
 
 /// The words of a command, each behind a bar, what it writes, the status that it leaves, what it leaves of the input, and the words
 /// that are noted of it.
-static COMMANDS: [(&str, &str, u8, &str, &str); 12] = [
+static COMMANDS: [(&str, &str, u8, &str, &str); 17] = [
     ("|cat|f|-|g", "a\nb\nin\nb\nb\nc", 0, "", ""),
     ("|cat|f|no|g", "a\nb\nb\nc", 1, "in\nb\n", ""),
     ("|cat|-|f|-", "in\nb\na\nb\n", 0, "", ""),
@@ -150,6 +150,29 @@ static COMMANDS: [(&str, &str, u8, &str, &str); 12] = [
     ("|grep|-F|b|no", "", 2, "in\nb\n", ""),
     ("|tail|-n|+2|f", "b\n", 0, "in\nb\n", "|tail|-n|+2|f"),
     ("|wc|-l", "2\n", 0, "", "|wc|-l"),
+    (
+        "|grep|-F|b|f|g",
+        "f:b\ng:b\n",
+        0,
+        "in\nb\n",
+        "|grep|-F|b|f|g",
+    ),
+    ("|grep|-F|b|f|no", "f:b\n", 2, "in\nb\n", "|grep|-F|b|f|"),
+    (
+        "|head|-n|1|f|-",
+        "==> f <==\na\n\n==> standard input <==\nin\n",
+        0,
+        "",
+        "|head|-n|1|f|-",
+    ),
+    (
+        "|wc|f|g",
+        "2 2 4 f\n1 2 3 g\n3 4 7 total\n",
+        0,
+        "in\nb\n",
+        "|wc|f|g",
+    ),
+    ("|wc|no|d", "0 0 0 total\n", 1, "in\nb\n", ""),
 ];
 
 #[test]

@@ -188,3 +188,60 @@ fn inputs_are_closed_where_they_are_joined(rt: HostRuntime) -> Result<(), Fail> 
     }
     Ok(())
 }
+
+/// The graph that hands standard input to the file `/g` and on to the output. Its status is 0.
+fn handed_on(rt: &(impl Abort + AllocGlobal)) -> Result<Graph, AllocError> {
+    let alloc = rt.alloc();
+    let written = Path::read(alloc, b"/g")?.expect(rt, "a path");
+    let mut nodes = Vec::new(alloc);
+    nodes.push(node(alloc, NodeKind::Source(From::Input), &[], &[0])?)?;
+    let tee = NodeKind::TeeFile(written, Mode::Append);
+    nodes.push(node(alloc, tee, &[0], &[1])?)?;
+    nodes.push(node(alloc, NodeKind::Sink(To::Output), &[1], &[])?)?;
+    Ok(Graph {
+        nodes: Seq::from_vec(nodes),
+        status: StatusRule::Fixed(0),
+    })
+}
+
+/// Runs it over this input, with a writer that fails at its first call or at none.
+fn run_on(
+    rt: &(impl Abort + AllocGlobal),
+    text: &[u8],
+    fails: bool,
+) -> Result<Ran<MemSource, MemSink, MemSource, MemSink>, AllocError> {
+    let alloc = rt.alloc();
+    let graph = handed_on(rt)?;
+    let readers: Vec<(u32, MemSource)> = Vec::new(alloc);
+    let mut writers = Vec::new(alloc);
+    writers.push((1, MemSink::new(alloc, failing(alloc, fails)?)))?;
+    let ends = Ends {
+        readers,
+        writers,
+        input: MemSource::new(Vec::from_slice(alloc, text)?, Vec::new(alloc)),
+        out: MemSink::new(alloc, Vec::new(alloc)),
+    };
+    assert!(rt; validate(&graph));
+    assert!(rt; are_run(graph.nodes.as_slice()));
+    assert!(rt; have_ends(&graph, &ends));
+    Ok(run_in_turn(alloc, &graph, ends))
+}
+
+#[test]
+fn a_file_gets_what_is_handed_on(rt: HostRuntime) -> Result<(), Fail> {
+    for text in ["", "a\nb"] {
+        let Ran::Done(status, ends) = run_on(&rt, text.as_bytes(), false)? else {
+            return Err(Fail::new("it is not done"));
+        };
+        assert_eq!(rt; status, 0);
+        assert_eq!(rt; ends.out.taken(), text.as_bytes());
+        for (_number, writer) in &ends.writers {
+            assert_eq!(rt; writer.taken(), text.as_bytes());
+        }
+    }
+    let Ran::Fault(node, _ends) = run_on(&rt, b"a", true)? else {
+        return Err(Fail::new("it tells no fault"));
+    };
+    assert_eq!(rt; node, 1);
+    Ok(())
+}

@@ -196,6 +196,7 @@ fn valid_graphs_are_valid(rt: HostRuntime) -> Result<(), Fail> {
         ("read=/f - 0|whole=grep,-F,w 0 1|output 1 -", "1"),
         ("input - 0|whole=wc,-l 0 1|output 1 -", "-"),
         ("input - 0|whole=wc,-w 0 1|output 1 -", "-"),
+        ("input - 0|text - 1|whole=wc,a,b 01 2|output 2 -", "-"),
         ("input - 0|whole=tr,-s,a 0 1|output 1 -", "-"),
         ("input - 0|whole=grep,-n,w 0 1|output 1 -", "1"),
         ("input - 0|map=tail 0 1|output 1 -", "-"),
@@ -323,7 +324,7 @@ fn invocations_are_built(rt: HostRuntime) -> Result<(), Fail> {
     let cases = [
         ("input - 0|whole=paste,- 0 1|output 1 -", "-"),
         ("input - 0|whole=tee 0 1|output 1 -", "-"),
-        ("input - 0|text - 1|whole=wc,a,b 01 2|output 2 -", "-"),
+        ("input - 0|text - 1|whole=paste,a,b 01 2|output 2 -", "-"),
         ("text - 0|drain 0 -|whole=echo - 1|output 1 -", "-"),
         (
             "input - 0|split 0 12|map=paste,- 1 3|map=paste,- 2 4|agg=paste,- 34 5|output 5 -",

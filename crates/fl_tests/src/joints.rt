@@ -9,6 +9,7 @@ ghost use Rattle.ut_args.specs.Built.{is_built_of};
 use fl_graph::{Act, Bytes, MAX_PIECE, Machine, NodeKind, Piece};
 use fl_joints::{Joint, joint};
 use ps_lines::{Memory, Text};
+use ps_world::{Mode, Path};
 use std::alloc::Global;
 use std::test::Fail;
 use ut_args::{ArgFault, Inv, is_built, read_inv};
@@ -294,5 +295,25 @@ fn texts_are_given_and_drained(rt: HostRuntime) -> Result<(), Fail> {
         b"#".as_slice(),
         "drained"
     );
+    Ok(())
+}
+
+/// An input that goes to a file and on.
+#[test]
+fn each_out_has_the_input(rt: HostRuntime) -> Result<(), Fail> {
+    let alloc = rt.alloc();
+    for cuts in 0..8 {
+        for (end, wanted) in [(Piece::End, "a\nb.a\nb.#"), (Piece::Broken, "a\nb!a\nb!#")] {
+            let path = Path::read(alloc, b"/g")?.expect(&rt, "a path");
+            let tee = joint(alloc, &NodeKind::TeeFile(path, Mode::Fresh), 1, 1)?;
+            let mut inputs = Vec::new(alloc);
+            inputs.push(pieces_of(alloc, b"a\nb", cuts, end)?)?;
+            assert_eq!(rt;
+                put_for(alloc, tee, inputs, 2)?.as_slice(),
+                wanted.as_bytes(),
+                "at {cuts}"
+            );
+        }
+    }
     Ok(())
 }

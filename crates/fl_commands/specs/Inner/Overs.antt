@@ -1,6 +1,5 @@
--- A graph that is run over the readers of a utility's files.
+-- A graph that is run over the readers of its files.
 use Rattle.std.specs.Prelude.{◌≡◌, ℕ, List, false, length, map, Option, Some}
-use Rattle.std.specs.List.{filter_map}
 use Rattle.ps_world.specs.Files.{Files, bytes_at}
 use Rattle.ps_world.specs.TreeState.{AreOut, TreeState}
 use Rattle.ps_world.specs.declared.error.WorldErr.{WorldErr}
@@ -10,14 +9,13 @@ use Rattle.fl_core.specs.OwnEnds.{RunsOwn, each_of}
 use Rattle.fl_core.specs.declared.end_lists.Ends.{Ends}
 use Rattle.fl_core.specs.declared.own_ends.Came.{Came}
 use Rattle.fl_core.specs.declared.own_ends.Came.TheVariants as came
-use Rattle.fl_segments.specs.Stages.{file_in}
-use Rattle.fl_commands.specs.Operands.{ins_of}
+use Rattle.fl_segments.specs.Stages.{files_read}
+use Rattle.fl_segments.specs.declared.stages.Stage.{Stage}
 use Rattle.fl_commands.specs.Readers.{has_count}
-use Rattle.fl_commands.specs.declared.operands.Operand.{Operand}
 use Rattle.fl_commands.specs.declared.runs.Ended.{Ended}
 use Rattle.fl_commands.specs.declared.runs.Ended.TheVariants as ended
 
--- how a run of a utility came out, by how that of its graph did
+-- how a run of utilities came out, by how that of its graph did
 abbrev pub ended_by : Came → Ended
 ended_by (came.Done status) = ended.Done status
 ended_by came.Input = ended.Input
@@ -30,10 +28,10 @@ abbrev pub ended_of : WorldErr → Ended
 ended_of error.Failed = ended.Tree
 ended_of error.Memory = ended.Memory
 
--- these readers of the files that operands name are out, and have failed never
-pub record Opens {R : Type 0} (of_reader : R → Option (List ℕ)) (reader_faults : R → ℕ) (operands : List Operand) (tree tree' : TreeState) (readers : List (ℕ × R)) : Type 0 where
-  pub texts : (files : Files) → tree.held ≡ Some files → each_of of_reader readers ≡ map (λ path. Some (bytes_at files path)) (filter_map file_in (ins_of operands))
-  pub count : length readers ≡ length (filter_map file_in (ins_of operands))
+-- these readers of the files of stages are out, and have failed never
+pub record Opens {R : Type 0} (of_reader : R → Option (List ℕ)) (reader_faults : R → ℕ) (segment : List Stage) (tree tree' : TreeState) (readers : List (ℕ × R)) : Type 0 where
+  pub texts : (files : Files) → tree.held ≡ Some files → each_of of_reader readers ≡ map (λ path. Some (bytes_at files path)) (files_read segment)
+  pub count : length readers ≡ length (files_read segment)
   pub fresh : has_count (each_of reader_faults readers) ≡ false
   pub out : AreOut (length readers) tree tree'
 

@@ -1,6 +1,6 @@
--- The one stage of a utility, and its graph.
-use Rattle.std.specs.Prelude.{◌≡◌, ℕ, List, [], ◌∷◌, ◌++◌, Bool, true, ◌&&◌, ◌||◌, ◌==◌, ◌-◌, length, map, take, if◌then◌else◌}
-use Rattle.std.specs.List.{filter_map, list_any}
+-- The stage of a utility, and those of a pipeline.
+use Rattle.std.specs.Prelude.{◌≡◌, ℕ, List, [], ◌∷◌, ◌++◌, Bool, ◌||◌, ◌==◌, ◌-◌, length, map, take, if◌then◌else◌}
+use Rattle.std.specs.List.{list_any}
 use Rattle.ps_world.specs.Paths.{Components}
 use Rattle.ut_args.specs.Inputs.{emptied, operands_of, remaining, with_operands}
 use Rattle.ut_args.specs.Invocations.{command_of, words_of}
@@ -8,23 +8,16 @@ use Rattle.ut_args.specs.declared.commands.Command.{Command}
 use Rattle.ut_args.specs.declared.commands.Command.TheVariants as command
 use Rattle.ut_args.specs.declared.invocations.Inv.{Inv}
 use Rattle.ut_streams.specs.Utilities.{Input}
-use Rattle.fl_graph.specs.Kinds.{is_input, is_output}
-use Rattle.fl_graph.specs.Paths.{paths_read, paths_written}
-use Rattle.fl_graph.specs.Valid.{Valid}
-use Rattle.fl_graph.specs.declared.graphs.Graph.{Graph}
-use Rattle.fl_classes.specs.Flow.{Outcome, outcome}
-use Rattle.fl_classes.specs.Kinds.{are_run}
-use Rattle.fl_classes.specs.Sources.{source_texts}
-use Rattle.fl_classes.specs.Used.{is_cat, words_used}
+use Rattle.fl_classes.specs.Flow.{Outcome}
+use Rattle.fl_classes.specs.Used.{is_cat}
 use Rattle.fl_classes.specs.Utilities.{labelled}
-use Rattle.fl_segments.specs.Chains.{begins_with, text_in}
-use Rattle.fl_segments.specs.Stages.{file_in, is_shell_input, is_stream}
+use Rattle.fl_segments.specs.Chains.{text_in}
 use Rattle.fl_segments.specs.declared.stages.Does.TheVariants as does
-use Rattle.fl_segments.specs.declared.stages.First.{First}
 use Rattle.fl_segments.specs.declared.stages.Out.TheVariants as out
 use Rattle.fl_segments.specs.declared.stages.Stage.{Stage}
 use Rattle.fl_commands.specs.Inputs.{output_for, selects_for, status_of}
 use Rattle.fl_commands.specs.Operands.{ins_of, lacks}
+use Rattle.fl_commands.specs.declared.members.Member.{Member}
 use Rattle.fl_commands.specs.declared.operands.Operand.{Operand}
 
 -- an operand has no input
@@ -69,14 +62,9 @@ pub record IsStageOf (inv : Inv) (operands : List Operand) (stage : Stage) : Typ
     tees = [];
   }
 
--- its graph, where the segment begins so
-pub record IsGraphOf (inv : Inv) (operands : List Operand) (from : First) (graph : Graph) : Type 0 where
-  pub valid : Valid graph.nodes graph.status
-  pub kinds : are_run graph.nodes ≡ true
-  pub reads : paths_read graph.nodes ≡ filter_map file_in (ins_of operands)
-  pub writes : paths_written graph.nodes ≡ []
-  pub input : list_any (λ cell. is_input cell.kind) graph.nodes ≡ (is_shell_input from && list_any is_stream (ins_of operands))
-  pub output : list_any (λ cell. is_output cell.kind) graph.nodes ≡ true
-  pub outcome_is : (input : List ℕ) (files : Components → List ℕ) → outcome graph (source_texts graph.nodes input files)
-      ≡ left_by (command_of inv) (inputs_with (operands_of inv) operands (begins_with from input) files) (some_lacks operands)
-  pub used : words_used graph.nodes ≡ words_noted inv operands
+-- the stages of the members of a pipeline
+abbrev pub AreStagesOf : List Member → List Stage → Type 0
+AreStagesOf [] [] = Unit {0}
+AreStagesOf [] (stage ∷ stages) = ⊥
+AreStagesOf (member ∷ members) [] = ⊥
+AreStagesOf (member ∷ members) (stage ∷ stages) = IsStageOf member.inv member.operands.items stage × AreStagesOf members stages

@@ -1,8 +1,9 @@
-use Rattle.fl_commands.proofs.ReaderLemmas.{out-none}
+use Rattle.fl_commands.proofs.ReaderLemmas.{opens-so, out-none}
 use Rattle.fl_commands.proofs.readers.open_files.Goals as goal
 
-pub returns-in-Ok-clause-out : goal.returns-in-Ok-clause-out
-returns-in-Ok-clause-out g c = c.open_each.ensures.out _ (out-none _ c.new.ensures.items _)
+pub returns-in-Ok-clause-opens : goal.returns-in-Ok-clause-opens
+returns-in-Ok-clause-opens g c =
+    opens-so g.T.Reader.Source.left g.T.Reader.Source.faults c.args.segment.now _ _ _ _ c.new.ensures.items c.in-Ok.ensures.texts c.in-Ok.ensures.count c.open_stages.ensures.fresh c.open_stages.ensures.out
 
 pub returns-in-Err-clause-back : goal.returns-in-Err-clause-back
-returns-in-Err-clause-back g c = c.give_back.ensures.out _ (c.open_each.ensures.out _ (out-none _ c.new.ensures.items _))
+returns-in-Err-clause-back g c = c.give_back.ensures.out _ (c.open_stages.ensures.out _ (out-none _ c.new.ensures.items _))

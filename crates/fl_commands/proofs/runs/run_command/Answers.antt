@@ -1,31 +1,38 @@
-use Rattle.std.proofs.Common.{rules, ◌∙◌, subst, sym}
-use Rattle.fl_commands.specs.Runs.{RunsCommand}
-use Rattle.fl_commands.proofs.RunLemmas.{none-opened, nothing-ran, ran-so, readers-back, writers-back}
+use Rattle.std.proofs.Common.{◌≡◌, List, IfSome, true, ◌∙◌, ap, subst, sym}
+use Rattle.std.specs.List.{list_all}
+use Rattle.fl_graph.specs.Paths.{ArePathsApart}
+use Rattle.fl_segments.specs.Stages.{files_read, files_written, is_stage}
+use Rattle.fl_segments.specs.declared.stages.Stage.{Stage}
+use Rattle.fl_commands.specs.Inner.Segments.{AllThere, segment_asks}
+use Rattle.fl_commands.proofs.RunLemmas.{asked-alike, nothing-ran}
+use Rattle.fl_commands.proofs.StageLemmas.{one-apart, one-asks, one-stage, one-there, one-written}
 use Rattle.fl_commands.proofs.runs.run_command.Goals as goal
 
 pub returns-in_default : goal.returns-in_default
-returns-in_default g c = nothing-ran _ _ _ _ _ _ _ _
+returns-in_default g c = nothing-ran _ _ _ _ _ _
 
-pub returns-in-Err : goal.returns-in-Err
-returns-in-Err g c =
-    subst (RunsCommand _ _ _ _ _ _ _ _ _ _ _ _ _) (sym c.of_tree.ensures)
-    (none-opened _ _ _ _ _ _ _ _ _ _ _ _ c.in-Err.error c.in-Err.ensures.back c.in-Err.ensures.held c.in-Err.ensures.cause)
+pub run_segment-requires-clause-stages : goal.run_segment-requires-clause-stages
+run_segment-requires-clause-stages g c κs within =
+    subst (λ (it : List Stage). list_all is_stage it ≡ true) (sym c.as_slice.ensures)
+    (one-stage c.args.inv.now c.args.operands.now c.in-Ok.stage c.in-Ok.ensures c.requires.built c.requires.named c.requires.few)
 
-pub destroy_empty-requires : goal.destroy_empty-requires
-destroy_empty-requires g c =
-    let none = writers-back g.T.Reader.Source.left g.I.Source.left g.T.Writer.Sink.taken g.O.Sink.taken g.T.Reader.Source.faults g.T.Writer.Sink.faults g.I.Source.faults g.O.Sink.faults
-    c.args.inv.now c.args.operands.now c.args.from.now c.in-Ok.graph c.in-Ok.ensures _ _ (g.T.Tree.state c.open_operands.new.tree) _ c.in-Ok-open_operands.ensures.opens c.in-Ok-open_operands.ensures.held _ _ _ _ _ _ c.run_over-came.ensures in
-    search (none, rules)
+pub run_segment-requires-clause-paths : goal.run_segment-requires-clause-paths
+run_segment-requires-clause-paths g c κs within =
+    subst (λ (it : List Stage). ArePathsApart (files_read it) (files_written it)) (sym c.as_slice.ensures)
+    (one-apart c.args.inv.now c.args.operands.now c.in-Ok.stage c.in-Ok.ensures c.requires.built c.requires.named c.requires.few)
 
-pub give_back-requires-clause-paths : goal.give_back-requires-clause-paths
-give_back-requires-clause-paths g c κs within =
-    c.in-Ok-open_operands.ensures.paths
-    ∙ sym (readers-back g.T.Reader.Source.left g.I.Source.left g.T.Writer.Sink.taken g.O.Sink.taken g.T.Reader.Source.faults g.T.Writer.Sink.faults g.I.Source.faults g.O.Sink.faults
-    c.args.inv.now c.args.operands.now c.args.from.now c.in-Ok.graph c.in-Ok.ensures _ _ (g.T.Tree.state c.open_operands.new.tree) _ c.in-Ok-open_operands.ensures.opens c.in-Ok-open_operands.ensures.held _ _ _ _ _ _ c.run_over-came.ensures)
+pub run_segment-requires-clause-writes : goal.run_segment-requires-clause-writes
+run_segment-requires-clause-writes g c κs within =
+    ap files_written c.as_slice.ensures ∙ one-written c.args.inv.now c.args.operands.now c.in-Ok.stage c.in-Ok.ensures
+
+pub run_segment-requires-clause-there : goal.run_segment-requires-clause-there
+run_segment-requires-clause-there g c κs within =
+    subst (λ (it : List Stage). IfSome (g.T.Tree.state c.args.tree.now).held (λ files. AllThere files it)) (sym c.as_slice.ensures)
+    (one-there c.args.inv.now c.args.operands.now c.in-Ok.stage c.in-Ok.ensures _ c.requires.whole c.requires.stand)
 
 pub returns : goal.returns
 returns g c =
-    subst (RunsCommand _ _ _ _ _ _ _ _ _ _ _ _ _) (sym c.how_ended.ensures)
-    (ran-so g.T.Reader.Source.left g.I.Source.left g.T.Writer.Sink.taken g.O.Sink.taken g.T.Reader.Source.faults g.T.Writer.Sink.faults g.I.Source.faults g.O.Sink.faults
-    c.args.inv.now c.args.operands.now c.args.from.now c.in-Ok.graph c.in-Ok.ensures _ _ _ _ c.in-Ok-open_operands.ensures.opens c.in-Ok-open_operands.ensures.held _ _ _ _ _ _ c.run_over-came.ensures
-    _ _ _ c.in-Ok-open_operands.ensures.cause.ok c.give_back.ensures.out c.give_back.ensures.held c.give_back.ensures.later c.give_back.ensures.calm c.give_back.ensures.cause)
+    asked-alike _ _
+    (ap (λ (it : List Stage). segment_asks it c.args.from.now) c.as_slice.ensures
+    ∙ one-asks c.args.inv.now c.args.operands.now c.in-Ok.stage c.in-Ok.ensures c.requires.built c.requires.named c.requires.few c.args.from.now)
+    _ _ _ _ _ _ _ _ _ _ _ c.run_segment.ensures

@@ -27,12 +27,12 @@ pub returns-then-not-goes_on : goal.returns-then-not-goes_on
 returns-then-not-goes_on g c = λ name.
     ran-stopped name c.args.inv.now c.args.operands.now _ _ _ _ _ _ _ _ _ _ _ _ _ _ _ c.requires.looked
     (subst (λ (it : Bool). TakesStream it c.args.session.now c.take_stream.new.session c.in-Ok.first) c.reads_stream.ensures c.in-Ok.ensures.ok)
-    c.end-how-2.ensures.shell c.requires.built c.end-how-2.ensures.how _ _ _ _ _ _ _ (gathered-ran _ _ _ _ _ _ _ _ _ _ _ _ _ _ _ c.new.ensures c.into_bytes-text.ensures c.run_command-ended-2.ensures)
+    c.end-how-2.ensures.shell c.requires.built c.end-how-2.ensures.how _ _ _ _ _ _ _ (gathered-ran c.args.inv.now c.args.operands.now c.in-Ok.first _ _ _ _ _ _ _ _ _ _ _ _ c.new.ensures c.into_bytes-text.ensures c.run_command-ended-2.ensures)
     (sym c.goes_on.ensures ∙ c.if-not-goes_on.true)
 
 pub returns : goal.returns
 returns g c = λ name.
     ran-put name c.args.inv.now c.args.operands.now _ _ _ _ _ _ _ _ _ _ _ _ _ _ _ c.requires.looked
     (subst (λ (it : Bool). TakesStream it c.args.session.now c.take_stream.new.session c.in-Ok.first) c.reads_stream.ensures c.in-Ok.ensures.ok)
-    c.end-how-2.ensures.shell c.requires.built c.end-how-2.ensures.how _ _ _ _ _ _ _ (gathered-ran _ _ _ _ _ _ _ _ _ _ _ _ _ _ _ c.new.ensures c.into_bytes-text.ensures c.run_command-ended-2.ensures)
+    c.end-how-2.ensures.shell c.requires.built c.end-how-2.ensures.how _ _ _ _ _ _ _ (gathered-ran c.args.inv.now c.args.operands.now c.in-Ok.first _ _ _ _ _ _ _ _ _ _ _ _ c.new.ensures c.into_bytes-text.ensures c.run_command-ended-2.ensures)
     (sym c.goes_on.ensures ∙ c.if-not-goes_on.false) _ _ (put-so _ _ _ _ _ c.as_slice.ensures.value (c.put-how.ensures.evaluates _ _ _))

@@ -1,2 +1,4 @@
 pub mod Rule
 pub mod Relays
+pub mod Eager
+pub mod Edges

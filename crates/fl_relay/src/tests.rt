@@ -2,10 +2,11 @@
 ghost use Rattle.std.specs.Prelude.{◌≡◌, ◌<◌, [], true, false, IfOk};
 ghost use Rattle.fl_graph.specs.Machines.{closes};
 ghost use Rattle.fl_graph.specs.Runs.{are_closed};
+ghost use Rattle.fl_relay.specs.Eager.{eager_gives_on, eager_takes_on, eager_given, eager_taken};
 ghost use Rattle.fl_relay.specs.Relays.{gives_on, takes_on, given, taken};
 
-use crate::laws::settle;
-use crate::{Giver, Taker, bounded};
+use crate::laws::{settle, settle_edge};
+use crate::{EagerGiver, EagerTaker, EdgeGiver, EdgeTaker, Giver, Taker, bounded, unbounded};
 use fl_graph::{Bytes, Piece};
 use ps_lines::Memory;
 use std::alloc::Global;
@@ -201,5 +202,94 @@ fn a_half_that_waits_sleeps(rt: HostRuntime) -> Result<(), Fail> {
     ] {
         assert!(rt; used.is_some() && used < little, "{used:?}");
     }
+    Ok(())
+}
+
+/// Puts so many pieces, and then this one, on a relay without bound; whether memory was never refused.
+fn put_eagerly<R: Wait>(
+    rt: &R,
+    mut giver: EagerGiver,
+    count: u32,
+    last: Piece,
+) -> (EagerGiver, bool)
+    requires { eager_given giver ≡ [] }
+    ensures { eager_gives_on result.0 ≡ eager_gives_on giver }
+{
+    for _ in 0..count {
+        if giver.put(rt, Piece::Mark).is_err() {
+            giver.put_at_last(rt, last);
+            return (giver, false);
+        }
+    }
+    giver.put_at_last(rt, last);
+    (giver, true)
+}
+
+/// Takes all pieces up to the one that closes: how many marks came before it, and whether it is an end.
+fn take_eagerly<R: Wait>(rt: &R, mut taker: EagerTaker) -> (EagerTaker, u32, bool)
+    requires { eager_taken taker ≡ [] }
+    ensures { eager_takes_on result.0 ≡ eager_takes_on taker }
+{
+    let mut marks = 0u32;
+    for _ in rt.forever() {
+        match taker.take(rt) {
+            Piece::Bytes(_) => {}
+            Piece::Mark => marks = marks.wrapping_add(1),
+            Piece::End => return (taker, marks, true),
+            Piece::Broken => return (taker, marks, false),
+        }
+    }
+    unreachable!()
+}
+
+/// How many pieces come before the last one through a relay without bound, all put before the first is taken, and whether that is an end.
+fn count_behind<R: Wait>(
+    rt: &R,
+    alloc: Global,
+    count: u32,
+    last: Piece,
+) -> Result<(u32, bool), Memory> {
+    let (giver, taker) = unbounded(alloc)?;
+    let (giver, all) = put_eagerly(rt, giver, count, last);
+    let (taker, marks, ended) = take_eagerly(rt, taker);
+    settle_edge(rt, EdgeGiver::Unbounded(giver), EdgeTaker::Unbounded(taker));
+    if all { Ok((marks, ended)) } else { Err(Memory) }
+}
+
+#[test]
+fn a_relay_without_bound_holds_all_that_is_put(rt: HostRuntime) -> Result<(), Fail> {
+    let whole = count_behind(&rt, rt.alloc(), 1_000, Piece::End)?;
+    assert_eq!(rt; whole, (1_000, true));
+    let broken = count_behind(&rt, rt.alloc(), 3, Piece::Broken)?;
+    assert_eq!(rt; broken, (3, false));
+    Ok(())
+}
+
+/// How many pieces come through a relay without bound, from one thread to another.
+fn count_beside<R: Threads + Wait + Sync>(
+    rt: &R,
+    alloc: Global,
+    count: u32,
+) -> Result<(u32, bool), Memory> {
+    let (giver, taker) = unbounded(alloc)?;
+    let ((giver, all), (taker, marks, ended)) = thread::join(
+        rt,
+        move ||
+            requires { eager_given giver ≡ [] }
+            ensures { eager_gives_on result.0 ≡ eager_gives_on giver }
+        { put_eagerly(rt, giver, count, Piece::End) },
+        move ||
+            requires { eager_taken taker ≡ [] }
+            ensures { eager_takes_on result.0 ≡ eager_takes_on taker }
+        { take_eagerly(rt, taker) },
+    );
+    settle_edge(rt, EdgeGiver::Unbounded(giver), EdgeTaker::Unbounded(taker));
+    if all { Ok((marks, ended)) } else { Err(Memory) }
+}
+
+#[test]
+fn all_pieces_come_through_a_relay_without_bound(rt: HostRuntime) -> Result<(), Fail> {
+    let through = count_beside(&rt, rt.alloc(), PIECES)?;
+    assert_eq!(rt; through, (PIECES, true));
     Ok(())
 }

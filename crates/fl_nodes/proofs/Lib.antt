@@ -1,0 +1,7 @@
+pub mod MachineLemmas
+pub mod PortLemmas
+pub mod MovedLemmas
+pub mod WorkLemmas
+pub mod CameLemmas
+pub mod StashLemmas
+pub mod SourceLemmas

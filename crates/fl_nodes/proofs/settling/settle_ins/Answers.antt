@@ -1,0 +1,43 @@
+use Rattle.std.proofs.Common.{◌≡◌, ◌<◌, List, [], length, map, true, ap, sym, ◌∙◌, rules}
+use Rattle.std.proofs.lemmas.Bool.{and_parts}
+use Rattle.std.proofs.lemmas.List.{nil_from_length}
+use Rattle.std.specs.List.{list_all}
+use Rattle.std.specs.Vec.Iter.{into_iter_items}
+use Rattle.fl_graph.specs.Runs.{are_closed}
+use Rattle.fl_relay.specs.Edges.{taken_from}
+use Rattle.fl_nodes.proofs.StashLemmas.{left-first, left-rest, none-left, taken-first}
+use Rattle.fl_nodes.proofs.settling.settle_ins.Goals as goal
+
+pub settle_at-requires : goal.settle_at-requires
+settle_at-requires g c =
+    let within : c.loop-taker.place < length c.args.edges.now = search rules in
+    left-first c.loop-taker.stash.items c.args.edges.now c.loop-taker.place c.in-Some.taker _ _ c.in-Some.ensures.steps.0 within c.loop-taker.invariant.left
+
+pub loop-taker-preserved : goal.loop-taker-preserved
+loop-taker-preserved g c =
+    let within : c.loop-taker.place < length c.args.edges.now = search rules in
+    record {
+      left = left-rest c.loop-taker.stash.items c.settle_at.new.stash.items c.args.edges.now c.loop-taker.place c.in-Some.taker _ _ c.in-Some.ensures.steps.0 within c.settle_at.ensures.kept
+          c.loop-taker.invariant.left;
+      kept = λ ids pieces lie. c.settle_at.ensures.kept ids pieces (c.loop-taker.invariant.kept ids pieces lie);
+      closed = λ all.
+          (and_parts (are_closed (taken_from c.in-Some.taker)) _ (sym (ap (list_all (λ taker. are_closed (taken_from taker))) c.in-Some.ensures.steps.0) ∙ c.loop-taker.invariant.closed all)).1;
+      settled = λ all ids pieces lie others.
+          c.loop-taker.invariant.settled all ids pieces lie
+          (taken-first pieces c.args.edges.now c.loop-taker.place c.in-Some.taker _ _ c.in-Some.ensures.steps.0 within
+          (c.settle_at.ensures.settled (search rules)
+          (and_parts (are_closed (taken_from c.in-Some.taker)) _ (sym (ap (list_all (λ taker. are_closed (taken_from taker))) c.in-Some.ensures.steps.0) ∙ c.loop-taker.invariant.closed all)).0
+          ids pieces (c.loop-taker.invariant.kept ids pieces lie)) others);
+    }
+
+pub returns-clause-settled : goal.returns-clause-settled
+returns-clause-settled g c = λ is all ids pieces lie.
+    let none : length (into_iter_items c.loop-taker.taker-iterator) ≡ 0 = search rules in
+    let told : into_iter_items c.into_iter-taker-iterator.result ≡ c.args.takers.items = search rules in
+    let left = nil_from_length (into_iter_items c.loop-taker.taker-iterator) none in
+    sym (ap (map taken_from) told)
+    ∙ c.loop-taker.invariant.settled (ap (list_all (λ taker. are_closed (taken_from taker))) told ∙ all) ids pieces lie
+    (ap (map taken_from) left ∙ sym (ap (map pieces) (none-left c.loop-taker.stash.items c.args.edges.now c.loop-taker.place _ left c.loop-taker.invariant.left)))
+
+pub returns-then-not-settle_at-clause-kept : goal.returns-then-not-settle_at-clause-kept
+returns-then-not-settle_at-clause-kept g c = λ ids pieces lie. c.settle_at.ensures.kept ids pieces (c.loop-taker.invariant.kept ids pieces lie)

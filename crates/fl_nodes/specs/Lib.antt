@@ -1,0 +1,5 @@
+pub mod Ends
+pub mod Work
+pub mod Points
+pub mod Came
+pub mod Stashes

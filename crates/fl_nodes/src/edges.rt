@@ -1,0 +1,43 @@
+//! An edge before anything is put on it.
+ghost use Rattle.std.specs.Prelude.{◌≡◌, ◌<◌, []};
+ghost use Rattle.fl_relay.specs.Edges.{gives_over, takes_over, put_on, taken_from};
+
+use fl_relay::{EdgeGiver, EdgeTaker, bounded, unbounded};
+use ps_lines::Memory;
+use std::alloc::Global;
+
+/// The two halves of an edge on which nothing was put.
+#[derive(Drop)]
+pub struct Edge {
+    pub giver: EdgeGiver,
+    pub taker: EdgeTaker,
+    ghost same: { takes_over taker ≡ gives_over giver },
+    ghost given: { put_on giver ≡ [] },
+    ghost taken: { taken_from taker ≡ [] },
+}
+
+/// An edge with room for so many pieces, and for one at least; or without a bound.
+pub fn make_edge(alloc: Global, room: Option<u32>) -> Result<Edge, Memory> {
+    match room {
+        Some(room) => bounded_edge(alloc, room.max(1)),
+        None => unbounded_edge(alloc),
+    }
+}
+
+fn bounded_edge(alloc: Global, room: u32) -> Result<Edge, Memory>
+    requires { 0 < room }
+{
+    let (giver, taker) = bounded(alloc, room)?;
+    Ok(Edge {
+        giver: EdgeGiver::Bounded(giver),
+        taker: EdgeTaker::Bounded(taker),
+    })
+}
+
+fn unbounded_edge(alloc: Global) -> Result<Edge, Memory> {
+    let (giver, taker) = unbounded(alloc)?;
+    Ok(Edge {
+        giver: EdgeGiver::Unbounded(giver),
+        taker: EdgeTaker::Unbounded(taker),
+    })
+}

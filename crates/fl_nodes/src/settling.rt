@@ -1,0 +1,59 @@
+//! The halves of edges together again, behind a run.
+ghost use Rattle.std.specs.Prelude.{◌≡◌, ℕ, List, map, true};
+ghost use Rattle.std.specs.List.{list_all};
+ghost use Rattle.fl_graph.specs.Runs.{are_closed};
+ghost use Rattle.fl_graph.specs.declared.pieces.Piece.{Piece as Pieces};
+ghost use Rattle.fl_nodes.specs.Stashes.{CanSettle, CanSettleAll, Lie};
+ghost use Rattle.fl_relay.specs.Edges.{EdgeId, gives_over, takes_over, put_on, taken_from};
+
+use crate::stashes::half_at;
+use fl_relay::laws::settle_edge;
+use fl_relay::{EdgeGiver, EdgeTaker};
+use std::sync::Wait;
+
+/// Settles a taker with the giver that lies at its edge, and answers whether one did: where the taker has come to the end it has taken what
+/// was put.
+pub fn settle_at<H: Wait>(
+    rt: &H,
+    stash: &mut Vec<Option<EdgeGiver>>,
+    edge: u32,
+    taker: EdgeTaker,
+) -> bool
+    requires { CanSettle stash.old.items edge taker }
+    ensures kept { (ids : ℕ → EdgeId) (pieces : ℕ → List Pieces) → Lie gives_over put_on ids pieces stash.old.items → Lie gives_over put_on ids pieces stash.new.items }
+    ensures settled { result ≡ true → are_closed (taken_from taker) ≡ true → (ids : ℕ → EdgeId) (pieces : ℕ → List Pieces) →
+        Lie gives_over put_on ids pieces stash.old.items → taken_from taker ≡ pieces edge }
+{
+    match half_at(stash, edge) {
+        Some(giver) => {
+            settle_edge(rt, giver, taker);
+            true
+        }
+        None => false,
+    }
+}
+
+/// Settles the takers of these edges, in order, with the givers that lie there, and answers whether there was one for each.
+pub fn settle_ins<H: Wait>(
+    rt: &H,
+    stash: &mut Vec<Option<EdgeGiver>>,
+    edges: &[u32],
+    takers: Vec<EdgeTaker>,
+) -> bool
+    requires { CanSettleAll stash.old.items edges.now takers.items }
+    ensures kept { (ids : ℕ → EdgeId) (pieces : ℕ → List Pieces) → Lie gives_over put_on ids pieces stash.old.items → Lie gives_over put_on ids pieces stash.new.items }
+    ensures settled { result ≡ true → list_all (λ taker. are_closed (taken_from taker)) takers.items ≡ true → (ids : ℕ → EdgeId) (pieces : ℕ → List Pieces) →
+        Lie gives_over put_on ids pieces stash.old.items → map taken_from takers.items ≡ map pieces edges.now }
+{
+    let mut place = 0;
+    for taker in takers {
+        if place >= edges.len() {
+            return false;
+        }
+        if !settle_at(rt, stash, edges[place], taker) {
+            return false;
+        }
+        place += 1;
+    }
+    true
+}

@@ -3,6 +3,7 @@ ghost use Rattle.std.specs.Prelude.{IfSome};
 ghost use Rattle.ps_world.specs.Files.{NoWriterOut};
 
 mod faults;
+mod files;
 mod refusals;
 mod rows;
 mod whole;

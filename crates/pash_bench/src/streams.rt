@@ -90,6 +90,8 @@ impl LineStream for Counting {
 
     ghost line_selected = { λ _. false };
 
+    ghost line_test = { λ _ _. false };
+
     fn line(&mut self, line: &[u8], _out: &mut Vec<u8>) -> Result<(), Memory> {
         if self.matcher.has(line) {
             self.count = self.count.saturating_add(1);
@@ -123,10 +125,7 @@ pub fn time_wc<R: Read + Drop>(
     let Some(Inv::Wc(inv)) = read_words(rt.alloc(), &["wc", "-l"])? else {
         return Err(io::Error::from(ErrorKind::InvalidInput));
     };
-    match Wc::new(rt.alloc(), &inv) {
-        Ok(mut wc) => time_stream(rt, &mut reader, &mut wc),
-        Err(Memory) => Err(io::Error::from(ErrorKind::OutOfMemory)),
-    }
+    time_stream(rt, &mut reader, &mut Wc::of_part(&inv))
 }
 
 /// The stream of the invocation of these words, which finds bytes of output.
@@ -160,7 +159,7 @@ fn time_inv<R: Read>(
         Inv::Cut(inv) => time_made(rt, reader, Cut::new(rt.alloc(), inv)),
         Inv::Head(inv) => time_stream(rt, reader, &mut Head::of(inv.args.count)),
         Inv::Tail(inv) => time_made(rt, reader, Tail::new(rt.alloc(), inv)),
-        Inv::Wc(inv) => time_stream(rt, reader, &mut Wc::of_part(rt.alloc(), inv)),
+        Inv::Wc(inv) => time_stream(rt, reader, &mut Wc::of_part(inv)),
         Inv::Uniq(inv) => time_stream(rt, reader, &mut Uniq::new(rt.alloc(), inv)),
         _ => Err(io::Error::from(ErrorKind::InvalidInput)),
     }

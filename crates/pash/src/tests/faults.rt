@@ -57,6 +57,7 @@ fn a_failed_read_is_no_end(rt: HostRuntime) -> Result<(), Fail> {
         stops_at_a_failed_read(&rt, b"cat a", 3, fail_at)?;
         stops_at_a_failed_read(&rt, b"cat a", 65_536, fail_at)?;
     }
+    stops_at_a_failed_read(&rt, b"cat a | tr a-z A-Z", 4, 1)?;
     for fail_at in 0..2 {
         stops_at_a_failed_read(&rt, b"cat a | grep -F 7 | wc -l", 65_536, fail_at)?;
         stops_at_a_failed_read(&rt, b"tr 0 1 < a", 65_536, fail_at)?;

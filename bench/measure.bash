@@ -6,6 +6,7 @@
 set -euo pipefail
 export LC_ALL=C
 
+pash=${PASH:-$(cd "$(dirname "${BASH_SOURCE[0]}")/.." && pwd)/pash}
 crate=$(cd "$(dirname "${BASH_SOURCE[0]}")/../crates/pash_bench" && pwd)
 texts=$(mktemp -d)
 trap 'rm -rf "$texts"' EXIT
@@ -95,4 +96,32 @@ compare() {
     awk -v label="$label" -v best="$best" -v other="$other" -v peak="$peak" 'BEGIN {
         printf "%-26s %10.1f %10.1f %8.2f %10d\n", label, best / 1e6, other / 1e6, best / other, peak / 1024
     }'
+}
+
+# Has the program built, which the first run does.
+build_pash() {
+    : >"$texts/nothing"
+    "$pash" run 1 "$texts/nothing" >"$texts/log" 2>&1 || {
+        cat "$texts/log" >&2
+        exit 1
+    }
+}
+
+# timed LABEL COMMAND..: of five runs the best milliseconds of the processor, in all processes, and of the clock, and the peak memory of the
+# last. Each run has to print what is wanted, but for blanks that lines begin with, as those of GNU's `uniq -c` do.
+timed() {
+    local label=$1 round spent clock best_spent= best_clock=
+    shift
+    for round in 1 2 3 4 5; do
+        /usr/bin/time -o "$texts/spent" -f '%U %S %e %M' "$@" >"$texts/found"
+        [ "$(sed 's/^ *//' "$texts/found")" = "$want" ] || {
+            echo "$label: $(head -c 200 "$texts/found") in place of $(head -c 200 <<<"$want")" >&2
+            exit 1
+        }
+        spent=$(awk '{ printf "%d", ($1 + $2) * 1000 }' "$texts/spent")
+        clock=$(awk '{ printf "%d", $3 * 1000 }' "$texts/spent")
+        [ -n "$best_spent" ] && [ "$best_spent" -le "$spent" ] || best_spent=$spent
+        [ -n "$best_clock" ] && [ "$best_clock" -le "$clock" ] || best_clock=$clock
+    done
+    printf '%-36s %8d %8d %8d\n' "$label" "$best_spent" "$best_clock" "$(awk '{ print $4 }' "$texts/spent")"
 }

@@ -4,8 +4,8 @@
 //! output of the one before: as one graph on an engine, whose output is written to any sink.
 //!
 //! `specs/Operands.antt` says what operands name, and which inputs they are; `specs/Inputs.antt` what a utility makes of its inputs,
-//! `specs/Members.antt` what the members of a pipeline make of theirs, and `specs/Runs.antt` what comes of a run. `specs/Inner/` has words that
-//! only proofs need.
+//! `specs/Members.antt` what the members of a pipeline make of theirs, and `specs/Runs.antt` what comes of a run. `specs/Inner/Stages.antt` has
+//! words that these stand on, and the rest of `specs/Inner/` words that only proofs need.
 #![tactic(auto)]
 
 mod members;

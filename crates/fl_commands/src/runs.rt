@@ -97,7 +97,7 @@ pub fn run_command<T: Tree, I: Source + Send, O: Sink + Send, G: Gate, X: Engine
 /// Runs the members of a pipeline (XCU 2.9.2), each over the output of the one before, as one graph on the engine, and writes what the last
 /// one writes.
 ///
-/// Nothing is gathered between two members: bytes go on as they are written. The stream of the first begins so, and what is said of a utility
+/// No call gathers what goes from one member to the next: it goes over the edges of the graph. The stream of the first begins so, and what is said of a utility
 /// (`run_command`) holds of each member. The status is the last one's.
 pub fn run_pipeline<T: Tree, I: Source + Send, O: Sink + Send, G: Gate, X: Engine>(
     alloc: Global,

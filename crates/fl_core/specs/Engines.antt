@@ -20,8 +20,8 @@ module _ {R W I O : Type 0} (of_reader : R → Option (List ℕ)) (of_input : I 
     (reader_faults : R → ℕ) (writer_faults : W → ℕ) (input_faults : I → ℕ) (output_faults : O → ℕ) where
   -- the graph ran over these ends, on an engine that tells it has run these utilities before and those behind it
   pub record RunsGraph (graph : Graph) (ends : Ends R W I O) (used used' : Option (List (List (List ℕ)))) (ran : Ran R W I O) : Type 0 where
-    -- where it is done, the end of each node that writes has grown by its text, so the output and each file's writer by what the graph leaves; each source's end
-    -- is read to its end, and the status is the graph's
+    -- where it is done, the end of each node that writes has grown by its text, so the output and each file's writer by what the graph leaves;
+    -- each source's end is read to its end, and the status is the graph's
     pub written : IfDone ran (λ status. HasWritten graph.nodes (left_at of_reader of_input graph.nodes ends)
         (taken_at of_writer of_output graph.nodes ends) (taken_at of_writer of_output graph.nodes (given_back ran)))
     pub output : IfDone ran (λ status. (sources : List (List ℕ)) → AreTold sources graph.nodes (left_at of_reader of_input graph.nodes ends)

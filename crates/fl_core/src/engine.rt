@@ -30,8 +30,8 @@ pub enum Ending {
 
 /// Runs a graph to its end on this thread, its nodes in turn.
 ///
-/// Done comes where each node has stopped: the end of each that writes has grown by its text of the graph's flow, each source's end is read to its
-/// end, and the status is the graph's. A node's end that fails ends the run at once, so no other has failed then. After a fault and after
+/// Done comes where each node has stopped: the end of each that writes has grown by its text of the graph's flow, each source's end is read
+/// to its end, and the status is the graph's. A node's end that fails ends the run at once, so no other has failed then. After a fault and after
 /// Memory the end of each node that writes has grown by a front of its text. A graph of 2^32 nodes or more wants memory.
 pub fn run_over_ends<E: NodeEnds>(alloc: Global, graph: &Graph, ends: &mut E) -> Ending
     requires valid { Valid graph.now.nodes graph.now.status }

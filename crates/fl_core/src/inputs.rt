@@ -20,8 +20,8 @@ impl Net<NodeMachine> {
     /// The network of a graph over the texts of its sources, by node number: the first of a number counts, and a source that has none
     /// reads the empty text.
     ///
-    /// Each text waits on its source's edge from outside, in pieces, and its end behind it; what the nodes that write give will wait on theirs. So
-    /// `step` needs no ends. An edge that leads into a node of one in has room for `cap` pieces, and no other has a bound.
+    /// Each text waits on its source's edge from outside, in pieces, and its end behind it; what the nodes that write give will wait on
+    /// theirs. So `step` needs no ends. An edge that leads into a node of one in has room for `cap` pieces, and no other has a bound.
     pub fn new(
         alloc: Global,
         graph: &Graph,

@@ -75,8 +75,8 @@ pub fn what_a_graph_leaves_is_of_the_flow(graph: &Graph)
         map (λ cell. selects cell.kind (map (flow graph.now.nodes sources) cell.ins)) graph.now.nodes }
 {}
 
-/// In a network over texts that are there from the beginning, what waits for the outside behind a node that writes is of the flow at any time: a front
-/// of its text, all of it where its end waits too, and all of it once each machine has stopped, where none has failed.
+/// In a network over texts that are there from the beginning, what waits for the outside behind a node that writes is of the flow at any
+/// time: a front of its text, all of it where its end waits too, and all of it once each machine has stopped, where none has failed.
 pub fn what_waits_for_the_outside_is_of_the_flow<M: Machine>(graph: &Graph, net: &Net<M>)
     requires { Valid graph.now.nodes graph.now.status }
     ensures carries { (inputs : ℕ → List ℕ) (moves : ℕ) (failed : ℕ → Bool) → RunsOver M.state graph.now.nodes inputs moves failed net.now.ports.items net.now.machines.items net.now.wires.items →

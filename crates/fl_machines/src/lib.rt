@@ -1,7 +1,8 @@
 //! The machines of nodes that run a utility: maps, wholes and finishes.
 //!
-//! Each utility is a stream; `Through` makes a machine of any stream, and `util_machine` takes the one that a node's kind asks for. What
-//! the machine owes at its beginning is the node's equation, `fl_classes`' word.
+//! Each utility is a stream, or a series where it reads its inputs one after another. `Through` makes a machine of any stream and `InSeries`
+//! one of any series, and `util_machine` takes the one that a node's kind asks for. What the machine owes at its beginning is the node's
+//! equation, `fl_classes`' word.
 #![tactic(auto)]
 
 mod any_series;

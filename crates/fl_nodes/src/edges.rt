@@ -16,7 +16,7 @@ pub struct Edge {
     ghost taken: { taken_from taker ≡ [] },
 }
 
-/// An edge with room for so many pieces, and for one at least; or without a bound.
+/// An edge with room for so many pieces, and for one at least where `room` is 0; or without a bound where there is none.
 pub fn make_edge(alloc: Global, room: Option<u32>) -> Result<Edge, Memory> {
     match room {
         Some(room) => bounded_edge(alloc, room.max(1)),

@@ -21,6 +21,7 @@ pub struct NodeJob<'a, M: Machine, E: OwnEnd, G> {
     /// Its end outside. The in of a node that reads comes from there, and the first out of a node that writes goes there.
     pub own: E,
     pub alloc: Global,
+    /// What it passes before its first act and behind its last one.
     pub gate: &'a G,
     ghost ready: { IsReady (M.state machine) (E.state own) takers.items givers.items },
 }

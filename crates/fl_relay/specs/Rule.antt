@@ -1,7 +1,8 @@
 -- The rule of a relay (own), at every moment between two atomic steps, whatever the threads do. What was taken, and then what waits in the
 -- relay, is what was given; so each piece comes once and in order.
 --
--- A pass is what a thread holds of a relay, and a view is what it knows. There are seven kinds of atomic steps:
+-- A pass is what a thread holds of a relay, and a view is what it knows. There are seven kinds of atomic steps of a relay with a bound. Of one
+-- without, push and pop stand for send and receive, and a push may be refused memory:
 --
 --   make                        one pass, which may give and take, and has done neither
 --   split                       of its view, into that of the giver and that of the taker

@@ -64,7 +64,7 @@ impl EagerGiver {
         pushed
     }
 
-    /// Puts a piece, and waits for memory where it is refused. So the piece that closes a relay comes, whatever else is refused.
+    /// Puts a piece, and tries again where memory is refused, until there is some; it yields between two tries and doesn't sleep.
     #[tactic(auto, using(crate::proofs::PieceLemmas::closed_by))]
     pub fn put_at_last<R: Wait>(&mut self, rt: &R, piece: Piece)
         requires { are_closed (eager_given self.old) ≡ false }

@@ -12,7 +12,7 @@ use std::sync::Wait;
 pub enum EdgeGiver {
     /// It waits for room.
     Bounded(Giver),
-    /// It waits for nothing, and may want memory.
+    /// It doesn't wait for room, and may want memory; with a piece that closes the edge it waits for memory.
     Unbounded(EagerGiver),
 }
 
@@ -31,7 +31,8 @@ impl EdgeGiver {
     ghost use Rattle.fl_graph.specs.Runs.{are_closed};
     ghost use Rattle.fl_relay.specs.Edges.{gives_over, put_on};
 
-    /// Puts a piece. Where memory is refused nothing is put; a piece that closes the edge is never refused.
+    /// Puts a piece, and waits for room where the edge has a bound. Where memory is refused nothing is put; a piece that closes the edge is
+    /// never refused: it waits for memory.
     pub fn put<R: Wait>(&mut self, rt: &R, piece: Piece) -> Result<(), Memory>
         requires { are_closed (put_on self.old) ≡ false }
         ensures same { gives_over self.new ≡ gives_over self.old }

@@ -7,8 +7,8 @@
 //! `specs/Contract.antt` is the one clause of every function that evaluates: the state that is meant, or where it stopped, output and
 //! errors grown by prefixes of what is meant; and why. `run_script` evaluates a whole script; `specs/Scripts.antt` says what it leaves.
 //!
-//! Lists, pipelines, groups, subshells, `if`, loops, command substitutions, redirections and simple commands are evaluated. A utility is
-//! refused as NotBuilt so far, and the program doesn't call the crate yet.
+//! Lists, pipelines, groups, subshells, `if`, loops, command substitutions, redirections and simple commands are evaluated. A utility runs
+//! by `fl_commands`, as a graph of its own; one that isn't built is refused as NotBuilt where it would run.
 #![tactic(auto)]
 
 mod builtins;

@@ -43,7 +43,7 @@ pub trait Series: Drop {
         ensures selected { OnOk result (selected self.new ≡ selects self.old []) }
         ensures spent { spent self.new ≡ not (is_ok result) };
 
-    /// Whether something has been selected; after `finish` this is whether some input has something that is.
+    /// Whether something has been selected. After `finish` this tells whether something is selected in any of the inputs.
     fn has_selected(&self) -> bool
         ensures { result ≡ selected self.now };
 

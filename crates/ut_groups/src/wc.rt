@@ -8,7 +8,7 @@ ghost use Rattle.ut_streams.specs.Utilities.{labelled};
 ghost use Rattle.ut_groups.specs.Counting.{counts_of, newlines as newlines_lem, saturated, words_behind};
 ghost use Rattle.ut_groups.specs.Columns.{counts_line};
 ghost use Rattle.ut_groups.specs.Inner.Columns.{counts_behind, last_behind};
-ghost use Rattle.ut_groups.specs.Inner.Series.{PrintAlike, total_line};
+ghost use Rattle.ut_groups.specs.Inner.Series.{PrintAlike, total_line, wc_due};
 ghost use Rattle.ut_groups.specs.Wc.{name_in as name_in_lem, wc_line, wc_output};
 
 use crate::columns::{Columns, put_counts};
@@ -121,8 +121,6 @@ impl WcSeries {
 }
 
 impl Series for WcSeries {
-    ghost use Rattle.ut_groups.specs.Inner.Series.{wc_due};
-
     ghost due = { λ series texts. wc_due series.has_total series.columns series.sums series.counts series.before series.labels texts };
 
     ghost selects = { λ _ _. false };
@@ -132,7 +130,16 @@ impl Series for WcSeries {
     ghost spent = { λ series. series.spent };
 
     /// Takes no memory, and so never answers Memory.
-    fn feed(&mut self, piece: &[u8], _out: &mut Vec<u8>) -> Result<(), Memory> {
+    fn feed(&mut self, piece: &[u8], out: &mut Vec<u8>) -> Result<(), Memory>
+        requires { self.old.spent ≡ false }
+        ensures wrote { (others : List (List ℕ)) → Wrote
+            (λ more. wc_due self.old.has_total self.old.columns self.old.sums self.old.counts self.old.before self.old.labels ((piece.now ++ more) ∷ others))
+            (λ more. wc_due self.new.has_total self.new.columns self.new.sums self.new.counts self.new.before self.new.labels (more ∷ others))
+            out.old.items out.new.items (is_ok result) }
+        ensures selects { OnOk result (List ℕ → List (List ℕ) → false ≡ false) }
+        ensures spent { self.new.spent ≡ not (is_ok result) }
+        ensures no_memory { result ≡ Ok tt }
+    {
         count_piece(self.columns, &mut self.counts, &mut self.before, piece);
         Ok(())
     }

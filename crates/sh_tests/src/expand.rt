@@ -10,7 +10,7 @@ mod splitting;
 mod texts;
 mod values;
 
-use rows::{has_fields, leaves_pattern};
+use rows::{expect_fields, expect_patterns};
 use std::test::Fail;
 
 /// The words of small scripts.
@@ -28,10 +28,7 @@ static EXAMPLES: [&str; 9] = [
 
 #[test]
 fn words_of_small_scripts_have_their_fields(rt: HostRuntime) -> Result<(), Fail> {
-    for row in EXAMPLES.iter() {
-        assert_eq!(rt; has_fields(rt.alloc(), row)?, true, "{row}");
-    }
-    Ok(())
+    expect_fields(&rt, rt.alloc(), EXAMPLES.as_slice())
 }
 
 /// Words in which a pattern byte is left, or not.
@@ -43,8 +40,5 @@ static STARS: [&str; 3] = [
 
 #[test]
 fn an_unquoted_star_is_a_pattern_byte(rt: HostRuntime) -> Result<(), Fail> {
-    for row in STARS.iter() {
-        assert_eq!(rt; leaves_pattern(rt.alloc(), row)?, true, "{row}");
-    }
-    Ok(())
+    expect_patterns(&rt, rt.alloc(), STARS.as_slice())
 }

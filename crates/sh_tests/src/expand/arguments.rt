@@ -1,5 +1,5 @@
 //! The fields of words: `$@` and `$*`, as `dash` answers where the rule isn't our own.
-use super::rows::has_fields;
+use super::rows::expect_fields;
 use std::test::Fail;
 
 /// In double quotes.
@@ -58,10 +58,7 @@ static QUOTED: [&str; 46] = [
 /// `"$@"` gives each argument, and `"$*"` one field.
 #[test]
 fn quoted_arguments_are_fields_or_one(rt: HostRuntime) -> Result<(), Fail> {
-    for row in QUOTED.iter() {
-        assert_eq!(rt; has_fields(rt.alloc(), row)?, true, "{row}");
-    }
-    Ok(())
+    expect_fields(&rt, rt.alloc(), QUOTED.as_slice())
 }
 
 /// Outside quotes.
@@ -107,8 +104,5 @@ static UNQUOTED: [&str; 34] = [
 /// Each argument is split, and an empty one gives no field.
 #[test]
 fn arguments_are_split(rt: HostRuntime) -> Result<(), Fail> {
-    for row in UNQUOTED.iter() {
-        assert_eq!(rt; has_fields(rt.alloc(), row)?, true, "{row}");
-    }
-    Ok(())
+    expect_fields(&rt, rt.alloc(), UNQUOTED.as_slice())
 }

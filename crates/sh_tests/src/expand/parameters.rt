@@ -1,5 +1,5 @@
 //! The fields of words: quotes, and parameters with their forms, as `dash` answers where the rule isn't our own.
-use super::rows::has_fields;
+use super::rows::expect_fields;
 use std::test::Fail;
 
 /// Words without expansions, parameters, and their lengths.
@@ -59,10 +59,7 @@ static PLAIN: [&str; 47] = [
 /// A parameter that is unset gives nothing.
 #[test]
 fn parameters_give_their_texts(rt: HostRuntime) -> Result<(), Fail> {
-    for row in PLAIN.iter() {
-        assert_eq!(rt; has_fields(rt.alloc(), row)?, true, "{row}");
-    }
-    Ok(())
+    expect_fields(&rt, rt.alloc(), PLAIN.as_slice())
 }
 
 /// Forms with a word that is used or left.
@@ -138,10 +135,7 @@ static WORDS: [&str; 63] = [
 /// The word is expanded only where it is used, and an assignment stands for what follows.
 #[test]
 fn words_of_forms_are_used(rt: HostRuntime) -> Result<(), Fail> {
-    for row in WORDS.iter() {
-        assert_eq!(rt; has_fields(rt.alloc(), row)?, true, "{row}");
-    }
-    Ok(())
+    expect_fields(&rt, rt.alloc(), WORDS.as_slice())
 }
 
 /// `${x?w}` and `${x:?w}`.
@@ -173,10 +167,7 @@ static CHECKS: [&str; 22] = [
 /// The first fault is told, and what was assigned before it stays.
 #[test]
 fn unset_parameters_are_told(rt: HostRuntime) -> Result<(), Fail> {
-    for row in CHECKS.iter() {
-        assert_eq!(rt; has_fields(rt.alloc(), row)?, true, "{row}");
-    }
-    Ok(())
+    expect_fields(&rt, rt.alloc(), CHECKS.as_slice())
 }
 
 /// `${x%p}`, `${x%%p}`, `${x#p}`, `${x##p}`.
@@ -230,8 +221,5 @@ static CUTS: [&str; 43] = [
 /// The shortest or the longest ending or beginning that fits is removed.
 #[test]
 fn texts_are_cut_by_patterns(rt: HostRuntime) -> Result<(), Fail> {
-    for row in CUTS.iter() {
-        assert_eq!(rt; has_fields(rt.alloc(), row)?, true, "{row}");
-    }
-    Ok(())
+    expect_fields(&rt, rt.alloc(), CUTS.as_slice())
 }

@@ -1,5 +1,5 @@
 //! Whether a pattern byte is left before path expansion, as `dash` answers where the rule isn't our own.
-use super::rows::leaves_pattern;
+use super::rows::expect_patterns;
 use std::test::Fail;
 
 /// Pattern bytes, written or from an expansion.
@@ -76,10 +76,7 @@ static BYTES: [&str; 63] = [
 /// A quoted byte is none, and one that splitting drops neither.
 #[test]
 fn unquoted_pattern_bytes_are_left(rt: HostRuntime) -> Result<(), Fail> {
-    for row in BYTES.iter() {
-        assert_eq!(rt; leaves_pattern(rt.alloc(), row)?, true, "{row}");
-    }
-    Ok(())
+    expect_patterns(&rt, rt.alloc(), BYTES.as_slice())
 }
 
 /// All rules together.
@@ -179,8 +176,5 @@ static BYTES_TOGETHER: [&str; 90] = [
 /// Each part is expanded by its own rule, from the left.
 #[test]
 fn pattern_bytes_are_found_by_all_rules(rt: HostRuntime) -> Result<(), Fail> {
-    for row in BYTES_TOGETHER.iter() {
-        assert_eq!(rt; leaves_pattern(rt.alloc(), row)?, true, "{row}");
-    }
-    Ok(())
+    expect_patterns(&rt, rt.alloc(), BYTES_TOGETHER.as_slice())
 }

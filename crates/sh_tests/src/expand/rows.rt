@@ -19,6 +19,8 @@ use sh_arith::{ArithFault, Env};
 use sh_expand::{ExpandFault, Frame, expand, expand_one, has_pattern};
 use sh_tree::{Form, Param, Part, Word};
 use std::alloc::Global;
+use std::mem::replace;
+use std::process::Abort;
 use std::test::Fail;
 
 /// A row that was read.
@@ -60,83 +62,107 @@ struct Open {
     word: Option<Word>,
 }
 
-/// Whether `expand` answers what the row wants.
-pub(super) fn has_fields(alloc: Global, row: &str) -> Result<bool, Fail> {
-    let Row {
-        words,
-        mut given,
-        wanted,
-        left,
-    } = row_of(alloc, row)?;
-    let mut tree = tree_of(alloc, given.files)?;
-    let mut frame = Frame {
-        env: &mut given.env,
-        zero: b"s",
-        args: given.args.as_slice(),
-        status: given.status,
-        subs: given.subs.as_slice(),
-    };
-    let holds = match expand(alloc, words.as_slice(), &mut frame, &mut tree) {
-        Ok(fields) => fields.as_slice() == wanted.as_slice(),
-        Err(fault) => is_fault(&fault, wanted.as_slice()),
-    };
-    Ok(holds && are_same(&given.env, &left))
-}
-
-/// Whether `expand_one` answers what the row wants.
-pub(super) fn has_text(alloc: Global, row: &str) -> Result<bool, Fail> {
-    let Row {
-        words,
-        mut given,
-        wanted,
-        left,
-    } = row_of(alloc, row)?;
-    let mut frame = Frame {
-        env: &mut given.env,
-        zero: b"s",
-        args: given.args.as_slice(),
-        status: given.status,
-        subs: given.subs.as_slice(),
-    };
-    let [word] = words.as_slice() else {
-        return Ok(false);
-    };
-    let holds = match expand_one(alloc, word, &mut frame) {
-        Ok(text) => is_only(text.as_slice(), wanted.as_slice()),
-        Err(fault) => is_fault(&fault, wanted.as_slice()),
-    };
-    Ok(holds && are_same(&given.env, &left))
-}
-
-/// Whether `has_pattern` answers what the row wants.
-pub(super) fn leaves_pattern(alloc: Global, row: &str) -> Result<bool, Fail> {
-    let Row {
-        words,
-        mut given,
-        wanted,
-        left,
-    } = row_of(alloc, row)?;
-    let mut frame = Frame {
-        env: &mut given.env,
-        zero: b"s",
-        args: given.args.as_slice(),
-        status: given.status,
-        subs: given.subs.as_slice(),
-    };
-    let holds = match has_pattern(alloc, words.as_slice(), &mut frame) {
-        Ok(true) => is_only(b"yes", wanted.as_slice()),
-        Ok(false) => is_only(b"no", wanted.as_slice()),
-        Err(fault) => is_fault(&fault, wanted.as_slice()),
-    };
-    Ok(holds && are_same(&given.env, &left))
-}
-
-/// Whether this is the one item.
-fn is_only(text: &[u8], items: &[Vec<u8>]) -> bool {
-    match items {
-        [only] => text == only.as_slice(),
-        [..] => false,
+/// Whether `expand` answers what each row wants.
+pub(super) fn expect_fields(rt: &impl Abort, alloc: Global, rows: &[&str]) -> Result<(), Fail> {
+    for row in rows {
+        assert!(rt; has_fields(alloc, row)?, "{row}");
     }
+    Ok(())
+}
+
+/// Whether `expand_one` answers what each row wants.
+pub(super) fn expect_texts(rt: &impl Abort, alloc: Global, rows: &[&str]) -> Result<(), Fail> {
+    for row in rows {
+        assert!(rt; has_text(alloc, row)?, "{row}");
+    }
+    Ok(())
+}
+
+/// Whether `has_pattern` answers what each row wants.
+pub(super) fn expect_patterns(rt: &impl Abort, alloc: Global, rows: &[&str]) -> Result<(), Fail> {
+    for row in rows {
+        assert!(rt; leaves_pattern(alloc, row)?, "{row}");
+    }
+    Ok(())
+}
+
+fn has_fields(alloc: Global, row: &str) -> Result<bool, Fail> {
+    let mut row = row_of(alloc, row)?;
+    let holds = becomes_fields(alloc, &mut row)?;
+    Ok(holds & are_same(&row.given.env, &row.left))
+}
+
+fn has_text(alloc: Global, row: &str) -> Result<bool, Fail> {
+    let mut row = row_of(alloc, row)?;
+    let holds = becomes_text(alloc, &mut row);
+    Ok(holds & are_same(&row.given.env, &row.left))
+}
+
+fn leaves_pattern(alloc: Global, row: &str) -> Result<bool, Fail> {
+    let mut row = row_of(alloc, row)?;
+    let holds = tells_pattern(alloc, &mut row);
+    Ok(holds & are_same(&row.given.env, &row.left))
+}
+
+fn becomes_fields(alloc: Global, row: &mut Row) -> Result<bool, Fail> {
+    let files = replace(&mut row.given.files, Vec::new(alloc));
+    let mut tree = tree_of(alloc, files)?;
+    let mut frame = Frame {
+        env: &mut row.given.env,
+        zero: b"s",
+        args: row.given.args.as_slice(),
+        status: row.given.status,
+        subs: row.given.subs.as_slice(),
+    };
+    match expand(alloc, row.words.as_slice(), &mut frame, &mut tree) {
+        Ok(fields) => Ok(fields.as_slice() == row.wanted.as_slice()),
+        Err(fault) => Ok(is_fault(&fault, row.wanted.as_slice())),
+    }
+}
+
+fn becomes_text(alloc: Global, row: &mut Row) -> bool {
+    let mut frame = Frame {
+        env: &mut row.given.env,
+        zero: b"s",
+        args: row.given.args.as_slice(),
+        status: row.given.status,
+        subs: row.given.subs.as_slice(),
+    };
+    let [word] = row.words.as_slice() else {
+        return false;
+    };
+    match expand_one(alloc, word, &mut frame) {
+        Ok(text) => are(row.wanted.as_slice(), &[text.as_slice()]),
+        Err(fault) => is_fault(&fault, row.wanted.as_slice()),
+    }
+}
+
+fn tells_pattern(alloc: Global, row: &mut Row) -> bool {
+    let mut frame = Frame {
+        env: &mut row.given.env,
+        zero: b"s",
+        args: row.given.args.as_slice(),
+        status: row.given.status,
+        subs: row.given.subs.as_slice(),
+    };
+    match has_pattern(alloc, row.words.as_slice(), &mut frame) {
+        Ok(true) => are(row.wanted.as_slice(), &[b"yes"]),
+        Ok(false) => are(row.wanted.as_slice(), &[b"no"]),
+        Err(fault) => is_fault(&fault, row.wanted.as_slice()),
+    }
+}
+
+/// Whether the items are these.
+fn are(items: &[Vec<u8>], wanted: &[&[u8]]) -> bool {
+    if items.len() != wanted.len() {
+        return false;
+    }
+    for (item, text) in items.iter().zip(wanted) {
+        if item.as_slice() != *text {
+            return false;
+        }
+    }
+    true
 }
 
 /// Reads a row.
@@ -145,9 +171,8 @@ fn row_of(alloc: Global, row: &str) -> Result<Row, Fail> {
     let words = words_of(alloc, columns.next().unwrap_or(&[]))?;
     let before = columns.next().unwrap_or(&[]);
     let wanted = items_of(alloc, columns.next().unwrap_or(&[]))?;
-    let given = with_items(alloc, nothing(alloc), before)?;
-    let left = with_items(alloc, nothing(alloc), before)?;
-    let left = with_items(alloc, left, columns.next().unwrap_or(&[]))?;
+    let given = setting_of(alloc, before, &[])?;
+    let left = setting_of(alloc, before, columns.next().unwrap_or(&[]))?;
     Ok(Row {
         words,
         given,
@@ -159,12 +184,7 @@ fn row_of(alloc: Global, row: &str) -> Result<Row, Fail> {
 /// Whether the variables that rows name are the same.
 fn are_same(env: &Env, other: &Env) -> bool {
     for name in ["IFS", "f", "p", "u", "v", "w", "x", "y"] {
-        let same = match (env.get(name.as_bytes()), other.get(name.as_bytes())) {
-            (Some(text), Some(wanted)) => text == wanted,
-            (None, None) => true,
-            (Some(_), None) | (None, Some(_)) => false,
-        };
-        if !same {
+        if env.get(name.as_bytes()) != other.get(name.as_bytes()) {
             return false;
         }
     }
@@ -173,21 +193,20 @@ fn are_same(env: &Env, other: &Env) -> bool {
 
 /// Whether the items are the fault's name and its details.
 fn is_fault(fault: &ExpandFault, items: &[Vec<u8>]) -> bool {
-    match (fault, items) {
-        (ExpandFault::Unset(name, text), [kind, named, told]) => {
-            kind.as_slice() == b"!Unset".as_slice()
-                && name.as_slice() == named.as_slice()
-                && text.as_slice() == told.as_slice()
-        }
-        (ExpandFault::Arith(why), [kind, cause]) => {
-            kind.as_slice() == b"!Arith".as_slice() && cause.as_slice() == cause_of(why)
-        }
-        (ExpandFault::Arith(ArithFault::NotANumber(name)), [kind, cause, named]) => {
-            kind.as_slice() == b"!Arith".as_slice()
-                && cause.as_slice() == b"NotANumber".as_slice()
-                && name.as_slice() == named.as_slice()
-        }
-        _ => false,
+    match fault {
+        ExpandFault::Unset(name, text) => are(
+            items,
+            &[b"!Unset", name.as_slice(), text.as_slice()],
+        ),
+        ExpandFault::Arith(why) => is_arith_fault(why, items),
+        ExpandFault::ArgsTooMany | ExpandFault::Failed | ExpandFault::Memory => false,
+    }
+}
+
+fn is_arith_fault(fault: &ArithFault, items: &[Vec<u8>]) -> bool {
+    match fault {
+        ArithFault::NotANumber(name) => are(items, &[b"!Arith", b"NotANumber", name.as_slice()]),
+        other => are(items, &[b"!Arith", cause_of(other)]),
     }
 }
 
@@ -215,6 +234,14 @@ fn malformed<T>(why: &'static str) -> Result<T, Fail> {
     Ok(row.ok_or(why)?)
 }
 
+/// What these two columns give.
+fn setting_of(alloc: Global, before: &[u8], behind: &[u8]) -> Result<Setting, Fail> {
+    let mut given = nothing(alloc);
+    add_items(alloc, &mut given, before)?;
+    add_items(alloc, &mut given, behind)?;
+    Ok(given)
+}
+
 fn nothing(alloc: Global) -> Setting {
     Setting {
         env: Env::new(alloc),
@@ -225,40 +252,60 @@ fn nothing(alloc: Global) -> Setting {
     }
 }
 
-/// The same with the items of a column; of two texts of a variable the last counts.
-fn with_items(alloc: Global, given: Setting, column: &[u8]) -> Result<Setting, Fail> {
-    let mut given = given;
+/// Adds the items of a column; of two texts of a variable the last counts.
+fn add_items(alloc: Global, given: &mut Setting, column: &[u8]) -> Result<(), Fail> {
     for item in column.split(|byte| *byte == b' ') {
-        given = with_item(alloc, given, item)?;
+        add_item(alloc, given, item)?;
     }
-    Ok(given)
+    Ok(())
 }
 
-/// The same with one item more.
-fn with_item(alloc: Global, given: Setting, item: &[u8]) -> Result<Setting, Fail> {
-    let mut given = given;
+fn add_item(alloc: Global, given: &mut Setting, item: &[u8]) -> Result<(), Fail> {
     match item {
-        [] => {}
-        [b'@', text @ ..] => given.args.push(unescaped(alloc, text)?)?,
-        [b'$', text @ ..] => given.subs.push(unescaped(alloc, text)?)?,
-        [b'?', digits @ ..] => match u8::try_from(number_of(digits)?) {
-            Ok(status) => given.status = status,
-            Err(_) => return malformed("a status is below 256"),
-        },
-        [b'/', file @ ..] => {
-            let (path, content) = parted(file);
-            let mut whole = Vec::from_slice(alloc, b"/w/")?;
-            whole.extend_from_slice(unescaped(alloc, path)?.as_slice())?;
-            given.files.push((whole, Some(unescaped(alloc, content)?)))?;
-        }
-        variable => {
-            let (name, text) = parted(variable);
-            given
-                .env
-                .set(alloc, name, unescaped(alloc, text)?.as_slice())?;
-        }
+        [] => Ok(()),
+        [b'@', text @ ..] => add_text(alloc, &mut given.args, text),
+        [b'$', text @ ..] => add_text(alloc, &mut given.subs, text),
+        [b'?', digits @ ..] => set_status(given, digits),
+        [b'/', file @ ..] => add_file(alloc, &mut given.files, file),
+        variable => set_variable(alloc, &mut given.env, variable),
     }
-    Ok(given)
+}
+
+fn add_text(alloc: Global, texts: &mut Vec<Vec<u8>>, item: &[u8]) -> Result<(), Fail> {
+    Ok(texts.push(unescaped(alloc, item)?)?)
+}
+
+fn set_status(given: &mut Setting, digits: &[u8]) -> Result<(), Fail> {
+    match u8::try_from(number_of(digits)?) {
+        Ok(status) => given.status = status,
+        Err(_) => return malformed("a status is below 256"),
+    }
+    Ok(())
+}
+
+fn add_file(
+    alloc: Global,
+    files: &mut Vec<(Vec<u8>, Option<Vec<u8>>)>,
+    file: &[u8],
+) -> Result<(), Fail> {
+    let (path, content) = parted(file);
+    let whole = path_of(alloc, path)?;
+    let content = unescaped(alloc, content)?;
+    Ok(files.push((whole, Some(content)))?)
+}
+
+/// The path below `/w`.
+fn path_of(alloc: Global, path: &[u8]) -> Result<Vec<u8>, Fail> {
+    let below = unescaped(alloc, path)?;
+    let mut whole = Vec::from_slice(alloc, b"/w/")?;
+    whole.extend_from_slice(below.as_slice())?;
+    Ok(whole)
+}
+
+fn set_variable(alloc: Global, env: &mut Env, variable: &[u8]) -> Result<(), Fail> {
+    let (name, text) = parted(variable);
+    let text = unescaped(alloc, text)?;
+    Ok(env.set(alloc, name, text.as_slice())?)
 }
 
 /// What stands before the first `=`, and behind it.
@@ -374,23 +421,19 @@ fn read_piece(
 
 /// Adds bytes, or an atom, to what is open.
 fn add_atom(alloc: Global, atom: &[u8], opened: &mut Vec<Open>) -> Result<(), Fail> {
-    let Some(mut open) = opened.pop() else {
+    let Some(open) = opened.last_mut() else {
         return malformed("bytes stand outside of a word");
     };
     match atom {
-        [b'p', b':', text @ ..] => {
-            let text = unescaped(alloc, text)?;
-            open.parts
-                .push(Part::Plain(Text::copy_of(alloc, text.as_slice())?))?;
-        }
-        [b'q', b':', text @ ..] => {
-            let text = unescaped(alloc, text)?;
-            open.parts
-                .push(Part::Quoted(Text::copy_of(alloc, text.as_slice())?))?;
-        }
-        atom => open.atoms.push(Vec::from_slice(alloc, atom)?)?,
+        [b'p', b':', text @ ..] => Ok(open.parts.push(Part::Plain(text_of(alloc, text)?))?),
+        [b'q', b':', text @ ..] => Ok(open.parts.push(Part::Quoted(text_of(alloc, text)?))?),
+        atom => Ok(open.atoms.push(Vec::from_slice(alloc, atom)?)?),
     }
-    Ok(opened.push(open)?)
+}
+
+fn text_of(alloc: Global, item: &[u8]) -> Result<Text, Fail> {
+    let bytes = unescaped(alloc, item)?;
+    Ok(Text::copy_of(alloc, bytes.as_slice())?)
 }
 
 /// Closes what was opened last.

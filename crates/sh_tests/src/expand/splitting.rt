@@ -1,5 +1,5 @@
 //! The fields of words: field splitting (XCU 2.6.5), as `dash` answers where the rule isn't our own.
-use super::rows::has_fields;
+use super::rows::expect_fields;
 use std::test::Fail;
 
 /// IFS is unset.
@@ -43,10 +43,7 @@ static UNSET: [&str; 33] = [
 /// Space, tab and newline split where IFS is unset.
 #[test]
 fn white_space_splits(rt: HostRuntime) -> Result<(), Fail> {
-    for row in UNSET.iter() {
-        assert_eq!(rt; has_fields(rt.alloc(), row)?, true, "{row}");
-    }
-    Ok(())
+    expect_fields(&rt, rt.alloc(), UNSET.as_slice())
 }
 
 /// IFS is set.
@@ -105,8 +102,5 @@ static OTHER: [&str; 49] = [
 /// White space of IFS joins, and each other byte of it ends a field.
 #[test]
 fn bytes_of_ifs_split(rt: HostRuntime) -> Result<(), Fail> {
-    for row in OTHER.iter() {
-        assert_eq!(rt; has_fields(rt.alloc(), row)?, true, "{row}");
-    }
-    Ok(())
+    expect_fields(&rt, rt.alloc(), OTHER.as_slice())
 }

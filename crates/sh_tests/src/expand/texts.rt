@@ -1,5 +1,5 @@
 //! The texts of words of which nothing is split, as `dash` answers where the rule isn't our own.
-use super::rows::has_text;
+use super::rows::expect_texts;
 use std::test::Fail;
 
 /// Neither splitting nor path expansion.
@@ -61,10 +61,7 @@ static WHOLE: [&str; 51] = [
 /// One text is given, whatever is in it.
 #[test]
 fn nothing_is_split(rt: HostRuntime) -> Result<(), Fail> {
-    for row in WHOLE.iter() {
-        assert_eq!(rt; has_text(rt.alloc(), row)?, true, "{row}");
-    }
-    Ok(())
+    expect_texts(&rt, rt.alloc(), WHOLE.as_slice())
 }
 
 /// Forms, substitutions and arithmetic.
@@ -126,10 +123,7 @@ static FORMS: [&str; 51] = [
 /// Forms, substitutions and arithmetic give their texts.
 #[test]
 fn forms_give_one_text(rt: HostRuntime) -> Result<(), Fail> {
-    for row in FORMS.iter() {
-        assert_eq!(rt; has_text(rt.alloc(), row)?, true, "{row}");
-    }
-    Ok(())
+    expect_texts(&rt, rt.alloc(), FORMS.as_slice())
 }
 
 /// All rules together.
@@ -209,8 +203,5 @@ static TOGETHER: [&str; 70] = [
 /// Each part is expanded by its own rule, from the left.
 #[test]
 fn rules_hold_for_one_text(rt: HostRuntime) -> Result<(), Fail> {
-    for row in TOGETHER.iter() {
-        assert_eq!(rt; has_text(rt.alloc(), row)?, true, "{row}");
-    }
-    Ok(())
+    expect_texts(&rt, rt.alloc(), TOGETHER.as_slice())
 }

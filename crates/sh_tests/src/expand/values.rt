@@ -1,5 +1,5 @@
 //! The fields of words: command substitutions and arithmetic, as `dash` answers where the rule isn't our own.
-use super::rows::has_fields;
+use super::rows::expect_fields;
 use std::test::Fail;
 
 /// Command substitutions.
@@ -27,10 +27,7 @@ static SUBSTITUTIONS: [&str; 18] = [
 /// Their texts are given in order.
 #[test]
 fn substitutions_give_their_texts(rt: HostRuntime) -> Result<(), Fail> {
-    for row in SUBSTITUTIONS.iter() {
-        assert_eq!(rt; has_fields(rt.alloc(), row)?, true, "{row}");
-    }
-    Ok(())
+    expect_fields(&rt, rt.alloc(), SUBSTITUTIONS.as_slice())
 }
 
 /// Arithmetic expansions (XCU 2.6.4).
@@ -73,8 +70,5 @@ static ARITHMETIC: [&str; 32] = [
 /// A value is a text in decimal; a fault leaves the assignments before it.
 #[test]
 fn expressions_give_their_values(rt: HostRuntime) -> Result<(), Fail> {
-    for row in ARITHMETIC.iter() {
-        assert_eq!(rt; has_fields(rt.alloc(), row)?, true, "{row}");
-    }
-    Ok(())
+    expect_fields(&rt, rt.alloc(), ARITHMETIC.as_slice())
 }

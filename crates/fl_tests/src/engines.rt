@@ -1,14 +1,13 @@
 //! Graphs on an engine.
+use crate::graph::graph;
 use fl_core::{Came, Ends, Engine, InTurn, Over, are_run, number_ends, run_own};
-use fl_graph::{From, Graph, Node, NodeKind, Seq, StatusRule, To, validate};
+use fl_graph::{Graph, validate};
 use ps_fakes::{MemSink, MemSource, OpenGate};
-use ps_world::{Mode, Path};
 use std::alloc::{AllocError, Global};
 use std::process::Abort;
 use std::sync::Wait;
 use std::test::Fail;
 use std::thread::Threads;
-use ut_args::{Inv, read_inv};
 use ut_options::Texts;
 
 /// An engine that has run nothing, for the host that a test has.
@@ -16,51 +15,9 @@ fn in_turn<H: Threads + Wait + Sync>(_rt: &H, alloc: Global) -> InTurn<H> {
     InTurn::new(alloc)
 }
 
-/// A node of these edges.
-fn node(alloc: Global, kind: NodeKind, ins: &[u32], outs: &[u32]) -> Result<Node, AllocError> {
-    Ok(Node {
-        kind,
-        ins: Seq::from_vec(Vec::from_slice(alloc, ins)?),
-        outs: Seq::from_vec(Vec::from_slice(alloc, outs)?),
-        stage: 0,
-    })
-}
-
-/// The invocation of these words.
-fn invocation(rt: &(impl Abort + AllocGlobal), words: &[&str]) -> Result<Inv, AllocError> {
-    let alloc = rt.alloc();
-    let mut texts = Vec::new(alloc);
-    for word in words {
-        texts.push(Vec::from_slice(alloc, word.as_bytes())?)?;
-    }
-    assert!(rt; !texts.is_empty());
-    Ok(read_inv(alloc, texts.as_slice()).expect(rt, "an invocation"))
-}
-
 /// The graph in which grep takes standard input, and cat the file `/f`, which it puts into the file `/g`; its status is that of grep.
-fn grep_and_cat(rt: &(impl Abort + AllocGlobal)) -> Result<Graph, AllocError> {
-    let alloc = rt.alloc();
-    let read = Path::read(alloc, b"/f")?.expect(rt, "a path");
-    let written = Path::read(alloc, b"/g")?.expect(rt, "a path");
-    let grep = NodeKind::Whole(invocation(rt, &["grep", "-F", "b"])?);
-    let cat = NodeKind::Whole(invocation(rt, &["cat"])?);
-    let to_file = NodeKind::Sink(To::File(written, Mode::Fresh));
-    let mut nodes = Vec::new(alloc);
-    nodes.push(node(alloc, NodeKind::Source(From::Input), &[], &[0])?)?;
-    nodes.push(node(alloc, NodeKind::Source(From::File(read)), &[], &[1])?)?;
-    nodes.push(node(alloc, grep, &[0], &[2])?)?;
-    nodes.push(node(alloc, cat, &[1], &[3])?)?;
-    nodes.push(node(alloc, to_file, &[3], &[])?)?;
-    nodes.push(node(alloc, NodeKind::Sink(To::Output), &[2], &[])?)?;
-    Ok(Graph {
-        nodes: Seq::from_vec(nodes),
-        status: StatusRule::Selected {
-            nodes: Seq::from_vec(Vec::from_slice(alloc, &[2])?),
-            some: 0,
-            none: 1,
-        },
-    })
-}
+static GREP_AND_CAT: &str =
+    "input - 0|read=/f - 1|whole=grep,-F,b 0 2|whole=cat 1 3|write=/g 3 -|output 2 -";
 
 /// Which end fails at its first call.
 #[derive(Clone, Copy, PartialEq, Eq)]
@@ -81,37 +38,79 @@ fn fails(alloc: Global, first: bool) -> Result<Vec<u64>, AllocError> {
     Ok(fails)
 }
 
+/// A source of this text.
+fn source(alloc: Global, text: &[u8], fail: bool) -> Result<MemSource, AllocError> {
+    let text = Vec::from_slice(alloc, text)?;
+    Ok(MemSource::new(text, fails(alloc, fail)?))
+}
+
+/// The reader of the one file.
+fn readers(alloc: Global, fail: bool) -> Result<Vec<(u32, MemSource)>, AllocError> {
+    let mut readers = Vec::new(alloc);
+    readers.push((0, source(alloc, b"in a file", fail)?))?;
+    Ok(readers)
+}
+
+/// The writer of the other.
+fn writers(alloc: Global, fail: bool) -> Result<Vec<(u32, MemSink)>, AllocError> {
+    let mut writers = Vec::new(alloc);
+    writers.push((0, MemSink::new(alloc, fails(alloc, fail)?)))?;
+    Ok(writers)
+}
+
+/// The ends of the graph, of which one may fail.
+fn ends(
+    alloc: Global,
+    failing: Failing,
+) -> Result<Ends<MemSource, MemSink, MemSource, MemSink>, AllocError> {
+    Ok(Ends {
+        readers: readers(alloc, failing == Failing::Reader)?,
+        writers: writers(alloc, failing == Failing::Writer)?,
+        input: source(alloc, b"a\nab\nb\nc", failing == Failing::Input)?,
+        out: MemSink::new(alloc, fails(alloc, failing == Failing::Output)?),
+    })
+}
+
 /// What comes of the graph on an engine.
 fn run_on<X: Engine>(
     rt: &(impl Abort + AllocGlobal),
     engine: &mut X,
     failing: Failing,
-) -> Result<Over<MemSource, MemSink, MemSource, MemSink>, AllocError> {
-    let alloc = rt.alloc();
-    let graph = grep_and_cat(rt)?;
-    assert!(rt; validate(&graph));
+) -> Result<Over<MemSource, MemSink, MemSource, MemSink>, Fail> {
+    let graph = graph(rt.alloc(), GREP_AND_CAT, "2")?;
+    let ends = ends(rt.alloc(), failing)?;
+    run_graph(rt, engine, &graph, ends)
+}
+
+fn run_graph<X: Engine>(
+    rt: &(impl Abort + AllocGlobal),
+    engine: &mut X,
+    graph: &Graph,
+    ends: Ends<MemSource, MemSink, MemSource, MemSink>,
+) -> Result<Over<MemSource, MemSink, MemSource, MemSink>, Fail> {
+    let mut ends = ends;
+    assert!(rt; validate(graph));
     assert!(rt; are_run(graph.nodes.as_slice()));
-    let file = Vec::from_slice(alloc, b"in a file")?;
-    let mut readers = Vec::new(alloc);
-    readers.push((
-        0,
-        MemSource::new(file, fails(alloc, failing == Failing::Reader)?),
-    ))?;
-    let mut writers = Vec::new(alloc);
-    writers.push((
-        0,
-        MemSink::new(alloc, fails(alloc, failing == Failing::Writer)?),
-    ))?;
-    let text = Vec::from_slice(alloc, b"a\nab\nb\nc")?;
-    let mut ends = Ends {
-        readers,
-        writers,
-        input: MemSource::new(text, fails(alloc, failing == Failing::Input)?),
-        out: MemSink::new(alloc, fails(alloc, failing == Failing::Output)?),
-    };
-    let fit = number_ends(&graph, &mut ends).expect(rt, "numbers of 32 bits");
+    let fit = number_ends(graph, &mut ends).expect(rt, "numbers of 32 bits");
     assert!(rt; fit);
-    Ok(run_own(alloc, engine, &graph, ends, &OpenGate))
+    Ok(run_own(rt.alloc(), engine, graph, ends, &OpenGate))
+}
+
+/// What the ends have taken.
+fn expect_taken(rt: &impl Abort, ends: &Ends<MemSource, MemSink, MemSource, MemSink>) {
+    assert_eq!(rt; ends.out.taken(), b"ab\nb\n".as_slice());
+    for (_number, writer) in &ends.writers {
+        assert_eq!(rt; writer.taken(), b"in a file".as_slice());
+    }
+}
+
+/// The words of grep are told, and not those of cat.
+fn expect_used(rt: &impl Abort, used: &[Texts]) {
+    assert_eq!(rt; used.len(), 1);
+    for texts in used {
+        assert_eq!(rt; texts.as_slice().len(), 3);
+        assert_eq!(rt; texts.as_slice()[0].as_slice(), b"grep".as_slice());
+    }
 }
 
 #[test]
@@ -119,29 +118,22 @@ fn an_engine_runs_a_graph_over_its_own_ends(rt: HostRuntime) -> Result<(), Fail>
     let mut engine = in_turn(&rt, rt.alloc());
     let over = run_on(&rt, &mut engine, Failing::None)?;
     assert_eq!(rt; over.came, Came::Done(0));
-    assert_eq!(rt; over.ends.out.taken(), b"ab\nb\n".as_slice());
-    for (_number, writer) in &over.ends.writers {
-        assert_eq!(rt; writer.taken(), b"in a file".as_slice());
-    }
-    // The words of grep are told, and not those of cat.
-    let words: &[Texts] = engine.used();
-    assert_eq!(rt; words.len(), 1);
-    for texts in words {
-        assert_eq!(rt; texts.as_slice().len(), 3);
-        assert_eq!(rt; texts.as_slice()[0].as_slice(), b"grep".as_slice());
-    }
+    expect_taken(&rt, &over.ends);
+    expect_used(&rt, engine.used());
     Ok(())
 }
 
+/// Which end fails, and what is told.
+static FAILED: [(Failing, Came); 4] = [
+    (Failing::Input, Came::Input),
+    (Failing::Output, Came::Output),
+    (Failing::Reader, Came::Reader),
+    (Failing::Writer, Came::Writer),
+];
+
 #[test]
 fn a_failed_end_is_told_by_its_kind(rt: HostRuntime) -> Result<(), Fail> {
-    let rows = [
-        (Failing::Input, Came::Input),
-        (Failing::Output, Came::Output),
-        (Failing::Reader, Came::Reader),
-        (Failing::Writer, Came::Writer),
-    ];
-    for (failing, came) in rows {
+    for &(failing, came) in FAILED.iter() {
         let mut engine = in_turn(&rt, rt.alloc());
         let over = run_on(&rt, &mut engine, failing)?;
         assert_eq!(rt; over.came, came);

@@ -103,66 +103,77 @@ fn file_kind(name: &[u8], path: Path) -> Option<NodeKind> {
 
 /// A kind, with its details after an equals sign.
 fn kind(alloc: Global, text: &[u8]) -> Result<Option<NodeKind>, Memory> {
-    let parts = parts(alloc, text, b'=')?;
-    match parts.as_slice() {
-        [name] => plain_kind(alloc, name.as_slice()),
-        [name, details] => {
-            if let Some(path) = Path::read(alloc, details.as_slice())? {
-                return Ok(file_kind(name.as_slice(), path));
-            }
-            match invocation(alloc, details.as_slice())? {
-                Some(inv) => Ok(running_kind(name.as_slice(), inv)),
-                None => Ok(None),
-            }
-        }
-        _ => Ok(None),
+    let mut parts = text.split(|byte| *byte == b'=');
+    let name = parts.next().unwrap_or(&[]);
+    match parts.next() {
+        None => plain_kind(alloc, name),
+        Some(details) => detailed_kind(alloc, name, details),
+    }
+}
+
+fn detailed_kind(alloc: Global, name: &[u8], details: &[u8]) -> Result<Option<NodeKind>, Memory> {
+    match Path::read(alloc, details)? {
+        Some(path) => Ok(file_kind(name, path)),
+        None => invoked_kind(alloc, name, details),
+    }
+}
+
+fn invoked_kind(alloc: Global, name: &[u8], details: &[u8]) -> Result<Option<NodeKind>, Memory> {
+    match invocation(alloc, details)? {
+        Some(inv) => Ok(running_kind(name, inv)),
+        None => Ok(None),
     }
 }
 
 /// A node, in the stage 0.
-fn node(alloc: Global, text: &[u8]) -> Result<Option<Node>, Memory> {
-    let parts = parts(alloc, text, b' ')?;
-    match parts.as_slice() {
-        [name, ins, outs] => {
-            let ins = numbers(alloc, ins.as_slice())?;
-            let outs = numbers(alloc, outs.as_slice())?;
-            match kind(alloc, name.as_slice())? {
-                Some(kind) => Ok(Some(Node {
-                    kind,
-                    ins: Seq::from_vec(ins),
-                    outs: Seq::from_vec(outs),
-                    stage: 0,
-                })),
-                None => Ok(None),
-            }
-        }
-        _ => Ok(None),
-    }
+fn node(alloc: Global, text: &[u8]) -> Result<Node, Fail> {
+    let mut parts = text.split(|byte| *byte == b' ');
+    let name = parts.next().unwrap_or(&[]);
+    let ins = parts.next().unwrap_or(&[]);
+    let outs = parts.next().unwrap_or(&[]);
+    let kind = kind(alloc, name)?.ok_or("no kind of node")?;
+    node_of(alloc, kind, ins, outs)
+}
+
+fn node_of(alloc: Global, kind: NodeKind, ins: &[u8], outs: &[u8]) -> Result<Node, Fail> {
+    let ins = Seq::from_vec(numbers(alloc, ins)?);
+    let outs = Seq::from_vec(numbers(alloc, outs)?);
+    Ok(Node {
+        kind,
+        ins,
+        outs,
+        stage: 0,
+    })
 }
 
 /// A graph whose status is 0, or where there are names that of the nodes named.
-fn graph(alloc: Global, text: &str, names: &str) -> Result<Option<Graph>, Memory> {
-    let mut nodes = Vec::new(alloc);
-    for part in text.as_bytes().split(|byte| *byte == b'|') {
-        match node(alloc, part)? {
-            Some(node) => nodes.push(node)?,
-            None => return Ok(None),
-        }
-    }
-    let named = numbers(alloc, names.as_bytes())?;
-    let status = if named.is_empty() {
-        StatusRule::Fixed(0)
-    } else {
-        StatusRule::Selected {
-            nodes: Seq::from_vec(named),
-            some: 0,
-            none: 1,
-        }
-    };
-    Ok(Some(Graph {
+pub(crate) fn graph(alloc: Global, text: &str, names: &str) -> Result<Graph, Fail> {
+    let status = status(alloc, names.as_bytes())?;
+    let nodes = nodes(alloc, text.as_bytes())?;
+    Ok(Graph {
         nodes: Seq::from_vec(nodes),
         status,
-    }))
+    })
+}
+
+fn status(alloc: Global, names: &[u8]) -> Result<StatusRule, Fail> {
+    let named = numbers(alloc, names)?;
+    if named.is_empty() {
+        return Ok(StatusRule::Fixed(0));
+    }
+    Ok(StatusRule::Selected {
+        nodes: Seq::from_vec(named),
+        some: 0,
+        none: 1,
+    })
+}
+
+fn nodes(alloc: Global, text: &[u8]) -> Result<Vec<Node>, Fail> {
+    let mut nodes = Vec::new(alloc);
+    for part in text.split(|byte| *byte == b'|') {
+        nodes.push(node(alloc, part)?)?;
+    }
+    Ok(nodes)
 }
 
 /// Whether each graph of a table, with the nodes that its status names, is valid or not.
@@ -173,221 +184,226 @@ fn expect_all(
     valid: bool,
 ) -> Result<(), Fail> {
     for (text, names) in cases {
-        match graph(alloc, text, names)? {
-            Some(graph) => {
-                let answer = validate(&graph);
-                if answer {
-                    each_number_is_an_edge(&graph);
-                }
-                assert_eq!(rt; answer, valid, "{text} {names}");
-            }
-            None => assert!(rt; false, "no graph: {text}"),
+        let graph = graph(alloc, text, names)?;
+        let answer = validate(&graph);
+        if answer {
+            each_number_is_an_edge(&graph);
         }
+        assert!(rt; answer == valid, "{text} {names}");
     }
     Ok(())
 }
 
+static VALID: [(&str, &str); 21] = [
+    ("input - 0|output 0 -", "-"),
+    ("read=/f - 0|write=/g 0 -", "-"),
+    ("text - 0|drain 0 -", "-"),
+    ("read=/f - 0|whole=grep,-F,w 0 1|output 1 -", "1"),
+    ("input - 0|whole=wc,-l 0 1|output 1 -", "-"),
+    ("input - 0|whole=wc,-w 0 1|output 1 -", "-"),
+    ("input - 0|text - 1|whole=wc,a,b 01 2|output 2 -", "-"),
+    ("input - 0|whole=tr,-s,a 0 1|output 1 -", "-"),
+    ("input - 0|whole=grep,-n,w 0 1|output 1 -", "1"),
+    ("input - 0|map=tail 0 1|output 1 -", "-"),
+    ("whole=cat, - 0|output 0 -", "-"),
+    ("input - 0|split 0 1|drain 1 -", "-"),
+    ("input - 1|output 1 -|text - 0|drain 0 -", "-"),
+    ("read=/f - 0|read=/g - 1|closing_cat 01 2|output 2 -", "-"),
+    ("read=/f - 0|read=/f - 1|cat 10 2|output 2 -", "-"),
+    (
+        "input - 0|split 0 12|map=grep,-F,w 1 3|map=grep,-F,w 2 4|cat 34 5|output 5 -",
+        "23",
+    ),
+    (
+        "input - 0|split 0 12|map=wc,-l 1 3|map=wc,-l 2 4|agg=wc,-l 34 5|finish=wc,-l 5 6|output 6 -",
+        "-",
+    ),
+    (
+        "input - 0|split 0 123|map=wc,-l 1 4|map=wc,-l 2 5|agg=wc,-l 45 6|map=wc,-l 3 7|agg=wc,-l 67 8|output 8 -",
+        "-",
+    ),
+    (
+        "input - 0|split 0 12|map=wc,-w 1 3|map=wc,-w 2 4|agg=wc,-w 34 5|output 5 -",
+        "-",
+    ),
+    (
+        "input - 0|split 0 12|map=grep,-c,w 1 3|map=grep,-c,w 2 4|agg=grep,-c,w 34 5|output 5 -",
+        "23",
+    ),
+    ("input - 0|tee=/f 0 1|tee=/g 1 2|output 2 -", "-"),
+];
+
 #[test]
 fn valid_graphs_are_valid(rt: HostRuntime) -> Result<(), Fail> {
-    let cases = [
-        ("input - 0|output 0 -", "-"),
-        ("read=/f - 0|write=/g 0 -", "-"),
-        ("text - 0|drain 0 -", "-"),
-        ("read=/f - 0|whole=grep,-F,w 0 1|output 1 -", "1"),
-        ("input - 0|whole=wc,-l 0 1|output 1 -", "-"),
-        ("input - 0|whole=wc,-w 0 1|output 1 -", "-"),
-        ("input - 0|text - 1|whole=wc,a,b 01 2|output 2 -", "-"),
-        ("input - 0|whole=tr,-s,a 0 1|output 1 -", "-"),
-        ("input - 0|whole=grep,-n,w 0 1|output 1 -", "1"),
-        ("input - 0|map=tail 0 1|output 1 -", "-"),
-        ("whole=cat, - 0|output 0 -", "-"),
-        ("input - 0|split 0 1|drain 1 -", "-"),
-        ("input - 1|output 1 -|text - 0|drain 0 -", "-"),
-        ("read=/f - 0|read=/g - 1|closing_cat 01 2|output 2 -", "-"),
-        ("read=/f - 0|read=/f - 1|cat 10 2|output 2 -", "-"),
-        (
-            "input - 0|split 0 12|map=grep,-F,w 1 3|map=grep,-F,w 2 4|cat 34 5|output 5 -",
-            "23",
-        ),
-        (
-            "input - 0|split 0 12|map=wc,-l 1 3|map=wc,-l 2 4|agg=wc,-l 34 5|finish=wc,-l 5 6|output 6 -",
-            "-",
-        ),
-        (
-            "input - 0|split 0 123|map=wc,-l 1 4|map=wc,-l 2 5|agg=wc,-l 45 6|map=wc,-l 3 7|agg=wc,-l 67 8|output 8 -",
-            "-",
-        ),
-        (
-            "input - 0|split 0 12|map=wc,-w 1 3|map=wc,-w 2 4|agg=wc,-w 34 5|output 5 -",
-            "-",
-        ),
-        (
-            "input - 0|split 0 12|map=grep,-c,w 1 3|map=grep,-c,w 2 4|agg=grep,-c,w 34 5|output 5 -",
-            "23",
-        ),
-        ("input - 0|tee=/f 0 1|tee=/g 1 2|output 2 -", "-"),
-    ];
-    expect_all(&rt, rt.alloc(), &cases, true)
+    expect_all(&rt, rt.alloc(), VALID.as_slice(), true)
 }
+
+static EDGES: [(&str, &str); 13] = [
+    // Never taken, and never given.
+    ("input - 0", "-"),
+    ("input - 01|output 0 -", "-"),
+    ("output 0 -", "-"),
+    ("input - 0|cat 01 2|output 2 -", "-"),
+    // Taken twice, and given twice.
+    ("input - 0|output 0 -|drain 0 -", "-"),
+    ("input - 0|cat 00 1|output 1 -", "-"),
+    ("input - 0|text - 0|cat 00 1|output 1 -", "-"),
+    ("input - 0|text - 0|output 0 -", "-"),
+    // Numbered past the number of edges.
+    ("input - 1|output 1 -", "-"),
+    ("input - 0|map=cat 0 2|output 2 -", "-"),
+    // Taken by the node that gives it, and by an earlier one.
+    ("cat 0 0", "-"),
+    ("output 0 -|input - 0", "-"),
+    ("input - 0|map=cat 2 1|map=cat 0 2|output 1 -", "-"),
+];
 
 #[test]
 fn each_edge_leads_from_one_node_to_a_later_one(rt: HostRuntime) -> Result<(), Fail> {
-    let cases = [
-        // Never taken, and never given.
-        ("input - 0", "-"),
-        ("input - 01|output 0 -", "-"),
-        ("output 0 -", "-"),
-        ("input - 0|cat 01 2|output 2 -", "-"),
-        // Taken twice, and given twice.
-        ("input - 0|output 0 -|drain 0 -", "-"),
-        ("input - 0|cat 00 1|output 1 -", "-"),
-        ("input - 0|text - 0|cat 00 1|output 1 -", "-"),
-        ("input - 0|text - 0|output 0 -", "-"),
-        // Numbered past the number of edges.
-        ("input - 1|output 1 -", "-"),
-        ("input - 0|map=cat 0 2|output 2 -", "-"),
-        // Taken by the node that gives it, and by an earlier one.
-        ("cat 0 0", "-"),
-        ("output 0 -|input - 0", "-"),
-        ("input - 0|map=cat 2 1|map=cat 0 2|output 1 -", "-"),
-    ];
-    expect_all(&rt, rt.alloc(), &cases, false)
+    expect_all(&rt, rt.alloc(), EDGES.as_slice(), false)
 }
+
+static PORTS: [(&str, &str); 20] = [
+    ("text - 0|read=/f 0 1|output 1 -", "-"),
+    ("read=/f - 01|drain 0 -|drain 1 -", "-"),
+    ("read=/f - 0|text 0 1|output 1 -", "-"),
+    ("text - -", "-"),
+    ("split - 0|output 0 -", "-"),
+    ("input - 0|split 0 -", "-"),
+    ("input - 0|text - 1|split 01 2|output 2 -", "-"),
+    ("map=cat - 0|output 0 -", "-"),
+    ("input - 0|map=cat 0 -", "-"),
+    ("input - 0|text - 1|whole=cat 01 2|output 2 -", "-"),
+    ("input - 0|whole=cat, 0 1|output 1 -", "-"),
+    ("whole=wc,-l - 0|output 0 -", "-"),
+    ("input - 0|whole=wc,-l 0 12|drain 1 -|drain 2 -", "-"),
+    ("cat - 0|output 0 -", "-"),
+    ("input - 0|cat 0 12|drain 1 -|drain 2 -", "-"),
+    ("input - 0|map=wc,-l 0 1|agg=wc,-l 1 2|output 2 -", "-"),
+    (
+        "input - 0|text - 1|map=wc,-l 0 2|map=wc,-l 1 3|finish=wc,-l 23 4|output 4 -",
+        "-",
+    ),
+    ("tee=/f - 0|output 0 -", "-"),
+    ("input - 0|drain 0 1|drain 1 -", "-"),
+    ("drain - -", "-"),
+];
 
 #[test]
 fn each_kind_has_its_ports(rt: HostRuntime) -> Result<(), Fail> {
-    let cases = [
-        ("text - 0|read=/f 0 1|output 1 -", "-"),
-        ("read=/f - 01|drain 0 -|drain 1 -", "-"),
-        ("read=/f - 0|text 0 1|output 1 -", "-"),
-        ("text - -", "-"),
-        ("split - 0|output 0 -", "-"),
-        ("input - 0|split 0 -", "-"),
-        ("input - 0|text - 1|split 01 2|output 2 -", "-"),
-        ("map=cat - 0|output 0 -", "-"),
-        ("input - 0|map=cat 0 -", "-"),
-        ("input - 0|text - 1|whole=cat 01 2|output 2 -", "-"),
-        ("input - 0|whole=cat, 0 1|output 1 -", "-"),
-        ("whole=wc,-l - 0|output 0 -", "-"),
-        ("input - 0|whole=wc,-l 0 12|drain 1 -|drain 2 -", "-"),
-        ("cat - 0|output 0 -", "-"),
-        ("input - 0|cat 0 12|drain 1 -|drain 2 -", "-"),
-        ("input - 0|map=wc,-l 0 1|agg=wc,-l 1 2|output 2 -", "-"),
-        (
-            "input - 0|text - 1|map=wc,-l 0 2|map=wc,-l 1 3|finish=wc,-l 23 4|output 4 -",
-            "-",
-        ),
-        ("tee=/f - 0|output 0 -", "-"),
-        ("input - 0|drain 0 1|drain 1 -", "-"),
-        ("drain - -", "-"),
-    ];
-    expect_all(&rt, rt.alloc(), &cases, false)
+    expect_all(&rt, rt.alloc(), PORTS.as_slice(), false)
 }
+
+static ENDS: [(&str, &str); 6] = [
+    ("output - -", "-"),
+    ("input - 0|text - 1|output 01 -", "-"),
+    ("input - 0|output 0 1|drain 1 -", "-"),
+    ("input - 0|tee=/f 0 -", "-"),
+    ("input - 0|input - 1|cat 01 2|output 2 -", "-"),
+    ("input - 0|split 0 12|output 1 -|output 2 -", "-"),
+];
 
 #[test]
 fn sinks_take_one_edge_and_each_end_has_one_node(rt: HostRuntime) -> Result<(), Fail> {
-    let cases = [
-        ("output - -", "-"),
-        ("input - 0|text - 1|output 01 -", "-"),
-        ("input - 0|output 0 1|drain 1 -", "-"),
-        ("input - 0|tee=/f 0 -", "-"),
-        ("input - 0|input - 1|cat 01 2|output 2 -", "-"),
-        ("input - 0|split 0 12|output 1 -|output 2 -", "-"),
-    ];
-    expect_all(&rt, rt.alloc(), &cases, false)
+    expect_all(&rt, rt.alloc(), ENDS.as_slice(), false)
 }
+
+static CLASSES: [(&str, &str); 6] = [
+    ("input - 0|map=cat, 0 1|output 1 -", "-"),
+    (
+        "input - 0|split 0 12|map=grep,-F,w 1 3|map=grep,-F,w 2 4|agg=grep,-F,w 34 5|output 5 -",
+        "-",
+    ),
+    (
+        "input - 0|split 0 12|map=cat 1 3|map=cat 2 4|agg=cat 34 5|output 5 -",
+        "-",
+    ),
+    (
+        "input - 0|split 0 12|map=cat, 1 3|map=cat, 2 4|agg=cat, 34 5|output 5 -",
+        "-",
+    ),
+    ("input - 0|map=cat 0 1|finish=cat 1 2|output 2 -", "-"),
+    ("input - 0|map=tail,-n,+2 0 1|output 1 -", "-"),
+];
 
 #[test]
 fn invocations_read_one_input_and_have_their_class(rt: HostRuntime) -> Result<(), Fail> {
-    let cases = [
-        ("input - 0|map=cat, 0 1|output 1 -", "-"),
-        (
-            "input - 0|split 0 12|map=grep,-F,w 1 3|map=grep,-F,w 2 4|agg=grep,-F,w 34 5|output 5 -",
-            "-",
-        ),
-        (
-            "input - 0|split 0 12|map=cat 1 3|map=cat 2 4|agg=cat 34 5|output 5 -",
-            "-",
-        ),
-        (
-            "input - 0|split 0 12|map=cat, 1 3|map=cat, 2 4|agg=cat, 34 5|output 5 -",
-            "-",
-        ),
-        ("input - 0|map=cat 0 1|finish=cat 1 2|output 2 -", "-"),
-        ("input - 0|map=tail,-n,+2 0 1|output 1 -", "-"),
-    ];
-    expect_all(&rt, rt.alloc(), &cases, false)
+    expect_all(&rt, rt.alloc(), CLASSES.as_slice(), false)
 }
+
+static BUILT: [(&str, &str); 5] = [
+    ("input - 0|whole=paste,- 0 1|output 1 -", "-"),
+    ("input - 0|whole=tee 0 1|output 1 -", "-"),
+    ("input - 0|text - 1|whole=paste,a,b 01 2|output 2 -", "-"),
+    ("text - 0|drain 0 -|whole=echo - 1|output 1 -", "-"),
+    (
+        "input - 0|split 0 12|map=paste,- 1 3|map=paste,- 2 4|agg=paste,- 34 5|output 5 -",
+        "-",
+    ),
+];
 
 #[test]
 fn invocations_are_built(rt: HostRuntime) -> Result<(), Fail> {
-    let cases = [
-        ("input - 0|whole=paste,- 0 1|output 1 -", "-"),
-        ("input - 0|whole=tee 0 1|output 1 -", "-"),
-        ("input - 0|text - 1|whole=paste,a,b 01 2|output 2 -", "-"),
-        ("text - 0|drain 0 -|whole=echo - 1|output 1 -", "-"),
-        (
-            "input - 0|split 0 12|map=paste,- 1 3|map=paste,- 2 4|agg=paste,- 34 5|output 5 -",
-            "-",
-        ),
-    ];
-    expect_all(&rt, rt.alloc(), &cases, false)
+    expect_all(&rt, rt.alloc(), BUILT.as_slice(), false)
 }
+
+static AGGREGATES: [(&str, &str); 8] = [
+    ("input - 0|split 0 12|agg=wc,-l 12 3|output 3 -", "-"),
+    (
+        "input - 0|split 0 12|map=wc,-l 1 3|agg=wc,-l 32 4|output 4 -",
+        "-",
+    ),
+    (
+        "input - 0|split 0 12|map=wc,-l 1 3|map=cat 2 4|agg=wc,-l 34 5|output 5 -",
+        "-",
+    ),
+    (
+        "input - 0|split 0 12|map=wc,-l 1 3|whole=wc,-l 2 4|agg=wc,-l 34 5|output 5 -",
+        "-",
+    ),
+    ("input - 0|finish=wc,-l 0 1|output 1 -", "-"),
+    ("input - 0|whole=wc,-l 0 1|finish=wc,-l 1 2|output 2 -", "-"),
+    (
+        "input - 0|map=grep,-F,w 0 1|finish=wc,-l 1 2|output 2 -",
+        "-",
+    ),
+    (
+        "input - 0|map=wc,-l 0 1|finish=wc,-l 1 2|finish=wc,-l 2 3|output 3 -",
+        "-",
+    ),
+];
 
 #[test]
 fn aggregates_and_finishes_join_maps_of_their_words(rt: HostRuntime) -> Result<(), Fail> {
-    let cases = [
-        ("input - 0|split 0 12|agg=wc,-l 12 3|output 3 -", "-"),
-        (
-            "input - 0|split 0 12|map=wc,-l 1 3|agg=wc,-l 32 4|output 4 -",
-            "-",
-        ),
-        (
-            "input - 0|split 0 12|map=wc,-l 1 3|map=cat 2 4|agg=wc,-l 34 5|output 5 -",
-            "-",
-        ),
-        (
-            "input - 0|split 0 12|map=wc,-l 1 3|whole=wc,-l 2 4|agg=wc,-l 34 5|output 5 -",
-            "-",
-        ),
-        ("input - 0|finish=wc,-l 0 1|output 1 -", "-"),
-        ("input - 0|whole=wc,-l 0 1|finish=wc,-l 1 2|output 2 -", "-"),
-        (
-            "input - 0|map=grep,-F,w 0 1|finish=wc,-l 1 2|output 2 -",
-            "-",
-        ),
-        (
-            "input - 0|map=wc,-l 0 1|finish=wc,-l 1 2|finish=wc,-l 2 3|output 3 -",
-            "-",
-        ),
-    ];
-    expect_all(&rt, rt.alloc(), &cases, false)
+    expect_all(&rt, rt.alloc(), AGGREGATES.as_slice(), false)
 }
+
+static PATHS: [(&str, &str); 8] = [
+    ("read=/f - 0|write=/f 0 -", "-"),
+    ("read=/d/f - 0|tee=/d/f 0 1|output 1 -", "-"),
+    ("input - 0|tee=/f 0 1|write=/f 1 -", "-"),
+    ("input - 0|tee=/f 0 1|tee=/f 1 2|output 2 -", "-"),
+    ("input - 0|write=/f 0 -|text - 1|write=/f 1 -", "-"),
+    ("read=/dev/null - 0|output 0 -", "-"),
+    ("input - 0|write=/dev/null 0 -", "-"),
+    ("input - 0|tee=/dev/null 0 1|output 1 -", "-"),
+];
 
 #[test]
 fn paths_are_apart(rt: HostRuntime) -> Result<(), Fail> {
-    let cases = [
-        ("read=/f - 0|write=/f 0 -", "-"),
-        ("read=/d/f - 0|tee=/d/f 0 1|output 1 -", "-"),
-        ("input - 0|tee=/f 0 1|write=/f 1 -", "-"),
-        ("input - 0|tee=/f 0 1|tee=/f 1 2|output 2 -", "-"),
-        ("input - 0|write=/f 0 -|text - 1|write=/f 1 -", "-"),
-        ("read=/dev/null - 0|output 0 -", "-"),
-        ("input - 0|write=/dev/null 0 -", "-"),
-        ("input - 0|tee=/dev/null 0 1|output 1 -", "-"),
-    ];
-    expect_all(&rt, rt.alloc(), &cases, false)
+    expect_all(&rt, rt.alloc(), PATHS.as_slice(), false)
 }
+
+static STATUSES: [(&str, &str); 6] = [
+    ("read=/f - 0|whole=grep,-F,w 0 1|output 1 -", "0"),
+    ("read=/f - 0|whole=grep,-F,w 0 1|output 1 -", "2"),
+    ("read=/f - 0|whole=grep,-F,w 0 1|output 1 -", "3"),
+    ("read=/f - 0|whole=grep,-F,w 0 1|output 1 -", "13"),
+    ("read=/f - 0|whole=wc,-l 0 1|output 1 -", "1"),
+    ("read=/f - 0|map=cat 0 1|output 1 -", "1"),
+];
 
 #[test]
 fn the_status_names_maps_and_wholes_of_grep(rt: HostRuntime) -> Result<(), Fail> {
-    let cases = [
-        ("read=/f - 0|whole=grep,-F,w 0 1|output 1 -", "0"),
-        ("read=/f - 0|whole=grep,-F,w 0 1|output 1 -", "2"),
-        ("read=/f - 0|whole=grep,-F,w 0 1|output 1 -", "3"),
-        ("read=/f - 0|whole=grep,-F,w 0 1|output 1 -", "13"),
-        ("read=/f - 0|whole=wc,-l 0 1|output 1 -", "1"),
-        ("read=/f - 0|map=cat 0 1|output 1 -", "1"),
-    ];
-    expect_all(&rt, rt.alloc(), &cases, false)
+    expect_all(&rt, rt.alloc(), STATUSES.as_slice(), false)
 }

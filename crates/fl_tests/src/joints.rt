@@ -11,6 +11,7 @@ use fl_joints::{Joint, joint};
 use ps_lines::{Memory, Text};
 use ps_world::{Mode, Path};
 use std::alloc::Global;
+use std::process::Abort;
 use std::test::Fail;
 use ut_args::{ArgFault, Inv, is_built, read_inv};
 use ut_streams::cut_behind;
@@ -63,24 +64,61 @@ fn put_for(
     outs: u32,
 ) -> Result<Vec<u8>, Memory> {
     let mut joint = start;
-    let mut left = inputs;
-    let mut outputs = Vec::new(alloc);
-    for _ in 0..outs {
-        outputs.push(Vec::new(alloc))?;
-    }
-    for _ in 0..400 {
-        if !step(&mut joint, &mut left, &mut outputs)? {
-            break;
-        }
-    }
-    let mut text = Vec::new(alloc);
-    for output in &outputs {
-        text.extend_from_slice(output.as_slice())?;
-    }
+    let outputs = outputs_of(alloc, &mut joint, inputs, outs)?;
+    let mut text = joined(alloc, outputs.as_slice())?;
     if joint.next() == Act::Stop && !joint.selected() {
         text.push(b'#')?;
     }
     Ok(text)
+}
+
+/// What it puts on each out.
+fn outputs_of(
+    alloc: Global,
+    joint: &mut Joint,
+    inputs: Vec<Vec<Piece>>,
+    outs: u32,
+) -> Result<Vec<Vec<u8>>, Memory> {
+    let mut left = inputs;
+    let mut outputs = nothing_on(alloc, outs)?;
+    for _ in 0..400 {
+        if !step(joint, &mut left, &mut outputs)? {
+            return Ok(outputs);
+        }
+    }
+    Ok(outputs)
+}
+
+/// An empty text for each out.
+fn nothing_on(alloc: Global, outs: u32) -> Result<Vec<Vec<u8>>, Memory> {
+    let mut outputs = Vec::new(alloc);
+    for _ in 0..outs {
+        outputs.push(Vec::new(alloc))?;
+    }
+    Ok(outputs)
+}
+
+/// Texts, one behind the other.
+fn joined(alloc: Global, texts: &[Vec<u8>]) -> Result<Vec<u8>, Memory> {
+    let mut whole = Vec::new(alloc);
+    for text in texts {
+        whole.extend_from_slice(text.as_slice())?;
+    }
+    Ok(whole)
+}
+
+/// A joint of so many ins and outs puts this for these inputs.
+fn expect_put(
+    rt: &impl Abort,
+    alloc: Global,
+    start: Joint,
+    inputs: Vec<Vec<Piece>>,
+    outs: u32,
+    wanted: &str,
+) -> Result<(), Fail> {
+    let text = put_for(alloc, start, inputs, outs)?;
+    assert_eq!(rt; text.as_slice(), wanted.as_bytes());
+    Ok(())
 }
 
 /// The pieces of a text that is cut behind some bytes, and how it ends: the last first.
@@ -99,112 +137,128 @@ fn pieces_of(alloc: Global, text: &[u8], cuts: u64, end: Piece) -> Result<Vec<Pi
 }
 
 /// The only input of a node.
-fn one_input(alloc: Global, text: &[u8], cuts: u64) -> Result<Vec<Vec<Piece>>, Memory> {
+fn one_input(alloc: Global, text: &str, cuts: u64, end: Piece) -> Result<Vec<Vec<Piece>>, Memory> {
     let mut inputs = Vec::new(alloc);
-    inputs.push(pieces_of(alloc, text, cuts, Piece::End)?)?;
+    inputs.push(pieces_of(alloc, text.as_bytes(), cuts, end)?)?;
     Ok(inputs)
 }
+
+/// Three texts.
+type Three = (&'static str, &'static str, &'static str);
 
 /// Three inputs, and how the second ends.
 fn three_inputs(
     alloc: Global,
-    texts: (&[u8], &[u8], &[u8]),
+    texts: Three,
     cuts: u64,
     second: Piece,
 ) -> Result<Vec<Vec<Piece>>, Memory> {
     let mut inputs = Vec::new(alloc);
-    inputs.push(pieces_of(alloc, texts.0, cuts, Piece::End)?)?;
-    inputs.push(pieces_of(alloc, texts.1, cuts, second)?)?;
-    inputs.push(pieces_of(alloc, texts.2, cuts, Piece::End)?)?;
+    inputs.push(pieces_of(alloc, texts.0.as_bytes(), cuts, Piece::End)?)?;
+    inputs.push(pieces_of(alloc, texts.1.as_bytes(), cuts, second)?)?;
+    inputs.push(pieces_of(alloc, texts.2.as_bytes(), cuts, Piece::End)?)?;
     Ok(inputs)
+}
+
+/// Into how many parts a text is split, and the parts.
+static PARTS: [(u32, &str); 4] = [
+    (1, "b a\nab\nc\nxa.#"),
+    (2, "b a\nab\n.c\nxa.#"),
+    (3, "b a\n.ab\nc\n.xa.#"),
+    (16, "b a\n.....ab\n.....c\n...xa...#"),
+];
+
+/// A text that is cut so is split into these parts.
+fn expect_parts(
+    rt: &impl Abort,
+    alloc: Global,
+    parts: u32,
+    cuts: u64,
+    wanted: &str,
+) -> Result<(), Fail> {
+    let split = joint(alloc, &NodeKind::Split, 1, parts)?;
+    let inputs = one_input(alloc, "b a\nab\nc\nxa", cuts, Piece::End)?;
+    expect_put(rt, alloc, split, inputs, parts, wanted)
 }
 
 #[test]
 fn parts_end_at_ends_of_lines(rt: HostRuntime) -> Result<(), Fail> {
-    let alloc = rt.alloc();
-    for (parts, wanted) in [
-        (1, "b a\nab\nc\nxa.#"),
-        (2, "b a\nab\n.c\nxa.#"),
-        (3, "b a\n.ab\nc\n.xa.#"),
-        (16, "b a\n.....ab\n.....c\n...xa...#"),
-    ] {
+    for &(parts, wanted) in PARTS.iter() {
         for cuts in 0..1024 {
-            let split = joint(alloc, &NodeKind::Split, 1, parts)?;
-            let inputs = one_input(alloc, b"b a\nab\nc\nxa", cuts)?;
-            let text = put_for(alloc, split, inputs, parts)?;
-            assert_eq!(rt; text.as_slice(), wanted.as_bytes(), "{parts} at {cuts}");
+            expect_parts(&rt, rt.alloc(), parts, cuts, wanted)?;
         }
     }
     Ok(())
+}
+
+/// Whether the inputs but the last are closed, three inputs, what they are joined to, and what where the second breaks off.
+static JOINED: [(bool, Three, &str, &str); 12] = [
+    (false, ("a\nb", "", "c\n"), "a\nbc\n.#", "a\nb!#"),
+    (true, ("a", "b", "c"), "a\nb\nc.#", "a\nb!#"),
+    (true, ("a\n", "b\n", "c\n"), "a\nb\nc\n.#", "a\nb\n!#"),
+    (
+        true,
+        ("a\nb", "c\n\n", "\n"),
+        "a\nb\nc\n\n\n.#",
+        "a\nb\nc\n\n!#",
+    ),
+    (true, ("\n", "\nab", "\n"), "\n\nab\n\n.#", "\n\nab!#"),
+    (true, ("", "a", "b"), "a\nb.#", "a!#"),
+    (true, ("a", "", "b\n"), "a\nb\n.#", "a\n!#"),
+    (true, ("a\n", "", "b"), "a\nb.#", "a\n!#"),
+    (true, ("a", "bc", ""), "a\nbc\n.#", "a\nbc!#"),
+    (true, ("", "", "ab"), "ab.#", "!#"),
+    (true, ("ab", "", ""), "ab\n.#", "ab\n!#"),
+    (true, ("", "", ""), ".#", "!#"),
+];
+
+/// Three inputs that are cut so, of which the second ends so, are joined to this.
+fn expect_joined(
+    rt: &impl Abort,
+    alloc: Global,
+    close: bool,
+    texts: Three,
+    cuts: u64,
+    second: Piece,
+    wanted: &str,
+) -> Result<(), Fail> {
+    let cat = joint(alloc, &NodeKind::Cat { close }, 3, 1)?;
+    let inputs = three_inputs(alloc, texts, cuts, second)?;
+    expect_put(rt, alloc, cat, inputs, 1, wanted)
 }
 
 #[test]
 fn inputs_are_joined_in_order(rt: HostRuntime) -> Result<(), Fail> {
-    let alloc = rt.alloc();
-    let texts = (b"a\nb".as_slice(), b"".as_slice(), b"c\n".as_slice());
-    for cuts in 0..4 {
-        let whole = joint(alloc, &NodeKind::Cat { close: false }, 3, 1)?;
-        let inputs = three_inputs(alloc, texts, cuts, Piece::End)?;
-        assert_eq!(rt;
-            put_for(alloc, whole, inputs, 1)?.as_slice(),
-            b"a\nbc\n.#".as_slice(),
-            "whole at {cuts}"
-        );
-        let broken = joint(alloc, &NodeKind::Cat { close: false }, 3, 1)?;
-        let inputs = three_inputs(alloc, texts, cuts, Piece::Broken)?;
-        assert_eq!(rt;
-            put_for(alloc, broken, inputs, 1)?.as_slice(),
-            b"a\nb!#".as_slice(),
-            "broken at {cuts}"
-        );
-    }
-    Ok(())
-}
-
-#[test]
-fn inputs_but_the_last_are_closed(rt: HostRuntime) -> Result<(), Fail> {
-    let alloc = rt.alloc();
-    for (texts, whole, broken) in [
-        (("a", "b", "c"), "a\nb\nc.#", "a\nb!#"),
-        (("a\n", "b\n", "c\n"), "a\nb\nc\n.#", "a\nb\n!#"),
-        (("a\nb", "c\n\n", "\n"), "a\nb\nc\n\n\n.#", "a\nb\nc\n\n!#"),
-        (("\n", "\nab", "\n"), "\n\nab\n\n.#", "\n\nab!#"),
-        (("", "a", "b"), "a\nb.#", "a!#"),
-        (("a", "", "b\n"), "a\nb\n.#", "a\n!#"),
-        (("a\n", "", "b"), "a\nb.#", "a\n!#"),
-        (("a", "bc", ""), "a\nbc\n.#", "a\nbc!#"),
-        (("", "", "ab"), "ab.#", "!#"),
-        (("ab", "", ""), "ab\n.#", "ab\n!#"),
-        (("", "", ""), ".#", "!#"),
-    ] {
+    for &(close, texts, whole, broken) in JOINED.iter() {
         for cuts in 0..8 {
-            let texts = (texts.0.as_bytes(), texts.1.as_bytes(), texts.2.as_bytes());
-            for (second, wanted) in [(Piece::End, whole), (Piece::Broken, broken)] {
-                let cat = joint(alloc, &NodeKind::Cat { close: true }, 3, 1)?;
-                let inputs = three_inputs(alloc, texts, cuts, second)?;
-                assert_eq!(rt;
-                    put_for(alloc, cat, inputs, 1)?.as_slice(),
-                    wanted.as_bytes(),
-                    "at {cuts}"
-                );
-            }
+            expect_joined(&rt, rt.alloc(), close, texts, cuts, Piece::End, whole)?;
+            expect_joined(&rt, rt.alloc(), close, texts, cuts, Piece::Broken, broken)?;
         }
     }
     Ok(())
 }
 
+/// One input, and what is put for it.
+static ALONE: [(&str, &str); 3] = [("a\nb", "a\nb.#"), ("a\nb\n", "a\nb\n.#"), ("", ".#")];
+
+/// One input that is cut so stays as it is.
+fn expect_alone(
+    rt: &impl Abort,
+    alloc: Global,
+    text: &str,
+    cuts: u64,
+    wanted: &str,
+) -> Result<(), Fail> {
+    let cat = joint(alloc, &NodeKind::Cat { close: true }, 1, 1)?;
+    let inputs = one_input(alloc, text, cuts, Piece::End)?;
+    expect_put(rt, alloc, cat, inputs, 1, wanted)
+}
+
 #[test]
 fn an_input_alone_stays_as_it_is(rt: HostRuntime) -> Result<(), Fail> {
-    let alloc = rt.alloc();
-    for (text, wanted) in [("a\nb", "a\nb.#"), ("a\nb\n", "a\nb\n.#"), ("", ".#")] {
+    for &(text, wanted) in ALONE.iter() {
         for cuts in 0..8 {
-            let cat = joint(alloc, &NodeKind::Cat { close: true }, 1, 1)?;
-            let inputs = one_input(alloc, text.as_bytes(), cuts)?;
-            assert_eq!(rt;
-                put_for(alloc, cat, inputs, 1)?.as_slice(),
-                wanted.as_bytes(),
-                "at {cuts}"
-            );
+            expect_alone(&rt, rt.alloc(), text, cuts, wanted)?;
         }
     }
     Ok(())
@@ -233,47 +287,50 @@ fn read_words(alloc: Global, line: &str) -> Result<Option<Inv>, Memory>
     }
 }
 
-/// What an aggregate of three maps puts.
-fn aggregate_of(
+/// An aggregate of three maps that are cut so puts this.
+fn expect_sum(
+    rt: &impl Abort,
     alloc: Global,
-    words: &str,
-    texts: (&[u8], &[u8], &[u8]),
+    inv: Inv,
+    texts: Three,
     cuts: u64,
-) -> Result<Option<Vec<u8>>, Memory> {
-    let Some(Inv::Wc(inv)) = read_words(alloc, words)? else {
-        return Ok(None);
+    wanted: &str,
+) -> Result<(), Fail>
+    requires { is_built_of inv ≡ true }
+{
+    let Inv::Wc(inv) = inv else {
+        return Err(Fail::new("no wc"));
     };
     let sum = joint(alloc, &NodeKind::Agg(Inv::Wc(inv)), 3, 1)?;
     let inputs = three_inputs(alloc, texts, cuts, Piece::End)?;
-    Ok(Some(put_for(alloc, sum, inputs, 1)?))
+    expect_put(rt, alloc, sum, inputs, 1, wanted)
 }
+
+/// The words of `wc`, three lines of counts, and their sum.
+static SUMS: [(&str, Three, &str); 7] = [
+    ("wc -l", ("2\n", "3\n", "40\n"), "45\n.#"),
+    (
+        "wc -l",
+        ("18446744073709551615\n", "1\n", "0\n"),
+        "18446744073709551615\n.#",
+    ),
+    (
+        "wc -l",
+        ("18446744073709551614\n", "1\n", "0\n"),
+        "18446744073709551615\n.#",
+    ),
+    ("wc -l", ("x\n", "7\n", "000000000000000000001\n"), "7\n.#"),
+    ("wc -l", ("00000000000000000001\n", "7\n", ""), "8\n.#"),
+    ("wc f", ("1 2 4\n", "0 1 1\n", "1 1 2\n"), "2 4 7\n.#"),
+    ("wc -wc", ("2 4\n", "1 1\n", "0 0\n"), "3 5\n.#"),
+];
 
 #[test]
 fn counts_are_summed(rt: HostRuntime) -> Result<(), Fail> {
-    let alloc = rt.alloc();
-    for (words, texts, wanted) in [
-        ("wc -l", ("2\n", "3\n", "40\n"), "45\n.#"),
-        (
-            "wc -l",
-            ("18446744073709551615\n", "1\n", "0\n"),
-            "18446744073709551615\n.#",
-        ),
-        (
-            "wc -l",
-            ("18446744073709551614\n", "1\n", "0\n"),
-            "18446744073709551615\n.#",
-        ),
-        ("wc -l", ("x\n", "7\n", "000000000000000000001\n"), "7\n.#"),
-        ("wc -l", ("00000000000000000001\n", "7\n", ""), "8\n.#"),
-        ("wc f", ("1 2 4\n", "0 1 1\n", "1 1 2\n"), "2 4 7\n.#"),
-        ("wc -wc", ("2 4\n", "1 1\n", "0 0\n"), "3 5\n.#"),
-    ] {
+    for &(words, texts, wanted) in SUMS.iter() {
         for cuts in 0..8 {
-            let texts = (texts.0.as_bytes(), texts.1.as_bytes(), texts.2.as_bytes());
-            match aggregate_of(alloc, words, texts, cuts)? {
-                Some(sum) => assert_eq!(rt; sum.as_slice(), wanted.as_bytes(), "at {cuts}"),
-                None => assert!(rt; false, "no invocation"),
-            }
+            let inv = read_words(rt.alloc(), words)?.ok_or("no invocation")?;
+            expect_sum(&rt, rt.alloc(), inv, texts, cuts, wanted)?;
         }
     }
     Ok(())
@@ -284,36 +341,31 @@ fn texts_are_given_and_drained(rt: HostRuntime) -> Result<(), Fail> {
     let alloc = rt.alloc();
     let text = Text::copy_of(alloc, b"a\nb")?;
     let fixed = joint(alloc, &NodeKind::Text(text), 0, 1)?;
-    assert_eq!(rt;
-        put_for(alloc, fixed, Vec::new(alloc), 1)?.as_slice(),
-        b"a\nb.#".as_slice(),
-        "given"
-    );
+    expect_put(&rt, alloc, fixed, Vec::new(alloc), 1, "a\nb.#")?;
     let drain = joint(alloc, &NodeKind::Drain, 1, 0)?;
-    assert_eq!(rt;
-        put_for(alloc, drain, one_input(alloc, b"a\nb", 1)?, 0)?.as_slice(),
-        b"#".as_slice(),
-        "drained"
-    );
-    Ok(())
+    let inputs = one_input(alloc, "a\nb", 1, Piece::End)?;
+    expect_put(&rt, alloc, drain, inputs, 0, "#")
 }
 
-/// An input that goes to a file and on.
+/// An input that is cut so, ends so, and goes to a file and on.
+fn expect_handed_on(
+    rt: &(impl Abort + AllocGlobal),
+    cuts: u64,
+    end: Piece,
+    wanted: &str,
+) -> Result<(), Fail> {
+    let alloc = rt.alloc();
+    let path = Path::read(alloc, b"/g")?.ok_or("no path")?;
+    let tee = joint(alloc, &NodeKind::TeeFile(path, Mode::Fresh), 1, 1)?;
+    let inputs = one_input(alloc, "a\nb", cuts, end)?;
+    expect_put(rt, alloc, tee, inputs, 2, wanted)
+}
+
 #[test]
 fn each_out_has_the_input(rt: HostRuntime) -> Result<(), Fail> {
-    let alloc = rt.alloc();
     for cuts in 0..8 {
-        for (end, wanted) in [(Piece::End, "a\nb.a\nb.#"), (Piece::Broken, "a\nb!a\nb!#")] {
-            let path = Path::read(alloc, b"/g")?.expect(&rt, "a path");
-            let tee = joint(alloc, &NodeKind::TeeFile(path, Mode::Fresh), 1, 1)?;
-            let mut inputs = Vec::new(alloc);
-            inputs.push(pieces_of(alloc, b"a\nb", cuts, end)?)?;
-            assert_eq!(rt;
-                put_for(alloc, tee, inputs, 2)?.as_slice(),
-                wanted.as_bytes(),
-                "at {cuts}"
-            );
-        }
+        expect_handed_on(&rt, cuts, Piece::End, "a\nb.a\nb.#")?;
+        expect_handed_on(&rt, cuts, Piece::Broken, "a\nb!a\nb!#")?;
     }
     Ok(())
 }

@@ -4,41 +4,20 @@ ghost use Rattle.fl_graph.specs.Valid.{Valid};
 ghost use Rattle.fl_core.specs.Inputs.{CanStep};
 ghost use Rattle.fl_classes.specs.Kinds.{are_run as are_run_lem};
 
-use fl_core::{Net, NodeMachine, are_run, net_of};
-use fl_graph::{From, Graph, Machine, Node, NodeKind, Piece, Seq, StatusRule, To, validate};
+use crate::graph::graph;
+use fl_core::{Net, NodeMachine, Wire, are_run, net_of};
+use fl_graph::{Graph, Machine, Piece, validate};
 use ps_lines::Memory;
-use std::alloc::{AllocError, Global};
+use std::alloc::Global;
 use std::test::Fail;
 
-/// A node of these edges.
-fn node(alloc: Global, kind: NodeKind, ins: &[u32], outs: &[u32]) -> Result<Node, AllocError> {
-    Ok(Node {
-        kind,
-        ins: Seq::from_vec(Vec::from_slice(alloc, ins)?),
-        outs: Seq::from_vec(Vec::from_slice(alloc, outs)?),
-        stage: 0,
-    })
-}
-
 /// A source whose text is split, each part handed on, and both joined again for the output.
-fn split_and_joined(alloc: Global) -> Result<Graph, AllocError> {
-    let mut nodes = Vec::new(alloc);
-    nodes.push(node(alloc, NodeKind::Source(From::Input), &[], &[0])?)?;
-    nodes.push(node(alloc, NodeKind::Split, &[0], &[1, 2])?)?;
-    nodes.push(node(alloc, NodeKind::Cat { close: false }, &[1], &[3])?)?;
-    nodes.push(node(alloc, NodeKind::Cat { close: false }, &[2], &[4])?)?;
-    nodes.push(node(alloc, NodeKind::Cat { close: false }, &[3, 4], &[5])?)?;
-    nodes.push(node(alloc, NodeKind::Sink(To::Output), &[5], &[])?)?;
-    Ok(Graph {
-        nodes: Seq::from_vec(nodes),
-        status: StatusRule::Fixed(0),
-    })
-}
+static SPLIT_AND_JOINED: &str = "input - 0|split 0 12|cat 1 3|cat 2 4|cat 34 5|output 5 -";
 
 #[test]
 fn edges_into_nodes_of_many_ins_have_no_bound(rt: HostRuntime) -> Result<(), Fail> {
     let alloc = rt.alloc();
-    let graph = split_and_joined(alloc)?;
+    let graph = graph(alloc, SPLIT_AND_JOINED, "-")?;
     assert!(rt; validate(&graph));
     assert!(rt; are_run(graph.nodes.as_slice()));
     let net = net_of(alloc, &graph, Some(8))?;
@@ -87,23 +66,32 @@ fn run_over(alloc: Global, graph: &Graph, text: &[u8]) -> Result<Net<NodeMachine
 #[test]
 fn a_graph_runs_over_a_text_step_by_step(rt: HostRuntime) -> Result<(), Fail> {
     let alloc = rt.alloc();
-    let graph = split_and_joined(alloc)?;
+    let graph = graph(alloc, SPLIT_AND_JOINED, "-")?;
     assert!(rt; validate(&graph));
     assert!(rt; are_run(graph.nodes.as_slice()));
     let mut net = run_over(alloc, &graph, b"a\nb\nc\nd")?;
-    // What the sink has put: its bytes, `.` for an end, and `!` for anything else. The last wire is that from the sink, which is the last
-    // node, to the outside.
-    let mut text = Vec::new(alloc);
-    if let Some(mut wire) = net.wires.pop() {
-        for _ in 0..20 {
-            match wire.pop() {
-                Some(Piece::Bytes(bytes)) => text.extend_from_slice(bytes.as_slice())?,
-                Some(Piece::End) => text.push(b'.')?,
-                Some(_) => text.push(b'!')?,
-                None => {}
-            }
-        }
-    }
+    // The last wire is that from the sink, which is the last node, to the outside.
+    let mut wire = net.wires.pop().ok_or("no wire")?;
+    let text = shown(alloc, &mut wire)?;
     assert_eq!(rt; text.as_slice(), b"a\nb\nc\nd.".as_slice());
     Ok(())
+}
+
+/// What waits on a wire: its bytes, `.` for an end, and `!` for anything else.
+fn shown(alloc: Global, wire: &mut Wire) -> Result<Vec<u8>, Memory> {
+    let mut text = Vec::new(alloc);
+    for _ in 0..20 {
+        if let Some(piece) = wire.pop() {
+            show(&piece, &mut text)?;
+        }
+    }
+    Ok(text)
+}
+
+fn show(piece: &Piece, text: &mut Vec<u8>) -> Result<(), Memory> {
+    match piece {
+        Piece::Bytes(bytes) => Ok(text.extend_from_slice(bytes.as_slice())?),
+        Piece::End => Ok(text.push(b'.')?),
+        Piece::Mark | Piece::Broken => Ok(text.push(b'!')?),
+    }
 }

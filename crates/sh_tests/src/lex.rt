@@ -1,5 +1,5 @@
 //! Texts and their tokens or refusals.
-use sh_lex::{LexRefusal, Mark, Op, Static, TokenKind, lex, read_marks};
+use sh_lex::{LexRefusal, Mark, Op, Static, Token, TokenKind, lex, read_marks};
 use std::alloc::{AllocError, Global};
 use std::process::Abort;
 use std::test::Fail;
@@ -7,41 +7,56 @@ use std::test::Fail;
 /// What `lex` answers, in words: tokens as `KIND:from:to`, or the refusal with its details.
 fn shown(alloc: Global, text: &[u8]) -> Result<String, AllocError> {
     match lex(alloc, text) {
-        Ok(tokens) => {
-            let mut words = String::new(alloc);
-            for token in &tokens {
-                if !words.is_empty() {
-                    words.push_str(" ")?;
-                }
-                let (from, to) = (token.from, token.to);
-                words.push_str(kind_name(token.kind))?;
-                words.push_str(format!(in alloc; ":{from}:{to}")?.as_str())?;
-            }
-            Ok(words)
+        Ok(tokens) => tokens_shown(alloc, tokens.as_slice()),
+        Err(refusal) => answer_shown(alloc, &refusal),
+    }
+}
+
+fn tokens_shown(alloc: Global, tokens: &[Token]) -> Result<String, AllocError> {
+    let mut words = String::new(alloc);
+    for token in tokens {
+        if !words.is_empty() {
+            words.push_str(" ")?;
         }
-        Err(LexRefusal::Refused(refusal)) => refusal_shown(alloc, &refusal),
-        Err(LexRefusal::Memory) => String::from_str(alloc, "Memory"),
+        let (kind, from, to) = (kind_name(token.kind), token.from, token.to);
+        words.push_str(format!(in alloc; "{kind}:{from}:{to}")?.as_str())?;
+    }
+    Ok(words)
+}
+
+fn answer_shown(alloc: Global, refusal: &LexRefusal) -> Result<String, AllocError> {
+    match refusal {
+        LexRefusal::Refused(refusal) => refusal_shown(alloc, refusal),
+        LexRefusal::Memory => String::from_str(alloc, "Memory"),
     }
 }
 
 fn refusal_shown(alloc: Global, refusal: &Static) -> Result<String, AllocError> {
     match refusal {
-        Static::UnclosedQuote(offset) => format!(in alloc; "UnclosedQuote {offset}"),
-        Static::UnclosedBrace(offset) => format!(in alloc; "UnclosedBrace {offset}"),
-        Static::TooDeep(offset) => format!(in alloc; "TooDeep {offset}"),
+        Static::UnclosedQuote(offset) => named(alloc, "UnclosedQuote", *offset),
+        Static::UnclosedBrace(offset) => named(alloc, "UnclosedBrace", *offset),
+        Static::TooDeep(offset) => named(alloc, "TooDeep", *offset),
         Static::OutOfProfile(spelling, offset) => {
-            let mut words = String::from_str(alloc, "OutOfProfile ")?;
-            for byte in spelling.as_slice() {
-                words.push(char::from(*byte))?;
-            }
-            words.push_str(format!(in alloc; " {offset}")?.as_str())?;
-            Ok(words)
+            spelling_shown(alloc, spelling.as_slice(), *offset)
         }
         Static::ScriptTooLong => String::from_str(alloc, "ScriptTooLong"),
         Static::BadSyntax | Static::SubstitutionMix(_) | Static::ParameterForm(_) => {
             String::from_str(alloc, "a refusal of the grammar")
         }
     }
+}
+
+fn named(alloc: Global, name: &str, offset: u32) -> Result<String, AllocError> {
+    format!(in alloc; "{name} {offset}")
+}
+
+fn spelling_shown(alloc: Global, spelling: &[u8], offset: u32) -> Result<String, AllocError> {
+    let mut words = String::from_str(alloc, "OutOfProfile ")?;
+    for byte in spelling {
+        words.push(char::from(*byte))?;
+    }
+    words.push_str(format!(in alloc; " {offset}")?.as_str())?;
+    Ok(words)
 }
 
 fn kind_name(kind: TokenKind) -> &'static str {
@@ -67,13 +82,15 @@ fn kind_name(kind: TokenKind) -> &'static str {
 /// Where a rule isn't the profile's own, dash reads the text or refuses it likewise.
 fn expect_all(rt: &impl Abort, alloc: Global, cases: &[(&str, &str)]) -> Result<(), Fail> {
     for (text, expected) in cases {
-        assert_eq!(rt;
-            shown(alloc, text.as_bytes())?.as_str(),
-            *expected,
-            "at {text:?}"
-        );
+        let answer = shown(alloc, text.as_bytes())?;
+        expect(rt, answer.as_str(), expected, text);
     }
     Ok(())
+}
+
+/// What was answered for a text is what is wanted.
+fn expect(rt: &impl Abort, answer: &str, wanted: &str, text: &str) {
+    assert_eq!(rt; answer, wanted, "at {text:?}");
 }
 
 #[test]
@@ -301,49 +318,58 @@ fn unclosed() -> &'static [(&'static str, &'static str)] {
 #[test]
 fn bytes_above_127_and_0_are_bytes_of_words(rt: HostRuntime) -> Result<(), Fail> {
     let text = [0xff, 0x80, 0x00, b' ', 0xc3];
-    assert_eq!(rt; shown(rt.alloc(), &text)?.as_str(), "Word:0:3 Word:4:5");
+    let answer = shown(rt.alloc(), &text)?;
+    expect(&rt, answer.as_str(), "Word:0:3 Word:4:5", "other bytes");
     Ok(())
+}
+
+/// What opens a level and closes it, how many levels, and what is answered.
+static LEVELS: [(&str, &str, usize, &str); 6] = [
+    ("$(", ")", 64, "Word:0:192"),
+    ("$(", ")", 65, "TooDeep 128"),
+    ("${x:-", "}", 64, "Word:0:384"),
+    ("${x:-", "}", 65, "TooDeep 320"),
+    ("$((", "))", 64, "Word:0:320"),
+    ("$((", "))", 65, "TooDeep 192"),
+];
+
+/// So many levels.
+fn levels_of(
+    alloc: Global,
+    opening: &str,
+    closing: &str,
+    levels: usize,
+) -> Result<String, AllocError> {
+    let mut text = String::new(alloc);
+    for _ in 0..levels {
+        text.push_str(opening)?;
+    }
+    for _ in 0..levels {
+        text.push_str(closing)?;
+    }
+    Ok(text)
 }
 
 #[test]
 fn sixty_four_levels_are_allowed(rt: HostRuntime) -> Result<(), Fail> {
-    let cases = [
-        ("$(", ")", 64, "Word:0:192"),
-        ("$(", ")", 65, "TooDeep 128"),
-        ("${x:-", "}", 64, "Word:0:384"),
-        ("${x:-", "}", 65, "TooDeep 320"),
-        ("$((", "))", 64, "Word:0:320"),
-        ("$((", "))", 65, "TooDeep 192"),
-    ];
-    for (opening, closing, levels, expected) in cases {
-        let mut text = String::new(rt.alloc());
-        for _ in 0..levels {
-            text.push_str(opening)?;
-        }
-        for _ in 0..levels {
-            text.push_str(closing)?;
-        }
-        assert_eq!(rt;
-            shown(rt.alloc(), text.as_bytes())?.as_str(),
-            expected,
-            "at {levels} of {opening}"
-        );
+    for &(opening, closing, levels, expected) in LEVELS.iter() {
+        let text = levels_of(rt.alloc(), opening, closing, levels)?;
+        let answer = shown(rt.alloc(), text.as_bytes())?;
+        expect(&rt, answer.as_str(), expected, text.as_str());
     }
     Ok(())
 }
 
+/// How many bytes a script has, and what is answered.
+static LENGTHS: [(usize, &str); 2] = [(1_048_576, "Word:0:1048576"), (1_048_577, "ScriptTooLong")];
+
 #[test]
 fn a_script_has_at_most_1_048_576_bytes(rt: HostRuntime) -> Result<(), Fail> {
-    let mut text = vec![in rt.alloc(); b'x'; 1_048_576]?;
-    assert_eq!(rt;
-        shown(rt.alloc(), text.as_slice())?.as_str(),
-        "Word:0:1048576"
-    );
-    text.push(b'x')?;
-    assert_eq!(rt;
-        shown(rt.alloc(), text.as_slice())?.as_str(),
-        "ScriptTooLong"
-    );
+    for &(length, expected) in LENGTHS.iter() {
+        let text = vec![in rt.alloc(); b'x'; length]?;
+        let answer = shown(rt.alloc(), text.as_slice())?;
+        expect(&rt, answer.as_str(), expected, "a long word");
+    }
     Ok(())
 }
 
@@ -351,63 +377,64 @@ fn a_script_has_at_most_1_048_576_bytes(rt: HostRuntime) -> Result<(), Fail> {
 /// beginning, and `)` for the end of a subshell in a substitution.
 fn shown_marks(alloc: Global, text: &[u8]) -> Result<String, AllocError> {
     match read_marks(alloc, text) {
-        Ok(marks) => {
-            let mut words = String::new(alloc);
-            for mark in &marks {
-                if !words.is_empty() {
-                    words.push_str(" ")?;
-                }
-                words.push_str(mark_shown(alloc, *mark)?.as_str())?;
-            }
-            Ok(words)
-        }
-        Err(LexRefusal::Refused(refusal)) => refusal_shown(alloc, &refusal),
-        Err(LexRefusal::Memory) => String::from_str(alloc, "Memory"),
+        Ok(marks) => marks_shown(alloc, marks.as_slice()),
+        Err(refusal) => answer_shown(alloc, &refusal),
     }
+}
+
+fn marks_shown(alloc: Global, marks: &[Mark]) -> Result<String, AllocError> {
+    let mut words = String::new(alloc);
+    for mark in marks {
+        if !words.is_empty() {
+            words.push_str(" ")?;
+        }
+        words.push_str(mark_shown(alloc, *mark)?.as_str())?;
+    }
+    Ok(words)
 }
 
 fn mark_shown(alloc: Global, mark: Mark) -> Result<String, AllocError> {
     match mark {
-        Mark::WordBegin(offset) => format!(in alloc; "<{offset}"),
-        Mark::WordEnd(offset) => format!(in alloc; ">{offset}"),
-        Mark::Token(token) => {
-            let from = token.from;
-            format!(in alloc; "t{from}")
-        }
-        Mark::SubOpen(offset) => format!(in alloc; "${offset}"),
+        Mark::WordBegin(offset) => signed(alloc, "<", offset),
+        Mark::WordEnd(offset) => signed(alloc, ">", offset),
+        Mark::Token(token) => signed(alloc, "t", token.from),
+        Mark::SubOpen(offset) => signed(alloc, "$", offset),
         Mark::SubClose => String::from_str(alloc, "$)"),
         Mark::Close => String::from_str(alloc, ")"),
     }
 }
 
+fn signed(alloc: Global, sign: &str, offset: u32) -> Result<String, AllocError> {
+    format!(in alloc; "{sign}{offset}")
+}
+
+/// Texts and their marks.
+static MARKS: [(&str, &str); 15] = [
+    ("", ""),
+    ("a b\n", "<0 >1 <2 >3 t3"),
+    ("(a;b)", "t0 <1 >2 t2 <3 >4 t4"),
+    ("a $(b c)", "<0 >1 <2 $2 <4 >5 <6 >7 $) >8"),
+    ("a $() b", "<0 >1 <2 $2 $) >5 <6 >7"),
+    ("\"$(a)\"b", "<0 $1 <3 >4 $) >7"),
+    ("$((1+$(a)))", "<0 $5 <7 >8 $) >11"),
+    ("$(a;(b))", "<0 $0 <2 >3 t3 t4 <5 >6 ) $) >8"),
+    ("$(a $(b))", "<0 $0 <2 >3 <4 $4 <6 >7 $) >8 $) >9"),
+    ("$(a #b)\n)", "<0 $0 <2 >3 t7 $) >9"),
+    (
+        "$(a>$(b)1 2>c)",
+        "<0 $0 <2 >3 t3 <4 $4 <6 >7 $) >9 t10 t11 <12 >13 $) >14",
+    ),
+    ("$(a\\\nb)\\\n", "<0 $0 <2 >6 $) >7"),
+    ("$('a)'${x-)}b)", "<0 $0 <2 >13 $) >14"),
+    ("$(a", "UnclosedBrace 0"),
+    ("$(a &)", "OutOfProfile & 4"),
+];
+
 #[test]
 fn texts_have_their_marks(rt: HostRuntime) -> Result<(), Fail> {
-    let alloc = rt.alloc();
-    for (text, expected) in [
-        ("", ""),
-        ("a b\n", "<0 >1 <2 >3 t3"),
-        ("(a;b)", "t0 <1 >2 t2 <3 >4 t4"),
-        ("a $(b c)", "<0 >1 <2 $2 <4 >5 <6 >7 $) >8"),
-        ("a $() b", "<0 >1 <2 $2 $) >5 <6 >7"),
-        ("\"$(a)\"b", "<0 $1 <3 >4 $) >7"),
-        ("$((1+$(a)))", "<0 $5 <7 >8 $) >11"),
-        ("$(a;(b))", "<0 $0 <2 >3 t3 t4 <5 >6 ) $) >8"),
-        ("$(a $(b))", "<0 $0 <2 >3 <4 $4 <6 >7 $) >8 $) >9"),
-        ("$(a #b)\n)", "<0 $0 <2 >3 t7 $) >9"),
-        (
-            "$(a>$(b)1 2>c)",
-            "<0 $0 <2 >3 t3 <4 $4 <6 >7 $) >9 t10 t11 <12 >13 $) >14",
-        ),
-        ("$(a\\\nb)\\\n", "<0 $0 <2 >6 $) >7"),
-        ("$('a)'${x-)}b)", "<0 $0 <2 >13 $) >14"),
-        ("$(a", "UnclosedBrace 0"),
-        ("$(a &)", "OutOfProfile & 4"),
-    ] {
-        assert_eq!(rt;
-            shown_marks(alloc, text.as_bytes())?.as_str(),
-            expected,
-            "at {text:?}"
-        );
+    for &(text, expected) in MARKS.iter() {
+        let answer = shown_marks(rt.alloc(), text.as_bytes())?;
+        expect(&rt, answer.as_str(), expected, text);
     }
     Ok(())
 }

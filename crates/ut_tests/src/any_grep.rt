@@ -3,6 +3,7 @@
 use crate::invocations::invocation_of;
 use ps_lines::Memory;
 use std::alloc::Global;
+use std::process::Abort;
 use std::test::Fail;
 use ut_args::{GrepInv, Inv};
 use ut_grep::{Grep, check};
@@ -120,22 +121,41 @@ fn run_over(
     Ok(Some(grep.has_selected()))
 }
 
+/// What the invocation writes for its inputs, which are cut.
+fn written(
+    alloc: Global,
+    inv: &GrepInv,
+    inputs: &[(&str, &str)],
+    cuts: u64,
+) -> Result<Vec<u8>, Fail> {
+    let mut out = Vec::new(alloc);
+    for (label, text) in inputs {
+        let ran = run_over(alloc, inv, label, text, cuts, &mut out)?;
+        ran.ok_or("no expression")?;
+    }
+    Ok(out)
+}
+
+/// The invocation writes what the row wants, however its inputs are cut.
+fn expect_written(
+    rt: &impl Abort,
+    alloc: Global,
+    inv: &GrepInv,
+    inputs: &[(&str, &str)],
+    wanted: &str,
+) -> Result<(), Fail> {
+    for cuts in [0, 1, 2, 12, 85, 255] {
+        let out = written(alloc, inv, inputs, cuts)?;
+        assert_eq!(rt; out.as_slice(), wanted.as_bytes(), "{inputs:?} cut {cuts}");
+    }
+    Ok(())
+}
+
 #[test]
 fn lines_are_selected_however_the_input_is_cut(rt: HostRuntime) -> Result<(), Fail> {
-    let alloc = rt.alloc();
     for &(words, inputs, wanted) in ROWS.iter() {
-        let Some(inv) = read_words(alloc, words)? else {
-            assert!(rt; false, "no invocation of grep: {words:?}");
-            continue;
-        };
-        for cuts in [0, 1, 2, 12, 85, 255] {
-            let mut out = Vec::new(alloc);
-            for &(label, text) in inputs.iter() {
-                let ran = run_over(alloc, &inv, label, text, cuts, &mut out)?;
-                assert!(rt; ran.is_some(), "no expression: {words:?}");
-            }
-            assert_eq!(rt; out.as_slice(), wanted.as_bytes(), "{words:?} cut {cuts}");
-        }
+        let inv = read_words(rt.alloc(), words)?.ok_or("no invocation of grep")?;
+        expect_written(&rt, rt.alloc(), &inv, inputs, wanted)?;
     }
     Ok(())
 }

@@ -27,6 +27,13 @@ impl<T> Seq<T> {
         Seq { items }
     }
 
+    /// The items, to be moved or changed, without a copy and without memory.
+    pub fn into_vec(self) -> Vec<T>
+        ensures { result.items ≡ self }
+    {
+        self.items
+    }
+
     /// The items.
     pub fn as_slice(&self) -> &[T]
         ensures { result.now ≡ self.now }

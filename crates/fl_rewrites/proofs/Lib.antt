@@ -1,0 +1,10 @@
+pub mod TableLemmas
+pub mod OrderLemmas
+pub mod NumberLemmas
+pub mod PlacedLemmas
+pub mod SoundLemmas
+pub mod CarryLemmas
+pub mod ValueLemmas
+pub mod SpliceLemmas
+pub mod PlaceLemmas
+pub mod KnownLemmas

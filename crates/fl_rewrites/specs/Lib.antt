@@ -1,0 +1,6 @@
+pub mod Numbering
+pub mod Places
+pub mod Suits
+pub mod Keeps
+pub mod Known
+pub mod Inner

@@ -1,0 +1,7 @@
+pub mod SeamLemmas
+pub mod RowLemmas
+pub mod KindLemmas
+pub mod WireLemmas
+pub mod MapLemmas
+pub mod PartLemmas
+pub mod InsertLemmas

@@ -17,3 +17,5 @@ mod joints;
 mod machines;
 #[cfg(test)]
 mod nets;
+#[cfg(test)]
+mod rewrites;

@@ -1,8 +1,9 @@
--- The two halves of a relay, as their callers see them (own): which relay they belong to, what was given and what was taken.
-use Rattle.std.specs.Prelude.{List}
+-- The two halves of a relay, as their callers see them (own): which relay they belong to, its room, what was given and what was taken.
+use Rattle.std.specs.Prelude.{ℕ, List}
 use Rattle.atomic_table.specs.Seated.{TableId}
 use Rattle.atomic_table.specs.declared.badge.Badge.{Badge}
 use Rattle.crossbeam_channel.specs.Claims.{view}
+use Rattle.crossbeam_channel.specs.Ends.{ruled_capacity, sends_on}
 use Rattle.crossbeam_channel.specs.declared.flavors.array.Key.{Key}
 use Rattle.fl_graph.specs.declared.pieces.Piece.{Piece}
 use Rattle.fl_relay.specs.declared.halves.Giver.{Giver}
@@ -18,6 +19,10 @@ gives_on giver = (giver.pass.table_id, giver.pass.me.0.of)
 
 abbrev pub takes_on : Taker → Id
 takes_on taker = (taker.pass.table_id, taker.pass.me.0.of)
+
+-- how many pieces may wait in the relay into which a giver puts
+abbrev pub room_of : Giver → ℕ
+room_of giver = ruled_capacity (sends_on giver.end)
 
 -- what a giver has put so far, in order, and what a taker has taken
 abbrev pub given : Giver → List Piece

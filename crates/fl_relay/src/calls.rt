@@ -1,6 +1,6 @@
 //! How a relay is made.
 ghost use Rattle.std.specs.Prelude.{◌≡◌, ◌<◌, [], IfOk};
-ghost use Rattle.fl_relay.specs.Relays.{gives_on, takes_on, given, taken};
+ghost use Rattle.fl_relay.specs.Relays.{gives_on, takes_on, room_of, given, taken};
 
 use crate::halves::{Giver, Taker};
 use crate::rule::{Halves, InOrder, View};
@@ -13,6 +13,7 @@ use std::alloc::Global;
 pub fn bounded(alloc: Global, capacity: u32) -> Result<(Giver, Taker), Memory>
     requires { 0 < capacity }
     ensures same { IfOk result (λ halves. takes_on halves.1 ≡ gives_on halves.0) }
+    ensures room { IfOk result (λ halves. room_of halves.0 ≡ capacity) }
     ensures given { IfOk result (λ halves. given halves.0 ≡ []) }
     ensures taken { IfOk result (λ halves. taken halves.1 ≡ []) }
 {

@@ -26,18 +26,20 @@ pub enum EdgeTaker {
 }
 
 impl EdgeGiver {
-    ghost use Rattle.std.specs.Prelude.{◌≡◌, false, [], ◌∷◌, ◌++◌, OnOk, OnErr};
+    ghost use Rattle.std.specs.Prelude.{◌≡◌, false, [], ◌∷◌, ◌++◌, None, OnOk, OnErr};
     ghost use Rattle.fl_graph.specs.Machines.{closes};
     ghost use Rattle.fl_graph.specs.Runs.{are_closed};
-    ghost use Rattle.fl_relay.specs.Edges.{gives_over, put_on};
+    ghost use Rattle.fl_relay.specs.Edges.{gives_over, put_on, room_on};
 
-    /// Puts a piece, and waits for room where the edge has a bound. Where memory is refused nothing is put; a piece that closes the edge is
-    /// never refused: it waits for memory.
+    /// Puts a piece, and waits for room where the edge has a bound. Where memory is refused, which it is on an edge without bound alone,
+    /// nothing is put; a piece that closes the edge is never refused: it waits for memory.
     pub fn put<R: Wait>(&mut self, rt: &R, piece: Piece) -> Result<(), Memory>
         requires { are_closed (put_on self.old) ≡ false }
         ensures same { gives_over self.new ≡ gives_over self.old }
+        ensures room { room_on self.new ≡ room_on self.old }
         ensures given { OnOk result (put_on self.new ≡ put_on self.old ++ piece ∷ []) }
         ensures refused { OnErr result (put_on self.new ≡ put_on self.old) }
+        ensures bounded { OnErr result (room_on self.old ≡ None) }
         ensures closing { OnErr result (closes piece ≡ false) }
     {
         match self {

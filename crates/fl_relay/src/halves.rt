@@ -31,13 +31,14 @@ impl Giver {
     ghost use Rattle.std.specs.Prelude.{◌≡◌, false, [], ◌∷◌, ◌++◌};
     ghost use Rattle.fl_graph.specs.Machines.{closes};
     ghost use Rattle.fl_graph.specs.Runs.{are_closed};
-    ghost use Rattle.fl_relay.specs.Relays.{gives_on, given};
+    ghost use Rattle.fl_relay.specs.Relays.{gives_on, room_of, given};
 
     /// Puts a piece. While the relay is full it sleeps.
     #[tactic(auto, using(crate::proofs::PieceLemmas::closed_by))]
     pub fn put<R: Wait>(&mut self, rt: &R, piece: Piece)
         requires { are_closed (given self.old) ≡ false }
         ensures same { gives_on self.new ≡ gives_on self.old }
+        ensures room { room_of self.new ≡ room_of self.old }
         ensures given { given self.new ≡ given self.old ++ piece ∷ [] }
         ensures closed { are_closed (given self.new) ≡ closes piece }
     {

@@ -23,15 +23,15 @@ pub enum Own<R, W, I, O> {
 }
 
 impl<R: Source, W: Sink, I: Source, O: Sink> OwnEnd for Own<R, W, I, O> {
-    ghost use Rattle.fl_nodes.specs.Ends.{nothing, reading, writing};
+    ghost use Rattle.fl_nodes.specs.Ends.{nothing, reading, writing, Reader, Writer, Input, Output};
     ghost use Rattle.fl_nodes.specs.declared.own.Own.TheVariants as own;
 
     ghost state = { λ end. elim end [
       | own.Nothing ↦ nothing
-      | own.Reader inlet ↦ reading 1 (R.left inlet.end) (R.faults inlet.end)
-      | own.Writer writer ↦ writing 2 (W.taken writer) (W.faults writer)
-      | own.Input inlet ↦ reading 3 (I.left inlet.end) (I.faults inlet.end)
-      | own.Output out ↦ writing 4 (O.taken out) (O.faults out)
+      | own.Reader inlet ↦ reading Reader (R.left inlet.end) (R.faults inlet.end)
+      | own.Writer writer ↦ writing Writer (W.taken writer) (W.faults writer)
+      | own.Input inlet ↦ reading Input (I.left inlet.end) (I.faults inlet.end)
+      | own.Output out ↦ writing Output (O.taken out) (O.faults out)
     ] };
 
     fn is_read(&self) -> bool {

@@ -4,4 +4,5 @@ pub mod MovedLemmas
 pub mod WorkLemmas
 pub mod CameLemmas
 pub mod StashLemmas
+pub mod DealLemmas
 pub mod SourceLemmas

@@ -39,8 +39,9 @@ pub(crate) fn stage_of(alloc: Global, inv: &Inv, operands: &[Operand]) -> Result
     ensures { IfOk result (λ stage. IsStageOf inv.now operands.now stage) }
 {
     let flags = lacking(alloc, operands)?;
-    let without = inv.without(alloc, flags.as_slice())?;
+    // Behind the invocation no call may fail: an exit at which it's let go is long.
     let ins = ins_of(alloc, operands)?;
+    let without = inv.without(alloc, flags.as_slice())?;
     Ok(Stage {
         does: Does::Util(without),
         ins: Seq::from_vec(ins),

@@ -1,599 +1,319 @@
 //! Path expansion: files, marked texts, and the names for which they stand, as `dash` answers where the rule isn't our own.
-use crate::{Mark, expand_paths};
+//!
+//! A row is the files below `/w` and elsewhere with a `|` between them, a directory with a `/` behind it; and the text, its marks (`q`
+//! quoted, `u` unquoted) and its names, with a `;` between the three and a `|` between the names.
+use super::marked;
+use crate::expand_paths;
 use ps_fakes::MemTree;
+use ps_lines::Memory;
 use std::alloc::Global;
-use std::process::Abort;
 use std::test::Fail;
 
-/// A text, its marks (`q` quoted, `u` unquoted), and its names with a `|` between them.
-type Row<'a> = (&'a [u8], &'a [u8], &'a [u8]);
-
-/// The names with a `|` between them.
-fn joined(alloc: Global, names: &[Vec<u8>]) -> Result<Vec<u8>, Fail> {
-    let mut text = Vec::new(alloc);
-    for (place, name) in names.iter().enumerate() {
-        if place > 0 {
-            text.push(b'|')?;
+/// A tree of these files, which are empty, with the working directory `/w`.
+fn tree_of(alloc: Global, list: &[u8]) -> Result<Option<MemTree>, Memory> {
+    let mut files = Vec::new(alloc);
+    for item in list.split(|byte| *byte == b'|') {
+        match item {
+            [] => {}
+            [dir @ .., b'/'] => files.push((dir, None))?,
+            file => files.push((file, Some(b"".as_slice())))?,
         }
-        text.extend_from_slice(name.as_slice())?;
     }
-    Ok(text)
+    MemTree::of_table(alloc, b"/w", files.as_slice(), Vec::new(alloc))
 }
 
-/// Expands each row's text in a tree of these files, from `/w`.
-fn expands<R: Abort + AllocGlobal>(
-    rt: &R,
-    files: &[(&[u8], Option<&[u8]>)],
-    rows: &[Row],
-) -> Result<(), Fail> {
-    let alloc = rt.alloc();
-    let tree = MemTree::of_table(alloc, b"/w", files, Vec::new(alloc))?;
-    let mut tree = tree.expect(rt, "the files make a tree");
-    for (text, marks, want) in rows {
-        let mut marked = Vec::new(alloc);
-        for (byte, mark) in text.iter().zip(marks.iter()) {
-            marked.push(Mark {
-                byte: *byte,
-                quoted: *mark == b'q',
-            })?;
+/// Whether these are the names of a list.
+fn are_listed(names: &[Vec<u8>], list: &[u8]) -> bool {
+    let mut left = names;
+    for item in list.split(|byte| *byte == b'|') {
+        match left {
+            [name, rest @ ..] if name.as_slice() == item => left = rest,
+            _ => return false,
         }
-        let names = expand_paths(alloc, &mut tree, marked.as_slice())?;
-        let found = joined(alloc, names.as_slice())?;
-        assert!(rt;
-            found.as_slice() == *want,
-            "{text:?} {marks:?} gives {found:?}"
-        );
     }
-    Ok(())
+    left.is_empty()
 }
+
+/// Whether the text stands for the names of the list.
+fn gives(
+    alloc: Global,
+    tree: &mut MemTree,
+    text: &[u8],
+    marks: &[u8],
+    list: &[u8],
+) -> Result<bool, Fail> {
+    let marked = marked(alloc, text, marks)?;
+    let names = expand_paths(alloc, tree, marked.as_slice())?;
+    Ok(are_listed(names.as_slice(), list))
+}
+
+/// Whether a row's text stands for its names in a tree of these files, from `/w`.
+fn expands(alloc: Global, files: &[u8], row: &[u8]) -> Result<bool, Fail> {
+    let mut columns = row.split(|byte| *byte == b';');
+    let text = columns.next().unwrap_or(&[]);
+    let marks = columns.next().unwrap_or(&[]);
+    let list = columns.next().unwrap_or(&[]);
+    match tree_of(alloc, files)? {
+        Some(mut tree) => gives(alloc, &mut tree, text, marks, list),
+        None => Ok(false),
+    }
+}
+
+static NAMES: [(&[u8], &[u8]); 44] = [
+    (b"", b"a;u;a"),
+    (b"", b"*;u;*"),
+    (b"", b"*/;uu;*/"),
+    (b"/w/a|/w/b", b"a;u;a"),
+    (b"/w/a", b";;"),
+    (b"/w/a", b"*;q;*"),
+    (b"/w/a", b"?;q;?"),
+    (b"/w/a", b"[a];qqq;[a]"),
+    (b"/w/a", b"a];uu;a]"),
+    (b"/w/a", b"b*;uu;b*"),
+    (b"/w/a", b"*.log;uuuuu;*.log"),
+    (b"/w/a", b"[b];uuu;[b]"),
+    (b"/w/a", b"[b;uu;[b"),
+    (b"/w/a", b"b*c;uqu;b*c"),
+    (b"/w/a", b"\"*\";uuu;\"*\""),
+    (b"/w/a", b"x*?;uuq;x*?"),
+    (b"/w/a", b".*;uu;.*"),
+    (b"/w/a", b"..;uu;.."),
+    (b"/w/a", b".?;uu;.?"),
+    (b"/w/a|/w/b|/w/c", b"*;u;a|b|c"),
+    (b"/w/a|/w/b|/w/c", b"[ac];uuuu;a|c"),
+    (b"/w/a|/w/b|/w/c", b"[!ac];uuuuu;b"),
+    (b"/w/a|/w/b|/w/c", b"[b-c];uuuuu;b|c"),
+    (b"/w/b|/w/B|/w/a|/w/_|/w/9", b"*;u;9|B|_|a|b"),
+    (b"/w/a|/w/aa|/w/a-|/w/a.|/w/aB", b"a*;uu;a|a-|a.|aB|aa"),
+    (b"/w/a|/w/ab|/w/b", b"?;u;a|b"),
+    (b"/w/x1|/w/x2|/w/x10", b"x?;uu;x1|x2"),
+    (b"/w/x1|/w/x2|/w/x10", b"x*;uu;x1|x10|x2"),
+    (b"/w/a.txt|/w/b.txt|/w/c.log", b"*.txt;uuuuu;a.txt|b.txt"),
+    (b"/w/a b|/w/ab", b"a*;uu;a b|ab"),
+    (b"/w/a|/w/\xff|/w/\x80", b"*;u;a|\x80|\xff"),
+    (b"/w/a\nb|/w/a\tb", b"a*b;uuu;a\tb|a\nb"),
+    (b"/w/a1|/w/a2|/w/ab", b"a[[:digit:]];uuuuuuuuuuuu;a1|a2"),
+    (b"/w/a|/w/ab|/w/abc", b"a*c;uuu;abc"),
+    (b"/w/a*|/w/ab", b"a*;uq;a*"),
+    (b"/w/a*|/w/ab|/w/a*b", b"a**;uqu;a*|a*b"),
+    (b"/w/a*b|/w/acb", b"a?b;uuu;a*b|acb"),
+    (b"/w/a*b|/w/acb", b"a*b;uqu;a*b"),
+    (b"/w/\\a|/w/a", b"\\*;uu;\\a"),
+    (b"/w/\\a|/w/a", b"\\*;qu;\\a"),
+    (b"/w/[b", b"[b;uu;[b"),
+    (b"/w/[b|/w/[c", b"[?;uu;[b|[c"),
+    (b"/w/a.b", b"a*b;uuu;a.b"),
+    (b"/w/a.b", b"a?b;uuu;a.b"),
+];
 
 /// Results stand in the order of their bytes; without one the text stays.
 #[test]
 fn gives_the_names_that_fit(rt: HostRuntime) -> Result<(), Fail> {
-    expands(
-        &rt,
-        &[],
-        &[
-            (b"a", b"u", b"a"),
-            (b"*", b"u", b"*"),
-            (b"*/", b"uu", b"*/"),
-        ],
-    )?;
-    expands(
-        &rt,
-        &[(b"/w/a", Some(b"")), (b"/w/b", Some(b""))],
-        &[(b"a", b"u", b"a")],
-    )?;
-    expands(
-        &rt,
-        &[(b"/w/a", Some(b""))],
-        &[
-            (b"", b"", b""),
-            (b"*", b"q", b"*"),
-            (b"?", b"q", b"?"),
-            (b"[a]", b"qqq", b"[a]"),
-            (b"a]", b"uu", b"a]"),
-            (b"b*", b"uu", b"b*"),
-            (b"*.log", b"uuuuu", b"*.log"),
-            (b"[b]", b"uuu", b"[b]"),
-            (b"[b", b"uu", b"[b"),
-            (b"b*c", b"uqu", b"b*c"),
-            (b"\"*\"", b"uuu", b"\"*\""),
-            (b"x*?", b"uuq", b"x*?"),
-            (b".*", b"uu", b".*"),
-            (b"..", b"uu", b".."),
-            (b".?", b"uu", b".?"),
-        ],
-    )?;
-    expands(
-        &rt,
-        &[
-            (b"/w/a", Some(b"")),
-            (b"/w/b", Some(b"")),
-            (b"/w/c", Some(b"")),
-        ],
-        &[
-            (b"*", b"u", b"a|b|c"),
-            (b"[ac]", b"uuuu", b"a|c"),
-            (b"[!ac]", b"uuuuu", b"b"),
-            (b"[b-c]", b"uuuuu", b"b|c"),
-        ],
-    )?;
-    expands(
-        &rt,
-        &[
-            (b"/w/b", Some(b"")),
-            (b"/w/B", Some(b"")),
-            (b"/w/a", Some(b"")),
-            (b"/w/_", Some(b"")),
-            (b"/w/9", Some(b"")),
-        ],
-        &[(b"*", b"u", b"9|B|_|a|b")],
-    )?;
-    expands(
-        &rt,
-        &[
-            (b"/w/a", Some(b"")),
-            (b"/w/aa", Some(b"")),
-            (b"/w/a-", Some(b"")),
-            (b"/w/a.", Some(b"")),
-            (b"/w/aB", Some(b"")),
-        ],
-        &[(b"a*", b"uu", b"a|a-|a.|aB|aa")],
-    )?;
-    expands(
-        &rt,
-        &[
-            (b"/w/a", Some(b"")),
-            (b"/w/ab", Some(b"")),
-            (b"/w/b", Some(b"")),
-        ],
-        &[(b"?", b"u", b"a|b")],
-    )?;
-    expands(
-        &rt,
-        &[
-            (b"/w/x1", Some(b"")),
-            (b"/w/x2", Some(b"")),
-            (b"/w/x10", Some(b"")),
-        ],
-        &[(b"x?", b"uu", b"x1|x2"), (b"x*", b"uu", b"x1|x10|x2")],
-    )?;
-    expands(
-        &rt,
-        &[
-            (b"/w/a.txt", Some(b"")),
-            (b"/w/b.txt", Some(b"")),
-            (b"/w/c.log", Some(b"")),
-        ],
-        &[(b"*.txt", b"uuuuu", b"a.txt|b.txt")],
-    )?;
-    expands(
-        &rt,
-        &[(b"/w/a b", Some(b"")), (b"/w/ab", Some(b""))],
-        &[(b"a*", b"uu", b"a b|ab")],
-    )?;
-    expands(
-        &rt,
-        &[
-            (b"/w/a", Some(b"")),
-            (b"/w/\xff", Some(b"")),
-            (b"/w/\x80", Some(b"")),
-        ],
-        &[(b"*", b"u", b"a|\x80|\xff")],
-    )?;
-    expands(
-        &rt,
-        &[(b"/w/a\nb", Some(b"")), (b"/w/a\tb", Some(b""))],
-        &[(b"a*b", b"uuu", b"a\tb|a\nb")],
-    )?;
-    expands(
-        &rt,
-        &[
-            (b"/w/a1", Some(b"")),
-            (b"/w/a2", Some(b"")),
-            (b"/w/ab", Some(b"")),
-        ],
-        &[(b"a[[:digit:]]", b"uuuuuuuuuuuu", b"a1|a2")],
-    )?;
-    expands(
-        &rt,
-        &[
-            (b"/w/a", Some(b"")),
-            (b"/w/ab", Some(b"")),
-            (b"/w/abc", Some(b"")),
-        ],
-        &[(b"a*c", b"uuu", b"abc")],
-    )?;
-    expands(
-        &rt,
-        &[(b"/w/a*", Some(b"")), (b"/w/ab", Some(b""))],
-        &[(b"a*", b"uq", b"a*")],
-    )?;
-    expands(
-        &rt,
-        &[
-            (b"/w/a*", Some(b"")),
-            (b"/w/ab", Some(b"")),
-            (b"/w/a*b", Some(b"")),
-        ],
-        &[(b"a**", b"uqu", b"a*|a*b")],
-    )?;
-    expands(
-        &rt,
-        &[(b"/w/a*b", Some(b"")), (b"/w/acb", Some(b""))],
-        &[(b"a?b", b"uuu", b"a*b|acb"), (b"a*b", b"uqu", b"a*b")],
-    )?;
-    expands(
-        &rt,
-        &[(b"/w/\\a", Some(b"")), (b"/w/a", Some(b""))],
-        &[(b"\\*", b"uu", b"\\a"), (b"\\*", b"qu", b"\\a")],
-    )?;
-    expands(&rt, &[(b"/w/[b", Some(b""))], &[(b"[b", b"uu", b"[b")])?;
-    expands(
-        &rt,
-        &[(b"/w/[b", Some(b"")), (b"/w/[c", Some(b""))],
-        &[(b"[?", b"uu", b"[b|[c")],
-    )?;
-    expands(
-        &rt,
-        &[(b"/w/a.b", Some(b""))],
-        &[(b"a*b", b"uuu", b"a.b"), (b"a?b", b"uuu", b"a.b")],
-    )
+    for &(files, row) in NAMES.iter() {
+        assert!(rt; expands(rt.alloc(), files, row)?, "{row:?} in {files:?}");
+    }
+    Ok(())
 }
+
+static STARS: [(&[u8], &[u8]); 2] = [
+    (
+        b"/w/x1.txt|/w/x2.txt|/w/.x3.txt",
+        b"*.txt;uuuuu;x1.txt|x2.txt",
+    ),
+    (b"/w/x1.txt|/w/x2.txt|/w/.x3.txt", b"*.log;uuuuu;*.log"),
+];
 
 /// `*` leaves out the names that a period begins, and a pattern that fits no name stays as it is written.
 #[test]
 fn star_txt_gives_the_names_without_a_leading_period_and_star_log_stays(
     rt: HostRuntime,
 ) -> Result<(), Fail> {
-    expands(
-        &rt,
-        &[
-            (b"/w/x1.txt", Some(b"")),
-            (b"/w/x2.txt", Some(b"")),
-            (b"/w/.x3.txt", Some(b"")),
-        ],
-        &[
-            (b"*.txt", b"uuuuu", b"x1.txt|x2.txt"),
-            (b"*.log", b"uuuuu", b"*.log"),
-        ],
-    )
+    for &(files, row) in STARS.iter() {
+        assert!(rt; expands(rt.alloc(), files, row)?, "{row:?} in {files:?}");
+    }
+    Ok(())
 }
+
+static PERIODS: [(&[u8], &[u8]); 12] = [
+    (b"/w/.a", b"*;u;*"),
+    (b"/w/.a", b".?;uu;.a"),
+    (b"/w/.a", b".*;uu;.a"),
+    (b"/w/.a|/w/a", b"*;u;a"),
+    (b"/w/.a|/w/a", b".*;uu;.a"),
+    (b"/w/.a|/w/a", b".*;qu;.a"),
+    (b"/w/.a|/w/a", b"?a;uu;?a"),
+    (b"/w/.a|/w/a", b"[.]a;uuuu;[.]a"),
+    (b"/w/.a|/w/a", b"[!b]a;uuuuu;[!b]a"),
+    (b"/w/.a|/w/.b|/w/a", b".[ab];uuuuu;.a|.b"),
+    (b"/w/..a|/w/.b", b".*;uu;..a|.b"),
+    (b"/w/..a|/w/.b", b"..*;uuu;..a"),
+];
 
 /// A period that begins a component fits only a period; `.` and `..` are never found.
 #[test]
 fn a_leading_period_stands_for_itself(rt: HostRuntime) -> Result<(), Fail> {
-    expands(
-        &rt,
-        &[(b"/w/.a", Some(b""))],
-        &[
-            (b"*", b"u", b"*"),
-            (b".?", b"uu", b".a"),
-            (b".*", b"uu", b".a"),
-        ],
-    )?;
-    expands(
-        &rt,
-        &[(b"/w/.a", Some(b"")), (b"/w/a", Some(b""))],
-        &[
-            (b"*", b"u", b"a"),
-            (b".*", b"uu", b".a"),
-            (b".*", b"qu", b".a"),
-            (b"?a", b"uu", b"?a"),
-            (b"[.]a", b"uuuu", b"[.]a"),
-            (b"[!b]a", b"uuuuu", b"[!b]a"),
-        ],
-    )?;
-    expands(
-        &rt,
-        &[
-            (b"/w/.a", Some(b"")),
-            (b"/w/.b", Some(b"")),
-            (b"/w/a", Some(b"")),
-        ],
-        &[(b".[ab]", b"uuuuu", b".a|.b")],
-    )?;
-    expands(
-        &rt,
-        &[(b"/w/..a", Some(b"")), (b"/w/.b", Some(b""))],
-        &[(b".*", b"uu", b"..a|.b"), (b"..*", b"uuu", b"..a")],
-    )
+    for &(files, row) in PERIODS.iter() {
+        assert!(rt; expands(rt.alloc(), files, row)?, "{row:?} in {files:?}");
+    }
+    Ok(())
 }
+
+static SLASHES: [(&[u8], &[u8]); 31] = [
+    (b"/w/d/a", b"d/a;uuu;d/a"),
+    (b"/w/d/a", b"d/.*;uuuu;d/.*"),
+    (b"/w/d/a", b"*;u;d"),
+    (b"/w/d/a", b"*/*;uuu;d/a"),
+    (b"/w/d/a", b"d?a;uuu;d?a"),
+    (b"/w/d/a", b"d*a;uuu;d*a"),
+    (b"/w/d/a", b"d[/]a;uuuuu;d[/]a"),
+    (b"/w/d/", b"*;u;d"),
+    (b"/w/d/|/w/a", b"*;u;a|d"),
+    (b"/w/d/|/w/dd/", b"d*;uu;d|dd"),
+    (b"/w/d/.a|/w/d/a", b"d/*;uuu;d/a"),
+    (b"/w/d/.a|/w/d/a", b"d/.*;uuuu;d/.a"),
+    (b"/w/.d/a|/w/e/a", b"*/a;uuu;e/a"),
+    (b"/w/.d/a|/w/e/a", b".*/a;uuuu;.d/a"),
+    (b"/w/.d/.a", b".?/.?;uuuuu;.d/.a"),
+    (b"/w/d/.a", b".*/d/.a;uuuuuuu;.*/d/.a"),
+    (b"/w/d[|/w/d/a", b"d[/]a;uuuuu;d[/]a"),
+    (b"/w/d/a|/w/d/b|/w/e/a", b"*/a;uuu;d/a|e/a"),
+    (b"/w/d/a|/w/d/b|/w/e/a", b"d/*;uuu;d/a|d/b"),
+    (b"/w/d/a|/w/d/b|/w/e/a", b"?/?;uuu;d/a|d/b|e/a"),
+    (b"/w/d/a|/w/d/b|/w/e/a", b"[de]/b;uuuuuu;d/b"),
+    (b"/w/d/a|/w/f", b"*/;uu;d/"),
+    (b"/w/d/a|/w/f", b"d*/;uuu;d/"),
+    (b"/w/d/a|/w/f", b"f*/;uuu;f*/"),
+    (b"/w/d/a|/w/f", b"*/a;uuu;d/a"),
+    (b"/w/d/a|/w/f", b"f/*;uuu;f/*"),
+    (b"/w/d/a|/w/f", b"x/*;uuu;x/*"),
+    (b"/w/d/e/a|/w/d/f/a|/w/d/b", b"*/*/*;uuuuu;d/e/a|d/f/a"),
+    (b"/w/d/e/a|/w/d/f/a|/w/d/b", b"d/*/a;uuuuu;d/e/a|d/f/a"),
+    (
+        b"/w/d/e/a|/w/d/f/a|/w/d/b",
+        b"*/[ef]/a;uuuuuuuu;d/e/a|d/f/a",
+    ),
+    (b"/w/d/a|/w/dd/a", b"d*/a;uuuu;d/a|dd/a"),
+];
 
 /// A slash is fitted only by a slash, and stays as it is written; a file has no names below it.
 #[test]
 fn a_slash_stands_for_itself(rt: HostRuntime) -> Result<(), Fail> {
-    expands(
-        &rt,
-        &[(b"/w/d/a", Some(b""))],
-        &[
-            (b"d/a", b"uuu", b"d/a"),
-            (b"d/.*", b"uuuu", b"d/.*"),
-            (b"*", b"u", b"d"),
-            (b"*/*", b"uuu", b"d/a"),
-            (b"d?a", b"uuu", b"d?a"),
-            (b"d*a", b"uuu", b"d*a"),
-            (b"d[/]a", b"uuuuu", b"d[/]a"),
-        ],
-    )?;
-    expands(&rt, &[(b"/w/d", None)], &[(b"*", b"u", b"d")])?;
-    expands(
-        &rt,
-        &[(b"/w/d", None), (b"/w/a", Some(b""))],
-        &[(b"*", b"u", b"a|d")],
-    )?;
-    expands(
-        &rt,
-        &[(b"/w/d", None), (b"/w/dd", None)],
-        &[(b"d*", b"uu", b"d|dd")],
-    )?;
-    expands(
-        &rt,
-        &[(b"/w/d/.a", Some(b"")), (b"/w/d/a", Some(b""))],
-        &[(b"d/*", b"uuu", b"d/a"), (b"d/.*", b"uuuu", b"d/.a")],
-    )?;
-    expands(
-        &rt,
-        &[(b"/w/.d/a", Some(b"")), (b"/w/e/a", Some(b""))],
-        &[(b"*/a", b"uuu", b"e/a"), (b".*/a", b"uuuu", b".d/a")],
-    )?;
-    expands(
-        &rt,
-        &[(b"/w/.d/.a", Some(b""))],
-        &[(b".?/.?", b"uuuuu", b".d/.a")],
-    )?;
-    expands(
-        &rt,
-        &[(b"/w/d/.a", Some(b""))],
-        &[(b".*/d/.a", b"uuuuuuu", b".*/d/.a")],
-    )?;
-    expands(
-        &rt,
-        &[(b"/w/d[", Some(b"")), (b"/w/d/a", Some(b""))],
-        &[(b"d[/]a", b"uuuuu", b"d[/]a")],
-    )?;
-    expands(
-        &rt,
-        &[
-            (b"/w/d/a", Some(b"")),
-            (b"/w/d/b", Some(b"")),
-            (b"/w/e/a", Some(b"")),
-        ],
-        &[
-            (b"*/a", b"uuu", b"d/a|e/a"),
-            (b"d/*", b"uuu", b"d/a|d/b"),
-            (b"?/?", b"uuu", b"d/a|d/b|e/a"),
-            (b"[de]/b", b"uuuuuu", b"d/b"),
-        ],
-    )?;
-    expands(
-        &rt,
-        &[(b"/w/d/a", Some(b"")), (b"/w/f", Some(b""))],
-        &[
-            (b"*/", b"uu", b"d/"),
-            (b"d*/", b"uuu", b"d/"),
-            (b"f*/", b"uuu", b"f*/"),
-            (b"*/a", b"uuu", b"d/a"),
-            (b"f/*", b"uuu", b"f/*"),
-            (b"x/*", b"uuu", b"x/*"),
-        ],
-    )?;
-    expands(
-        &rt,
-        &[
-            (b"/w/d/e/a", Some(b"")),
-            (b"/w/d/f/a", Some(b"")),
-            (b"/w/d/b", Some(b"")),
-        ],
-        &[
-            (b"*/*/*", b"uuuuu", b"d/e/a|d/f/a"),
-            (b"d/*/a", b"uuuuu", b"d/e/a|d/f/a"),
-            (b"*/[ef]/a", b"uuuuuuuu", b"d/e/a|d/f/a"),
-        ],
-    )?;
-    expands(
-        &rt,
-        &[(b"/w/d/a", Some(b"")), (b"/w/dd/a", Some(b""))],
-        &[(b"d*/a", b"uuuu", b"d/a|dd/a")],
-    )
+    for &(files, row) in SLASHES.iter() {
+        assert!(rt; expands(rt.alloc(), files, row)?, "{row:?} in {files:?}");
+    }
+    Ok(())
 }
+
+static COMPONENTS: [(&[u8], &[u8]); 28] = [
+    (b"/w/d/a|/w/d-/a", b"d*/a;uuuu;d-/a|d/a"),
+    (b"/w/d/ab|/w/d/a.b", b"d/a?b;uuuuu;d/a.b"),
+    (b"/w/d/a|/w/d/b", b"./d/*;uuuuu;./d/a|./d/b"),
+    (b"/w/d/a|/w/d/b", b"d//*;uuuu;d//a|d//b"),
+    (b"/w/d/a|/w/d/b", b"d/./*;uuuuu;d/./a|d/./b"),
+    (b"/w/d/a|/w/d/b", b"d/*;quq;d/*"),
+    (b"/w/d/a|/w/e/b", b"d/../*;uuuuuu;d/../d|d/../e"),
+    (b"/w/d/a|/w/e/b", b"*/../e;uuuuuu;d/../e|e/../e"),
+    (b"/w/d/*|/w/d/a", b"d/*;uuq;d/*"),
+    (b"/w/d/*|/w/d/a|/w/e/*", b"*/*;uuq;d/*|e/*"),
+    (b"/w/d/a|/w/e", b"*/.;uuu;d/."),
+    (b"/w/d/a|/w/e", b"*/..;uuuu;d/.."),
+    (b"/w/d/a|/w/e", b"[de]/;uuuuu;d/"),
+    (b"/w/[/a|/w/x/a", b"[/*;uuu;[/a"),
+    (b"/w/[a/b]|/w/x", b"[a/b];uuuuu;[a/b]"),
+    (b"/w/a/b]", b"[a/b];uuuuu;[a/b]"),
+    (b"/w/d/a|/w/a", b"*//a;uuuu;d//a"),
+    (b"/w/a|/x/b", b"/*;uu;/w|/x"),
+    (b"/w/a|/x/b", b"/x/*;uuuu;/x/b"),
+    (b"/w/a|/x/b", b"/*/?;uuuu;/w/a|/x/b"),
+    (b"/w/a|/x/b", b"../x/*;uuuuuu;../x/b"),
+    (b"/w/a|/x/b", b"../*/b;uuuuuu;../x/b"),
+    (b"/w/a|/x/b", b"//*;uuu;//w|//x"),
+    (b"/w/a|/x/b", b"/y*;uuu;/y*"),
+    (b"/w/a|/dev/x", b"/dev/*;uuuuuu;/dev/x"),
+    (b"/w/a|/dev/x", b"/*/null;uuuuuuu;/*/null"),
+    (b"/w/a|/dev/x", b"/dev/n*;uuuuuuu;/dev/n*"),
+    (b"/w/a|/dev/null", b"/*/null;uuuuuuu;/dev/null"),
+];
 
 /// Components that are written out are looked up too, from the root where a slash comes first.
 #[test]
 fn every_component_has_to_be_there(rt: HostRuntime) -> Result<(), Fail> {
-    expands(
-        &rt,
-        &[(b"/w/d/a", Some(b"")), (b"/w/d-/a", Some(b""))],
-        &[(b"d*/a", b"uuuu", b"d-/a|d/a")],
-    )?;
-    expands(
-        &rt,
-        &[(b"/w/d/ab", Some(b"")), (b"/w/d/a.b", Some(b""))],
-        &[(b"d/a?b", b"uuuuu", b"d/a.b")],
-    )?;
-    expands(
-        &rt,
-        &[(b"/w/d/a", Some(b"")), (b"/w/d/b", Some(b""))],
-        &[
-            (b"./d/*", b"uuuuu", b"./d/a|./d/b"),
-            (b"d//*", b"uuuu", b"d//a|d//b"),
-            (b"d/./*", b"uuuuu", b"d/./a|d/./b"),
-            (b"d/*", b"quq", b"d/*"),
-        ],
-    )?;
-    expands(
-        &rt,
-        &[(b"/w/d/a", Some(b"")), (b"/w/e/b", Some(b""))],
-        &[
-            (b"d/../*", b"uuuuuu", b"d/../d|d/../e"),
-            (b"*/../e", b"uuuuuu", b"d/../e|e/../e"),
-        ],
-    )?;
-    expands(
-        &rt,
-        &[(b"/w/d/*", Some(b"")), (b"/w/d/a", Some(b""))],
-        &[(b"d/*", b"uuq", b"d/*")],
-    )?;
-    expands(
-        &rt,
-        &[
-            (b"/w/d/*", Some(b"")),
-            (b"/w/d/a", Some(b"")),
-            (b"/w/e/*", Some(b"")),
-        ],
-        &[(b"*/*", b"uuq", b"d/*|e/*")],
-    )?;
-    expands(
-        &rt,
-        &[(b"/w/d/a", Some(b"")), (b"/w/e", Some(b""))],
-        &[
-            (b"*/.", b"uuu", b"d/."),
-            (b"*/..", b"uuuu", b"d/.."),
-            (b"[de]/", b"uuuuu", b"d/"),
-        ],
-    )?;
-    expands(
-        &rt,
-        &[(b"/w/[/a", Some(b"")), (b"/w/x/a", Some(b""))],
-        &[(b"[/*", b"uuu", b"[/a")],
-    )?;
-    expands(
-        &rt,
-        &[(b"/w/[a/b]", Some(b"")), (b"/w/x", Some(b""))],
-        &[(b"[a/b]", b"uuuuu", b"[a/b]")],
-    )?;
-    expands(
-        &rt,
-        &[(b"/w/a/b]", Some(b""))],
-        &[(b"[a/b]", b"uuuuu", b"[a/b]")],
-    )?;
-    expands(
-        &rt,
-        &[(b"/w/d/a", Some(b"")), (b"/w/a", Some(b""))],
-        &[(b"*//a", b"uuuu", b"d//a")],
-    )?;
-    expands(
-        &rt,
-        &[(b"/w/a", Some(b"")), (b"/x/b", Some(b""))],
-        &[
-            (b"/*", b"uu", b"/w|/x"),
-            (b"/x/*", b"uuuu", b"/x/b"),
-            (b"/*/?", b"uuuu", b"/w/a|/x/b"),
-            (b"../x/*", b"uuuuuu", b"../x/b"),
-            (b"../*/b", b"uuuuuu", b"../x/b"),
-            (b"//*", b"uuu", b"//w|//x"),
-            (b"/y*", b"uuu", b"/y*"),
-        ],
-    )?;
-    expands(
-        &rt,
-        &[(b"/w/a", Some(b"")), (b"/dev/x", Some(b""))],
-        &[
-            (b"/dev/*", b"uuuuuu", b"/dev/x"),
-            (b"/*/null", b"uuuuuuu", b"/*/null"),
-            (b"/dev/n*", b"uuuuuuu", b"/dev/n*"),
-        ],
-    )?;
-    expands(
-        &rt,
-        &[(b"/w/a", Some(b"")), (b"/dev/null", Some(b""))],
-        &[(b"/*/null", b"uuuuuuu", b"/dev/null")],
-    )
+    for &(files, row) in COMPONENTS.iter() {
+        assert!(rt; expands(rt.alloc(), files, row)?, "{row:?} in {files:?}");
+    }
+    Ok(())
 }
+
+static MANY: &[u8] = b"/w/a|/w/ab|/w/b.c|/w/.h|/w/d/a|/w/d/.h|/w/d/bc|/w/e/a|/w/[x|/w/a*";
+
+static MIXED: [&[u8]; 60] = [
+    b"[[d?;uuuu;[[d?",
+    b"a*c.;uuuq;a*c.",
+    b"[[;qu;[[",
+    b"*d*;uuu;d",
+    b"[?]!;uquq;[?]!",
+    b"c[bd;uuuu;c[bd",
+    b"dd[ae;uuuqu;dd[ae",
+    b".*[]!;uuuuu;.*[]!",
+    b"a?[e/;uuuuu;a?[e/",
+    b"a*ca?;uuuuu;a*ca?",
+    b"d?c;uuu;d?c",
+    b"]c?b*;uuuuu;]c?b*",
+    b"[d;qu;[d",
+    b"]![;uqu;]![",
+    b"[]a;uuu;[]a",
+    b"a*[/*;uququ;a*[/*",
+    b"acc[c;uuuuu;acc[c",
+    b"*b/[/;uuuuu;*b/[/",
+    b".?a;uuu;.?a",
+    b"!/*;uuu;!/*",
+    b"**;uu;[x|a|a*|ab|b.c|d|e",
+    b"da.?.;uuuuu;da.?.",
+    b"*c;uu;b.c",
+    b"?e*a.;uuquu;?e*a.",
+    b"*a!b?;uuuuu;*a!b?",
+    b"ad?!d;uuuuu;ad?!d",
+    b"b*;qq;b*",
+    b".?d;qqu;.?d",
+    b"aaa*e;uuuuu;aaa*e",
+    b"a[/a;uuuu;a[/a",
+    b"e*?;quu;e*?",
+    b"*b;uu;ab",
+    b"**cb;uquq;**cb",
+    b"a[;uu;a[",
+    b"da*?.;uuuqu;da*?.",
+    b"*c[;uqu;*c[",
+    b"a[]?;ququ;a[]?",
+    b"a[bdd;uuuuu;a[bdd",
+    b"cd?!;uuuu;cd?!",
+    b"e?d;uuu;e?d",
+    b"b/d*;uuuu;b/d*",
+    b"d*;uu;d",
+    b"*a!;uuu;*a!",
+    b"]dc.*;uuqqu;]dc.*",
+    b"d?];uqq;d?]",
+    b"cb?;quu;cb?",
+    b"c*;uq;c*",
+    b"c!e*;uquu;c!e*",
+    b"a??;uuu;a??",
+    b"b*/;uqu;b*/",
+    b"[*b?c;uququ;[*b?c",
+    b"?]a;quq;?]a",
+    b".a*c;uuuu;.a*c",
+    b"!]*;uuu;!]*",
+    b"e]*;uuq;e]*",
+    b"[]ac;uuuu;[]ac",
+    b"de]*b;uquuu;de]*b",
+    b"bb!a*;quuqu;bb!a*",
+    b"**;uq;a*",
+    b"b*]*;uuuu;b*]*",
+];
 
 /// All rules together.
 #[test]
 fn expands_among_many_files(rt: HostRuntime) -> Result<(), Fail> {
-    expands(
-        &rt,
-        &[
-            (b"/w/a", Some(b"")),
-            (b"/w/ab", Some(b"")),
-            (b"/w/b.c", Some(b"")),
-            (b"/w/.h", Some(b"")),
-            (b"/w/d/a", Some(b"")),
-            (b"/w/d/.h", Some(b"")),
-            (b"/w/d/bc", Some(b"")),
-            (b"/w/e/a", Some(b"")),
-            (b"/w/[x", Some(b"")),
-            (b"/w/a*", Some(b"")),
-        ],
-        &[
-            (b"[[d?", b"uuuu", b"[[d?"),
-            (b"a*c.", b"uuuq", b"a*c."),
-            (b"[[", b"qu", b"[["),
-            (b"*d*", b"uuu", b"d"),
-            (b"[?]!", b"uquq", b"[?]!"),
-            (b"c[bd", b"uuuu", b"c[bd"),
-            (b"dd[ae", b"uuuqu", b"dd[ae"),
-            (b".*[]!", b"uuuuu", b".*[]!"),
-            (b"a?[e/", b"uuuuu", b"a?[e/"),
-            (b"a*ca?", b"uuuuu", b"a*ca?"),
-            (b"d?c", b"uuu", b"d?c"),
-            (b"]c?b*", b"uuuuu", b"]c?b*"),
-            (b"[d", b"qu", b"[d"),
-            (b"]![", b"uqu", b"]!["),
-            (b"[]a", b"uuu", b"[]a"),
-            (b"a*[/*", b"uququ", b"a*[/*"),
-            (b"acc[c", b"uuuuu", b"acc[c"),
-            (b"*b/[/", b"uuuuu", b"*b/[/"),
-            (b".?a", b"uuu", b".?a"),
-            (b"!/*", b"uuu", b"!/*"),
-        ],
-    )?;
-    expands(
-        &rt,
-        &[
-            (b"/w/a", Some(b"")),
-            (b"/w/ab", Some(b"")),
-            (b"/w/b.c", Some(b"")),
-            (b"/w/.h", Some(b"")),
-            (b"/w/d/a", Some(b"")),
-            (b"/w/d/.h", Some(b"")),
-            (b"/w/d/bc", Some(b"")),
-            (b"/w/e/a", Some(b"")),
-            (b"/w/[x", Some(b"")),
-            (b"/w/a*", Some(b"")),
-        ],
-        &[
-            (b"**", b"uu", b"[x|a|a*|ab|b.c|d|e"),
-            (b"da.?.", b"uuuuu", b"da.?."),
-            (b"*c", b"uu", b"b.c"),
-            (b"?e*a.", b"uuquu", b"?e*a."),
-            (b"*a!b?", b"uuuuu", b"*a!b?"),
-            (b"ad?!d", b"uuuuu", b"ad?!d"),
-            (b"b*", b"qq", b"b*"),
-            (b".?d", b"qqu", b".?d"),
-            (b"aaa*e", b"uuuuu", b"aaa*e"),
-            (b"a[/a", b"uuuu", b"a[/a"),
-            (b"e*?", b"quu", b"e*?"),
-            (b"*b", b"uu", b"ab"),
-            (b"**cb", b"uquq", b"**cb"),
-            (b"a[", b"uu", b"a["),
-            (b"da*?.", b"uuuqu", b"da*?."),
-            (b"*c[", b"uqu", b"*c["),
-            (b"a[]?", b"ququ", b"a[]?"),
-            (b"a[bdd", b"uuuuu", b"a[bdd"),
-            (b"cd?!", b"uuuu", b"cd?!"),
-            (b"e?d", b"uuu", b"e?d"),
-        ],
-    )?;
-    expands(
-        &rt,
-        &[
-            (b"/w/a", Some(b"")),
-            (b"/w/ab", Some(b"")),
-            (b"/w/b.c", Some(b"")),
-            (b"/w/.h", Some(b"")),
-            (b"/w/d/a", Some(b"")),
-            (b"/w/d/.h", Some(b"")),
-            (b"/w/d/bc", Some(b"")),
-            (b"/w/e/a", Some(b"")),
-            (b"/w/[x", Some(b"")),
-            (b"/w/a*", Some(b"")),
-        ],
-        &[
-            (b"b/d*", b"uuuu", b"b/d*"),
-            (b"d*", b"uu", b"d"),
-            (b"*a!", b"uuu", b"*a!"),
-            (b"]dc.*", b"uuqqu", b"]dc.*"),
-            (b"d?]", b"uqq", b"d?]"),
-            (b"cb?", b"quu", b"cb?"),
-            (b"c*", b"uq", b"c*"),
-            (b"c!e*", b"uquu", b"c!e*"),
-            (b"a??", b"uuu", b"a??"),
-            (b"b*/", b"uqu", b"b*/"),
-            (b"[*b?c", b"uququ", b"[*b?c"),
-            (b"?]a", b"quq", b"?]a"),
-            (b".a*c", b"uuuu", b".a*c"),
-            (b"!]*", b"uuu", b"!]*"),
-            (b"e]*", b"uuq", b"e]*"),
-            (b"[]ac", b"uuuu", b"[]ac"),
-            (b"de]*b", b"uquuu", b"de]*b"),
-            (b"bb!a*", b"quuqu", b"bb!a*"),
-            (b"**", b"uq", b"a*"),
-            (b"b*]*", b"uuuu", b"b*]*"),
-        ],
-    )
+    for &row in MIXED.iter() {
+        assert!(rt; expands(rt.alloc(), MANY, row)?, "{row:?}");
+    }
+    Ok(())
 }

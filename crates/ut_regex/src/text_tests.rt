@@ -1,8 +1,8 @@
 //! Lines of texts that have an expression; what is wanted is what GNU grep prints in the C locale.
 
-use crate::{Matcher, Regex, compile, compile_any, read_bre, read_ere};
-use ps_lines::is_closed;
-use std::alloc::Global;
+use crate::{Matcher, ReFault, Regex, compile, compile_any, read_bre, read_ere};
+use ps_lines::{Memory, is_closed};
+use std::alloc::{AllocError, Global};
 use std::test::Fail;
 
 /// Options (`E` for an extended expression, `i` for both cases, `x` for the whole line), expression, text, and what is printed of it.
@@ -27,21 +27,25 @@ static TEXTS: [(&str, &str, &str, &str); 18] = [
     ("-", "[^a]", "a\n\u{e9}\na!\n", "\u{e9}\na!\n"),
 ];
 
-/// The matcher of an expression, if it is one.
-fn matcher_of(alloc: Global, options: &str, expression: &str) -> Result<Option<Matcher>, Fail> {
-    let read = if options == "E" {
+/// What is read of an expression.
+fn read(alloc: Global, options: &str, expression: &str) -> Result<Regex, ReFault> {
+    if options == "E" {
         read_ere(alloc, expression.as_bytes())
     } else {
         read_bre(alloc, expression.as_bytes())
-    };
-    match read {
-        Ok(re) => Ok(Some(compile(alloc, &re, options == "i", options == "x")?)),
-        Err(_) => Ok(None),
     }
 }
 
+/// The matcher of an expression.
+fn matcher_of(alloc: Global, options: &str, expression: &str) -> Result<Matcher, Fail> {
+    let re = read(alloc, options, expression)?;
+    let matcher = compile(alloc, &re, options == "i", options == "x");
+    drop(re);
+    Ok(matcher?)
+}
+
 /// The lines of a text that have what is sought, each with a newline.
-fn printed(alloc: Global, matcher: &mut Matcher, text: &[u8]) -> Result<Vec<u8>, Fail> {
+fn printed(alloc: Global, matcher: &mut Matcher, text: &[u8]) -> Result<Vec<u8>, AllocError> {
     let mut out = Vec::new(alloc);
     let mut left = text;
     for _ in 0..text.len() {
@@ -58,40 +62,83 @@ fn printed(alloc: Global, matcher: &mut Matcher, text: &[u8]) -> Result<Vec<u8>,
     Ok(out)
 }
 
+/// Whether exactly these lines are printed.
+fn prints(
+    alloc: Global,
+    matcher: &mut Matcher,
+    text: &[u8],
+    wanted: &[u8],
+) -> Result<bool, AllocError> {
+    let found = printed(alloc, matcher, text)?;
+    Ok(found.as_slice() == wanted)
+}
+
+/// Whether exactly these lines are printed of those that have the expression.
+fn finds(
+    alloc: Global,
+    options: &str,
+    expression: &str,
+    text: &[u8],
+    wanted: &str,
+) -> Result<bool, Fail> {
+    let mut matcher = matcher_of(alloc, options, expression)?;
+    let holds = prints(alloc, &mut matcher, text, wanted.as_bytes());
+    drop(matcher);
+    Ok(holds?)
+}
+
 #[test]
 fn lines_that_have_an_expression_are_found_in_order(rt: HostRuntime) -> Result<(), Fail> {
     for &(options, expression, text, wanted) in TEXTS.iter() {
-        match matcher_of(rt.alloc(), options, expression)? {
-            Some(mut matcher) => {
-                let found = printed(rt.alloc(), &mut matcher, text.as_bytes())?;
-                assert_eq!(rt;
-                    found.as_slice(),
-                    wanted.as_bytes(),
-                    "{expression} in {text}"
-                );
-            }
-            None => assert!(rt; false, "{expression}"),
-        }
+        let holds = finds(rt.alloc(), options, expression, text.as_bytes(), wanted)?;
+        assert!(rt; holds, "{expression} in {text}");
     }
     Ok(())
+}
+
+/// The first so many of three expressions.
+fn expressions(alloc: Global, count: usize) -> Result<Vec<Regex>, Memory> {
+    let mut all = Vec::new(alloc);
+    for bytes in [b"a.".as_slice(), b"B*", b""] {
+        if all.len() < count {
+            all.push(Regex::of_bytes(alloc, bytes)?)?;
+        }
+    }
+    Ok(all)
+}
+
+/// Whether exactly these lines are printed of those that have one of the first so many expressions, in both cases and as whole lines
+/// where that is asked for.
+fn finds_any(
+    alloc: Global,
+    count: usize,
+    whole: bool,
+    text: &[u8],
+    wanted: &[u8],
+) -> Result<bool, Fail> {
+    let all = expressions(alloc, count)?;
+    let mut matcher = compile_any(alloc, all.as_slice(), whole, whole)?;
+    let holds = prints(alloc, &mut matcher, text, wanted);
+    drop(matcher);
+    Ok(holds?)
+}
+
+/// Whether no expression at all is found in a text.
+fn finds_none(alloc: Global, text: &[u8]) -> Result<bool, Fail> {
+    let mut none = compile_any(alloc, &[], false, false)?;
+    let found = none.has(text);
+    drop(none);
+    Ok(!found)
 }
 
 #[test]
 fn several_expressions_are_sought_together(rt: HostRuntime) -> Result<(), Fail> {
     let alloc = rt.alloc();
-    let mut expressions = Vec::new(alloc);
-    let mut none = compile_any(alloc, expressions.as_slice(), false, false)?;
-    assert!(rt; !none.has(b"") && !none.has(b"a"));
-    for bytes in [b"a.".as_slice(), b"B*".as_slice(), b"".as_slice()] {
-        expressions.push(Regex::of_bytes(alloc, bytes)?)?;
-    }
-    let mut whole = compile_any(alloc, expressions.as_slice(), true, true)?;
-    let found = printed(alloc, &mut whole, b"a.\nab\nb*\n\nB*\na.b\nA.\n")?;
-    assert_eq!(rt; found.as_slice(), b"a.\nb*\n\nB*\nA.\n".as_slice());
-    let _ = expressions.pop();
-    let mut parts = compile_any(alloc, expressions.as_slice(), false, false)?;
-    let found = printed(alloc, &mut parts, b"xa.x\nab\nb*\n\nxB*\nA.\n")?;
-    assert_eq!(rt; found.as_slice(), b"xa.x\nxB*\n".as_slice());
+    assert!(rt; finds_none(alloc, b"")? && finds_none(alloc, b"a")?);
+    let text: &[u8] = b"a.\nab\nb*\n\nB*\na.b\nA.\n";
+    assert!(rt; finds_any(alloc, 3, true, text, b"a.\nb*\n\nB*\nA.\n")?);
+    let text: &[u8] = b"xa.x\nab\nb*\n\nxB*\nA.\n";
+    assert!(rt; finds_any(alloc, 2, false, text, b"xa.x\nxB*\n")?);
     Ok(())
 }
 
@@ -139,18 +186,9 @@ fn spread(alloc: Global, lines: &[u8]) -> Result<Vec<u8>, Fail> {
 #[test]
 fn lines_far_apart_are_found(rt: HostRuntime) -> Result<(), Fail> {
     for &(options, expression, lines, wanted) in SPREAD.iter() {
-        match matcher_of(rt.alloc(), options, expression)? {
-            Some(mut matcher) => {
-                let text = spread(rt.alloc(), lines.as_bytes())?;
-                let found = printed(rt.alloc(), &mut matcher, &text)?;
-                assert_eq!(rt;
-                    found.as_slice(),
-                    wanted.as_bytes(),
-                    "{expression} in {lines}"
-                );
-            }
-            None => assert!(rt; false, "{expression}"),
-        }
+        let text = spread(rt.alloc(), lines.as_bytes())?;
+        let holds = finds(rt.alloc(), options, expression, text.as_slice(), wanted)?;
+        assert!(rt; holds, "{expression} in {lines}");
     }
     Ok(())
 }
@@ -163,13 +201,7 @@ fn a_line_behind_many_candidates_is_found(rt: HostRuntime) -> Result<(), Fail> {
         text.extend_from_slice(b"aab\n")?;
     }
     text.extend_from_slice(b"abb\naab\nab\n")?;
-    match matcher_of(rt.alloc(), "-", "^ab")? {
-        Some(mut matcher) => {
-            let found = printed(rt.alloc(), &mut matcher, &text)?;
-            assert_eq!(rt; found.as_slice(), b"abb\nab\n".as_slice());
-        }
-        None => assert!(rt; false, "no expression"),
-    }
+    assert!(rt; finds(rt.alloc(), "-", "^ab", text.as_slice(), "abb\nab\n")?);
     Ok(())
 }
 
@@ -180,12 +212,9 @@ fn sends<T: Send>(value: T) -> T {
 
 #[test]
 fn a_matcher_may_be_sent(rt: HostRuntime) -> Result<(), Fail> {
-    match matcher_of(rt.alloc(), "-", "a")? {
-        Some(matcher) => {
-            let mut sent = sends(matcher);
-            assert!(rt; sent.has(b"a"));
-        }
-        None => assert!(rt; false, "no expression"),
-    }
+    let mut sent = sends(matcher_of(rt.alloc(), "-", "a")?);
+    let found = sent.has(b"a");
+    drop(sent);
+    assert!(rt; found);
     Ok(())
 }

@@ -1,20 +1,58 @@
 //! `tr` over every cutting of short texts; what is wanted is what the standard says, and GNU tr writes in the C locale.
 
+use crate::cuttings::gives;
 use crate::invocations::{invocation_of, words_of};
 use ps_lines::Memory;
 use std::alloc::Global;
 use std::test::Fail;
 use ut_args::{Inv, TrInv};
 use ut_bytes::Tr;
-use ut_streams::{Stream, cut_behind, feed_all};
 
 /// The invocation of these words, where they are one of tr.
 fn read_words(alloc: Global, words: &[&[u8]]) -> Result<Option<TrInv>, Memory> {
     let texts = words_of(alloc, words)?;
     match invocation_of(alloc, texts.as_slice())? {
         Some(Inv::Tr(inv)) => Ok(Some(inv)),
-        _ => Ok(None),
+        other => {
+            drop(other);
+            Ok(None)
+        }
     }
+}
+
+/// Whether these words are an invocation of tr that writes this of a text, however it is cut.
+fn translates(alloc: Global, words: &[&[u8]], text: &[u8], wanted: &[u8]) -> Result<bool, Memory> {
+    match read_words(alloc, words)? {
+        Some(inv) => {
+            let told = writes(alloc, &inv, text, wanted);
+            drop(inv);
+            told
+        }
+        None => Ok(false),
+    }
+}
+
+/// Whether tr writes this of a text, however it is cut.
+fn writes(alloc: Global, inv: &TrInv, text: &[u8], wanted: &[u8]) -> Result<bool, Memory> {
+    for cuts in 0..2048 {
+        if !writes_cut(alloc, inv, text, cuts, wanted)? {
+            return Ok(false);
+        }
+    }
+    Ok(true)
+}
+
+fn writes_cut(
+    alloc: Global,
+    inv: &TrInv,
+    text: &[u8],
+    cuts: u64,
+    wanted: &[u8],
+) -> Result<bool, Memory> {
+    let mut stream = Tr::new(alloc, inv)?;
+    let told = gives(alloc, &mut stream, text, cuts, wanted, false);
+    drop(stream);
+    told
 }
 
 /// Option or first string, first or second string, text, and what is written.
@@ -47,39 +85,18 @@ static OPTIONS: [(&[u8], &[u8], &[u8], &[u8], &[u8]); 8] = [
 
 #[test]
 fn bytes_are_replaced_deleted_and_squeezed_over_every_cutting(rt: HostRuntime) -> Result<(), Fail> {
-    let alloc = rt.alloc();
     for &(first, second, text, wanted) in TRANSLATIONS.iter() {
-        let Some(inv) = read_words(alloc, &[b"tr", first, second])? else {
-            assert!(rt; false, "no invocation of tr");
-            continue;
-        };
-        for cuts in 0..2048 {
-            let mut tr = Tr::new(alloc, &inv)?;
-            let pieces = cut_behind(alloc, text, cuts)?;
-            let mut out = Vec::new(alloc);
-            feed_all(&mut tr, pieces.as_slice(), &mut out)?;
-            assert_eq!(rt; out.as_slice(), wanted, "cut {cuts}");
-            assert!(rt; !tr.is_spent() && !tr.has_selected());
-        }
+        let holds = translates(rt.alloc(), &[b"tr", first, second], text, wanted)?;
+        assert!(rt; holds, "{first:?} {second:?} {text:?}");
     }
     Ok(())
 }
 
 #[test]
 fn two_strings_with_options_over_every_cutting(rt: HostRuntime) -> Result<(), Fail> {
-    let alloc = rt.alloc();
     for &(options, first, second, text, wanted) in OPTIONS.iter() {
-        let Some(inv) = read_words(alloc, &[b"tr", options, first, second])? else {
-            assert!(rt; false, "no invocation of tr");
-            continue;
-        };
-        for cuts in 0..2048 {
-            let mut tr = Tr::new(alloc, &inv)?;
-            let pieces = cut_behind(alloc, text, cuts)?;
-            let mut out = Vec::new(alloc);
-            feed_all(&mut tr, pieces.as_slice(), &mut out)?;
-            assert_eq!(rt; out.as_slice(), wanted, "cut {cuts}");
-        }
+        let holds = translates(rt.alloc(), &[b"tr", options, first, second], text, wanted)?;
+        assert!(rt; holds, "{options:?} {first:?} {second:?} {text:?}");
     }
     Ok(())
 }

@@ -3,13 +3,13 @@
 ghost use Rattle.std.specs.Prelude.{◌≡◌, true, IfOk, IfSome};
 ghost use Rattle.ut_args.specs.Built.{is_built_of};
 
+use crate::cuttings::gives;
 use crate::invocations::{built_of, words_of};
 use ps_lines::Memory;
 use std::alloc::Global;
 use std::test::Fail;
-use ut_args::Inv;
+use ut_args::{GrepInv, Inv};
 use ut_grep::Grep;
-use ut_streams::{Stream, cut_behind, feed_all};
 
 /// The invocation `grep -F PATTERN`, where it is one that is built.
 fn fixed(alloc: Global, pattern: &[u8]) -> Result<Option<Inv>, Memory>
@@ -32,23 +32,49 @@ static CASES: [(&[u8], &[u8], &[u8]); 9] = [
     (b"\xff\x00", b"a\n\xff\x00\n\x00\xff\n\n", b"\xff\x00\n"),
 ];
 
+/// Whether the invocation writes the lines of a text with the pattern, however it is cut.
+fn grep_writes(alloc: Global, pattern: &[u8], text: &[u8], wanted: &[u8]) -> Result<bool, Memory> {
+    match fixed(alloc, pattern)? {
+        Some(Inv::Grep(inv)) => {
+            let told = grep(alloc, &inv, text, wanted);
+            drop(inv);
+            told
+        }
+        other => {
+            drop(other);
+            Ok(false)
+        }
+    }
+}
+
+fn grep(alloc: Global, inv: &GrepInv, text: &[u8], wanted: &[u8]) -> Result<bool, Memory> {
+    for cuts in 0..2048 {
+        if !grep_cut(alloc, inv, text, cuts, wanted)? {
+            return Ok(false);
+        }
+    }
+    Ok(true)
+}
+
+fn grep_cut(
+    alloc: Global,
+    inv: &GrepInv,
+    text: &[u8],
+    cuts: u64,
+    wanted: &[u8],
+) -> Result<bool, Memory> {
+    let mut grep = Grep::new(alloc, inv, b"")?;
+    let told = gives(alloc, &mut grep, text, cuts, wanted, !wanted.is_empty());
+    let selected = grep.selected();
+    drop(grep);
+    Ok(told? && selected == !wanted.is_empty())
+}
+
 #[test]
 fn lines_with_the_pattern_are_written_over_every_cutting(rt: HostRuntime) -> Result<(), Fail> {
-    let alloc = rt.alloc();
     for &(pattern, text, wanted) in CASES.iter() {
-        let Some(Inv::Grep(inv)) = fixed(alloc, pattern)? else {
-            assert!(rt; false, "no invocation that is built");
-            continue;
-        };
-        for cuts in 0..2048 {
-            let mut grep = Grep::new(alloc, &inv, b"")?;
-            let pieces = cut_behind(alloc, text, cuts)?;
-            let mut out = Vec::new(alloc);
-            feed_all(&mut grep, pieces.as_slice(), &mut out)?;
-            assert_eq!(rt; out.as_slice(), wanted, "cut {cuts}");
-            assert_eq!(rt; grep.selected(), !wanted.is_empty());
-            assert!(rt; !grep.is_spent());
-        }
+        let holds = grep_writes(rt.alloc(), pattern, text, wanted)?;
+        assert!(rt; holds, "{pattern:?} {text:?}");
     }
     Ok(())
 }

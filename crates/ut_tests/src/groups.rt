@@ -4,11 +4,12 @@
 ghost use Rattle.std.specs.Prelude.{◌≡◌, true, IfOk, IfSome};
 ghost use Rattle.ut_args.specs.Built.{is_built_of};
 
+use crate::cuttings::gives;
 use crate::invocations::built_of;
 use ps_lines::Memory;
 use std::alloc::Global;
 use std::test::Fail;
-use ut_args::{Groups, Inv};
+use ut_args::{Groups, Inv, UniqInv, WcInv};
 use ut_groups::{
     Columns, Counts, Kept, Named, Uniq, Wc, WcSeries, add_counts, add_sat, put_counts, read_counts,
 };
@@ -46,58 +47,127 @@ static COUNTS: [(&str, &str, &str); 17] = [
     ("wc -mwl f", "a b\n", "1 2 4 f\n"),
 ];
 
-#[test]
-fn counts_are_the_same_over_every_cutting(rt: HostRuntime) -> Result<(), Fail> {
-    let alloc = rt.alloc();
-    for &(words, text, wanted) in COUNTS.iter() {
-        let Some(Inv::Wc(inv)) = read_words(alloc, words)? else {
-            assert!(rt; false, "no invocation that is built: {words}");
-            continue;
-        };
-        for cuts in 0..2048 {
-            let pieces = cut_behind(alloc, text.as_bytes(), cuts)?;
-            let mut wc = WcSeries::new(alloc, &inv)?;
-            let mut out = Vec::new(alloc);
-            feed_inputs(&mut wc, &[pieces], &mut out)?;
-            assert_eq!(rt; out.as_slice(), wanted.as_bytes(), "{words}, cut {cuts}");
-            assert!(rt; !wc.is_spent() && !wc.has_selected());
-        }
-        let text = Vec::from_slice(alloc, text.as_bytes())?;
-        let mut part = Vec::new(alloc);
-        feed_all(&mut Wc::of_part(&inv), &[text], &mut part)?;
-        for cuts in 0..64 {
-            let pieces = cut_behind(alloc, part.as_slice(), cuts)?;
-            let mut named = Named::new(alloc, &inv)?;
-            let mut out = Vec::new(alloc);
-            feed_all(&mut named, pieces.as_slice(), &mut out)?;
-            assert_eq!(rt;
-                out.as_slice(),
-                wanted.as_bytes(),
-                "{words}, its counts cut {cuts}"
-            );
-            assert!(rt; !named.is_spent() && !named.has_selected());
+/// The invocation of these words, if they are one of wc that is built.
+fn read_wc(alloc: Global, words: &str) -> Result<Option<WcInv>, Memory> {
+    match read_words(alloc, words)? {
+        Some(Inv::Wc(inv)) => Ok(Some(inv)),
+        other => {
+            drop(other);
+            Ok(None)
         }
     }
+}
+
+/// Whether wc writes this of a text that is cut so.
+fn counts_cut(
+    alloc: Global,
+    inv: &WcInv,
+    text: &[u8],
+    cuts: u64,
+    wanted: &[u8],
+) -> Result<bool, Memory> {
+    let pieces = cut_behind(alloc, text, cuts)?;
+    let mut out = Vec::new(alloc);
+    let mut wc = WcSeries::new(alloc, inv)?;
+    let fed = feed_inputs(&mut wc, &[pieces], &mut out);
+    let plain = !wc.is_spent() && !wc.has_selected();
+    drop(wc);
+    fed?;
+    Ok(out.as_slice() == wanted && plain)
+}
+
+/// Whether the counts of a part, cut so, are written as this.
+fn names_cut(
+    alloc: Global,
+    inv: &WcInv,
+    part: &[u8],
+    cuts: u64,
+    wanted: &[u8],
+) -> Result<bool, Memory> {
+    let mut named = Named::new(alloc, inv)?;
+    let told = gives(alloc, &mut named, part, cuts, wanted, false);
+    drop(named);
+    told
+}
+
+/// The counts of a part.
+fn part_of(alloc: Global, inv: &WcInv, text: &[u8]) -> Result<Vec<u8>, Memory> {
+    let text = Vec::from_slice(alloc, text)?;
+    let mut part = Vec::new(alloc);
+    feed_all(&mut Wc::of_part(inv), &[text], &mut part)?;
+    Ok(part)
+}
+
+/// Whether wc writes this of a text, however it or the counts of the text as a part are cut.
+fn counts(alloc: Global, inv: &WcInv, text: &[u8], wanted: &[u8]) -> Result<bool, Memory> {
+    for cuts in 0..2048 {
+        if !counts_cut(alloc, inv, text, cuts, wanted)? {
+            return Ok(false);
+        }
+    }
+    let part = part_of(alloc, inv, text)?;
+    names(alloc, inv, part.as_slice(), wanted)
+}
+
+fn names(alloc: Global, inv: &WcInv, part: &[u8], wanted: &[u8]) -> Result<bool, Memory> {
+    for cuts in 0..64 {
+        if !names_cut(alloc, inv, part, cuts, wanted)? {
+            return Ok(false);
+        }
+    }
+    Ok(true)
+}
+
+/// Whether the words are an invocation of wc that writes this of a text, however it is cut.
+fn wc_writes(alloc: Global, words: &str, text: &str, wanted: &str) -> Result<bool, Memory> {
+    match read_wc(alloc, words)? {
+        Some(inv) => {
+            let told = counts(alloc, &inv, text.as_bytes(), wanted.as_bytes());
+            drop(inv);
+            told
+        }
+        None => Ok(false),
+    }
+}
+
+#[test]
+fn counts_are_the_same_over_every_cutting(rt: HostRuntime) -> Result<(), Fail> {
+    for &(words, text, wanted) in COUNTS.iter() {
+        let holds = wc_writes(rt.alloc(), words, text, wanted)?;
+        assert!(rt; holds, "{words}: {text}");
+    }
     Ok(())
+}
+
+/// Whether the words of the text of 400 bytes, of which the one at this place is a space, are two.
+fn counts_two(alloc: Global, inv: &WcInv, place: usize) -> Result<bool, Memory> {
+    let mut text = Vec::new(alloc);
+    for at in 0..400 {
+        text.push(if at == place { b' ' } else { b'a' })?;
+    }
+    Ok(part_of(alloc, inv, text.as_slice())?.as_slice() == b"2\n".as_slice())
+}
+
+/// The first place of the space, of those inside, at which the words aren't two; 399 where they always are.
+fn first_other(alloc: Global, inv: &WcInv) -> Result<usize, Memory> {
+    for place in 1..399 {
+        if !counts_two(alloc, inv, place)? {
+            return Ok(place);
+        }
+    }
+    Ok(399)
 }
 
 /// Words that begin and end in blocks of 192 bytes and beside them: of the text of so many bytes, one is a space.
 #[test]
 fn words_are_counted_across_blocks(rt: HostRuntime) -> Result<(), Fail> {
-    let alloc = rt.alloc();
-    let Some(Inv::Wc(inv)) = read_words(alloc, "wc -w")? else {
-        return Err(Fail::new("no invocation that is built"));
-    };
-    for place in 1..399 {
-        let mut text = [b'a'; 400];
-        text[place] = b' ';
-        let mut out = Vec::new(alloc);
-        feed_all(
-            &mut Wc::of_part(&inv),
-            &[Vec::from_slice(alloc, &text)?],
-            &mut out,
-        )?;
-        assert_eq!(rt; out.as_slice(), b"2\n".as_slice(), "at {place}");
+    match read_wc(rt.alloc(), "wc -w")? {
+        Some(inv) => {
+            let other = first_other(rt.alloc(), &inv);
+            drop(inv);
+            assert!(rt; other? == 399);
+        }
+        None => assert!(rt; false, "no invocation that is built"),
     }
     Ok(())
 }
@@ -128,22 +198,56 @@ static GROUPS: [(&str, &str, &str); 22] = [
     ("uniq f", "a\na\n", "a\n"),
 ];
 
+/// The invocation of these words, if they are one of uniq that is built.
+fn read_uniq(alloc: Global, words: &str) -> Result<Option<UniqInv>, Memory> {
+    match read_words(alloc, words)? {
+        Some(Inv::Uniq(inv)) => Ok(Some(inv)),
+        other => {
+            drop(other);
+            Ok(None)
+        }
+    }
+}
+
+fn groups_cut(
+    alloc: Global,
+    inv: &UniqInv,
+    text: &[u8],
+    cuts: u64,
+    wanted: &[u8],
+) -> Result<bool, Memory> {
+    let mut uniq = Uniq::new(alloc, inv);
+    let told = gives(alloc, &mut uniq, text, cuts, wanted, false);
+    drop(uniq);
+    told
+}
+
+fn groups(alloc: Global, inv: &UniqInv, text: &[u8], wanted: &[u8]) -> Result<bool, Memory> {
+    for cuts in 0..2048 {
+        if !groups_cut(alloc, inv, text, cuts, wanted)? {
+            return Ok(false);
+        }
+    }
+    Ok(true)
+}
+
+/// Whether the words are an invocation of uniq that writes this of a text, however it is cut.
+fn uniq_writes(alloc: Global, words: &str, text: &str, wanted: &str) -> Result<bool, Memory> {
+    match read_uniq(alloc, words)? {
+        Some(inv) => {
+            let told = groups(alloc, &inv, text.as_bytes(), wanted.as_bytes());
+            drop(inv);
+            told
+        }
+        None => Ok(false),
+    }
+}
+
 #[test]
 fn groups_are_the_same_over_every_cutting(rt: HostRuntime) -> Result<(), Fail> {
-    let alloc = rt.alloc();
     for &(words, text, wanted) in GROUPS.iter() {
-        let Some(Inv::Uniq(inv)) = read_words(alloc, words)? else {
-            assert!(rt; false, "no invocation that is built: {words}");
-            continue;
-        };
-        for cuts in 0..2048 {
-            let pieces = cut_behind(alloc, text.as_bytes(), cuts)?;
-            let mut uniq = Uniq::new(alloc, &inv);
-            let mut out = Vec::new(alloc);
-            feed_all(&mut uniq, pieces.as_slice(), &mut out)?;
-            assert_eq!(rt; out.as_slice(), wanted.as_bytes(), "{words}, cut {cuts}");
-            assert!(rt; !uniq.is_spent() && !uniq.has_selected());
-        }
+        let holds = uniq_writes(rt.alloc(), words, text, wanted)?;
+        assert!(rt; holds, "{words}: {text}");
     }
     Ok(())
 }
@@ -179,74 +283,116 @@ static PARTS: [(&str, &str, &str, &str, &str); 9] = [
     ),
 ];
 
+/// What a part is mapped to.
+fn map_of(alloc: Global, inv: &UniqInv, text: &str) -> Result<Vec<u8>, Memory> {
+    let text = Vec::from_slice(alloc, text.as_bytes())?;
+    let mut part = Vec::new(alloc);
+    let mut uniq = Uniq::of_part(alloc, inv);
+    let fed = feed_all(&mut uniq, &[text], &mut part);
+    drop(uniq);
+    fed?;
+    Ok(part)
+}
+
+/// The maps of two parts joined.
+fn joined_of(alloc: Global, inv: &UniqInv, first: &str, second: &str) -> Result<Vec<u8>, Memory> {
+    let parts = [map_of(alloc, inv, first)?, map_of(alloc, inv, second)?];
+    let mut out = Vec::new(alloc);
+    let mut uniq = Uniq::of_parts(alloc, inv);
+    let fed = feed_all(&mut uniq, &parts, &mut out);
+    drop(uniq);
+    fed?;
+    Ok(out)
+}
+
+/// What is kept of joined maps at last is this: as it is, where all groups are.
+fn keeps(alloc: Global, of: Groups, joined: &[u8], wanted: &[u8]) -> Result<bool, Memory> {
+    if !matches!(of, Groups::Repeated | Groups::Single) {
+        return Ok(joined == wanted);
+    }
+    let mut kept = Kept::new(alloc, of);
+    let told = gives(alloc, &mut kept, joined, 0, wanted, false);
+    drop(kept);
+    told
+}
+
+fn joins(
+    alloc: Global,
+    inv: &UniqInv,
+    texts: (&str, &str),
+    joined: &str,
+    wanted: &str,
+) -> Result<bool, Memory> {
+    let out = joined_of(alloc, inv, texts.0, texts.1)?;
+    let holds = keeps(alloc, inv.args.groups, out.as_slice(), wanted.as_bytes())?;
+    Ok(out.as_slice() == joined.as_bytes() && holds)
+}
+
+/// Whether the words are an invocation of uniq whose maps of two parts are joined so, and are this at last.
+fn uniq_joins(
+    alloc: Global,
+    words: &str,
+    texts: (&str, &str),
+    joined: &str,
+    wanted: &str,
+) -> Result<bool, Memory> {
+    match read_uniq(alloc, words)? {
+        Some(inv) => {
+            let told = joins(alloc, &inv, texts, joined, wanted);
+            drop(inv);
+            told
+        }
+        None => Ok(false),
+    }
+}
+
 #[test]
 fn groups_of_parts_are_joined(rt: HostRuntime) -> Result<(), Fail> {
-    let alloc = rt.alloc();
     for &(words, first, second, joined, wanted) in PARTS.iter() {
-        let Some(Inv::Uniq(inv)) = read_words(alloc, words)? else {
-            assert!(rt; false, "no invocation that is built: {words}");
-            continue;
-        };
-        let mut parts = Vec::new(alloc);
-        for text in [first, second] {
-            let mut part = Vec::new(alloc);
-            feed_all(
-                &mut Uniq::of_part(alloc, &inv),
-                &[Vec::from_slice(alloc, text.as_bytes())?],
-                &mut part,
-            )?;
-            parts.push(part)?;
-        }
-        let mut out = Vec::new(alloc);
-        feed_all(&mut Uniq::of_parts(alloc, &inv), parts.as_slice(), &mut out)?;
-        assert_eq!(rt;
-            out.as_slice(),
-            joined.as_bytes(),
-            "{words}: {first} and {second}"
-        );
-        if matches!(inv.args.groups, Groups::Repeated | Groups::Single) {
-            let mut kept = Kept::new(alloc, inv.args.groups);
-            let mut last = Vec::new(alloc);
-            feed_all(&mut kept, &[out], &mut last)?;
-            assert_eq!(rt;
-                last.as_slice(),
-                wanted.as_bytes(),
-                "{words}: {first} and {second} at last"
-            );
-            assert!(rt; !kept.is_spent() && !kept.has_selected());
-        } else {
-            assert_eq!(rt; joined, wanted);
-        }
+        let holds = uniq_joins(rt.alloc(), words, (first, second), joined, wanted)?;
+        assert!(rt; holds, "{words}: {first} and {second}");
     }
     Ok(())
 }
 
-#[test]
-fn counts_are_read_from_their_line(rt: HostRuntime) -> Result<(), Fail> {
-    let alloc = rt.alloc();
-    let columns = Columns {
-        lines: true,
-        words: false,
-        bytes: true,
-    };
-    let counts = Counts {
-        lines: 12,
-        words: 0,
-        bytes: 18446744073709551615,
-    };
+/// Columns of lines and bytes.
+static COLUMNS: Columns = Columns {
+    lines: true,
+    words: false,
+    bytes: true,
+};
+
+/// Counts of lines and bytes.
+static COUNTED: Counts = Counts {
+    lines: 12,
+    words: 0,
+    bytes: 18446744073709551615,
+};
+
+/// Whether the counts are written so, and read again.
+fn are_written(
+    alloc: Global,
+    columns: Columns,
+    counts: Counts,
+    wanted: &[u8],
+) -> Result<bool, Memory> {
     let mut line = Vec::new(alloc);
     put_counts(columns, counts, b"", &mut line)?;
-    assert_eq!(rt; line.as_slice(), b"12 18446744073709551615\n".as_slice());
-    assert_eq!(rt; read_counts(columns, line.as_slice()), counts);
-    assert_eq!(rt; read_counts(columns, &[b'1'; 64]), Counts::default());
-    assert_eq!(rt; add_counts(counts, counts).lines, 24);
-    assert_eq!(rt; add_counts(counts, counts).bytes, 18446744073709551615);
+    Ok(line.as_slice() == wanted && read_counts(columns, line.as_slice()) == counts)
+}
+
+#[test]
+fn counts_are_read_from_their_line(rt: HostRuntime) -> Result<(), Fail> {
+    assert!(rt; are_written(rt.alloc(), COLUMNS, COUNTED, b"12 18446744073709551615\n")?);
+    assert!(rt; read_counts(COLUMNS, &[b'1'; 64]) == Counts::default());
+    let sum = add_counts(COUNTED, COUNTED);
+    assert!(rt; sum.lines == 24 && sum.bytes == 18446744073709551615);
     Ok(())
 }
 
 #[test]
 fn sums_stand_at_their_end(rt: HostRuntime) {
-    assert_eq!(rt; add_sat(2, 3), 5);
-    assert_eq!(rt; add_sat(18446744073709551615, 1), 18446744073709551615);
-    assert_eq!(rt; add_sat(18446744073709551614, 1), 18446744073709551615);
+    assert!(rt; add_sat(2, 3) == 5);
+    assert!(rt; add_sat(18446744073709551615, 1) == 18446744073709551615);
+    assert!(rt; add_sat(18446744073709551614, 1) == 18446744073709551615);
 }

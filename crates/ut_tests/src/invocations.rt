@@ -27,6 +27,8 @@ pub(super) fn built_of(alloc: Global, words: &[Vec<u8>]) -> Result<Option<Inv>, 
             if is_built(&inv) {
                 return Ok(Some(inv));
             }
+            // An invocation is let go by a call: going out of scope is proved a command at a time.
+            drop(inv);
             Ok(None)
         }
         None => Ok(None),

@@ -10,6 +10,8 @@ mod bytes;
 #[cfg(test)]
 mod columns;
 #[cfg(test)]
+mod cuttings;
+#[cfg(test)]
 mod grep;
 #[cfg(test)]
 mod groups;

@@ -1,12 +1,12 @@
 //! Slices of short texts over every cutting; what is wanted is what the standard says, and GNU's tools write in the C locale.
 
+use crate::cuttings::gives;
 use crate::invocations::{invocation_of, words_of};
 use ps_lines::Memory;
 use std::alloc::Global;
 use std::test::Fail;
-use ut_args::Inv;
+use ut_args::{CutInv, HeadInv, Inv, TailInv};
 use ut_slices::{Cut, Head, Tail};
-use ut_streams::{Stream, cut_behind, feed_all};
 
 /// The invocation of these words.
 fn read_words(alloc: Global, words: &[&[u8]]) -> Result<Option<Inv>, Memory> {
@@ -25,26 +25,41 @@ static HEADS: [(&str, &str, &str); 7] = [
     ("9", "a\nb\nc", "a\nb\nc"),
 ];
 
+/// Whether these words are an invocation of head that writes this of a text, however it is cut.
+fn head_writes(alloc: Global, words: &[&[u8]], text: &[u8], wanted: &[u8]) -> Result<bool, Memory> {
+    match read_words(alloc, words)? {
+        Some(Inv::Head(inv)) => {
+            let told = head(alloc, &inv, text, wanted);
+            drop(inv);
+            told
+        }
+        other => {
+            drop(other);
+            Ok(false)
+        }
+    }
+}
+
+/// Whether head, without operands, writes this of a text, however it is cut.
+fn head(alloc: Global, inv: &HeadInv, text: &[u8], wanted: &[u8]) -> Result<bool, Memory> {
+    if !inv.args.operands.as_slice().is_empty() {
+        return Ok(false);
+    }
+    for cuts in 0..2048 {
+        let mut stream = Head::of(inv.args.count);
+        if !gives(alloc, &mut stream, text, cuts, wanted, false)? {
+            return Ok(false);
+        }
+    }
+    Ok(true)
+}
+
 #[test]
 fn first_lines_are_written_over_every_cutting(rt: HostRuntime) -> Result<(), Fail> {
-    let alloc = rt.alloc();
     for &(count, text, wanted) in HEADS.iter() {
-        let Some(Inv::Head(inv)) = read_words(alloc, &[b"head", b"-n", count.as_bytes()])? else {
-            assert!(rt; false, "no invocation of head");
-            continue;
-        };
-        if !inv.args.operands.as_slice().is_empty() {
-            assert!(rt; false, "operands");
-            continue;
-        }
-        for cuts in 0..2048 {
-            let mut head = Head::of(inv.args.count);
-            let pieces = cut_behind(alloc, text.as_bytes(), cuts)?;
-            let mut out = Vec::new(alloc);
-            feed_all(&mut head, pieces.as_slice(), &mut out)?;
-            assert_eq!(rt; out.as_slice(), wanted.as_bytes(), "cut {cuts}");
-            assert!(rt; !head.is_spent() && !head.has_selected());
-        }
+        let words = [b"head".as_slice(), b"-n", count.as_bytes()];
+        let holds = head_writes(rt.alloc(), &words, text.as_bytes(), wanted.as_bytes())?;
+        assert!(rt; holds, "{count} {text}");
     }
     Ok(())
 }
@@ -70,26 +85,50 @@ static TAILS: [(&str, &str, &str, &str); 17] = [
     ("-c", "+9", "ab", ""),
 ];
 
+/// Whether these words are an invocation of tail that writes this of a text, however it is cut.
+fn tail_writes(alloc: Global, words: &[&[u8]], text: &[u8], wanted: &[u8]) -> Result<bool, Memory> {
+    match read_words(alloc, words)? {
+        Some(Inv::Tail(inv)) => {
+            let told = tail(alloc, &inv, text, wanted);
+            drop(inv);
+            told
+        }
+        other => {
+            drop(other);
+            Ok(false)
+        }
+    }
+}
+
+/// Whether tail writes this of a text, however it is cut.
+fn tail(alloc: Global, inv: &TailInv, text: &[u8], wanted: &[u8]) -> Result<bool, Memory> {
+    for cuts in 0..128 {
+        if !tail_cut(alloc, inv, text, cuts, wanted)? {
+            return Ok(false);
+        }
+    }
+    Ok(true)
+}
+
+fn tail_cut(
+    alloc: Global,
+    inv: &TailInv,
+    text: &[u8],
+    cuts: u64,
+    wanted: &[u8],
+) -> Result<bool, Memory> {
+    let mut stream = Tail::new(alloc, inv)?;
+    let told = gives(alloc, &mut stream, text, cuts, wanted, false);
+    drop(stream);
+    told
+}
+
 #[test]
 fn ends_are_written_over_every_cutting(rt: HostRuntime) -> Result<(), Fail> {
-    let alloc = rt.alloc();
     for &(option, count, text, wanted) in TAILS.iter() {
-        let Some(Inv::Tail(inv)) = read_words(
-            alloc,
-            &[b"tail", option.as_bytes(), count.as_bytes()],
-        )?
-        else {
-            assert!(rt; false, "no invocation of tail");
-            continue;
-        };
-        for cuts in 0..128 {
-            let mut tail = Tail::new(alloc, &inv)?;
-            let pieces = cut_behind(alloc, text.as_bytes(), cuts)?;
-            let mut out = Vec::new(alloc);
-            feed_all(&mut tail, pieces.as_slice(), &mut out)?;
-            assert_eq!(rt; out.as_slice(), wanted.as_bytes(), "cut {cuts}");
-            assert!(rt; !tail.is_spent() && !tail.has_selected());
-        }
+        let words = [b"tail".as_slice(), option.as_bytes(), count.as_bytes()];
+        let holds = tail_writes(rt.alloc(), &words, text.as_bytes(), wanted.as_bytes())?;
+        assert!(rt; holds, "{option} {count} {text}");
     }
     Ok(())
 }
@@ -116,23 +155,50 @@ static CUTS: [(&str, &str, &str, &str); 18] = [
     ("-f2", "-dx", "axbxc\n", "b\n"),
 ];
 
+/// Whether these words are an invocation of cut that writes this of a text, however it is cut.
+fn cut_writes(alloc: Global, words: &[&[u8]], text: &[u8], wanted: &[u8]) -> Result<bool, Memory> {
+    match read_words(alloc, words)? {
+        Some(Inv::Cut(inv)) => {
+            let told = cut(alloc, &inv, text, wanted);
+            drop(inv);
+            told
+        }
+        other => {
+            drop(other);
+            Ok(false)
+        }
+    }
+}
+
+/// Whether cut writes this of a text, however it is cut.
+fn cut(alloc: Global, inv: &CutInv, text: &[u8], wanted: &[u8]) -> Result<bool, Memory> {
+    for cuts in 0..256 {
+        if !cut_cut(alloc, inv, text, cuts, wanted)? {
+            return Ok(false);
+        }
+    }
+    Ok(true)
+}
+
+fn cut_cut(
+    alloc: Global,
+    inv: &CutInv,
+    text: &[u8],
+    cuts: u64,
+    wanted: &[u8],
+) -> Result<bool, Memory> {
+    let mut stream = Cut::new(alloc, inv)?;
+    let told = gives(alloc, &mut stream, text, cuts, wanted, false);
+    drop(stream);
+    told
+}
+
 #[test]
 fn selected_parts_are_written_over_every_cutting(rt: HostRuntime) -> Result<(), Fail> {
-    let alloc = rt.alloc();
     for &(list, option, text, wanted) in CUTS.iter() {
-        let Some(Inv::Cut(inv)) = read_words(alloc, &[b"cut", list.as_bytes(), option.as_bytes()])?
-        else {
-            assert!(rt; false, "no invocation of cut");
-            continue;
-        };
-        for cuts in 0..256 {
-            let mut cut = Cut::new(alloc, &inv)?;
-            let pieces = cut_behind(alloc, text.as_bytes(), cuts)?;
-            let mut out = Vec::new(alloc);
-            feed_all(&mut cut, pieces.as_slice(), &mut out)?;
-            assert_eq!(rt; out.as_slice(), wanted.as_bytes(), "cut {cuts}");
-            assert!(rt; !cut.is_spent() && !cut.has_selected());
-        }
+        let words = [b"cut".as_slice(), list.as_bytes(), option.as_bytes()];
+        let holds = cut_writes(rt.alloc(), &words, text.as_bytes(), wanted.as_bytes())?;
+        assert!(rt; holds, "{list} {option} {text}");
     }
     Ok(())
 }

@@ -1,8 +1,10 @@
 //! A utility of lines over every cutting of a text.
 
+use crate::cuttings::gives;
 use ps_lines::Memory;
+use std::alloc::Global;
 use std::test::Fail;
-use ut_streams::{EachLine, Lines, PerLine, Stream, cut_behind, feed_all, put, put_line};
+use ut_streams::{EachLine, Lines, PerLine, put, put_line};
 
 /// Writes each line behind a mark.
 #[derive(Drop)]
@@ -24,33 +26,35 @@ impl PerLine for Marked {
     }
 }
 
+/// Texts, and what is written.
+static TEXTS: [(&[u8], &[u8]); 3] = [
+    (b"ab\n\ncd\nefghi", b">ab\n>\n>cd\n>efghi\n"),
+    (b"\n\n\nabcdefgh\n", b">\n>\n>\n>abcdefgh\n"),
+    (b"", b""),
+];
+
+fn writes_cut(alloc: Global, text: &[u8], cuts: u64, wanted: &[u8]) -> Result<bool, Memory> {
+    let by = Marked { mark: b'>' };
+    let mut stream = Lines::new(alloc, EachLine { by });
+    let told = gives(alloc, &mut stream, text, cuts, wanted, false);
+    drop(stream);
+    told
+}
+
+/// Whether this is written of a text, however it is cut.
+fn writes(alloc: Global, text: &[u8], wanted: &[u8]) -> Result<bool, Memory> {
+    for cuts in 0..2048 {
+        if !writes_cut(alloc, text, cuts, wanted)? {
+            return Ok(false);
+        }
+    }
+    Ok(true)
+}
+
 #[test]
 fn lines_are_the_same_over_every_cutting(rt: HostRuntime) -> Result<(), Fail> {
-    let alloc = rt.alloc();
-    for (text, wanted) in [
-        (
-            b"ab\n\ncd\nefghi".as_slice(),
-            b">ab\n>\n>cd\n>efghi\n".as_slice(),
-        ),
-        (
-            b"\n\n\nabcdefgh\n".as_slice(),
-            b">\n>\n>\n>abcdefgh\n".as_slice(),
-        ),
-        (b"".as_slice(), b"".as_slice()),
-    ] {
-        for cuts in 0..2048 {
-            let mut stream = Lines::new(
-                alloc,
-                EachLine {
-                    by: Marked { mark: b'>' },
-                },
-            );
-            let pieces = cut_behind(alloc, text, cuts)?;
-            let mut out = Vec::new(alloc);
-            feed_all(&mut stream, pieces.as_slice(), &mut out)?;
-            assert_eq!(rt; out.as_slice(), wanted, "cut {cuts}");
-            assert!(rt; !stream.is_spent() && !stream.has_selected());
-        }
+    for &(text, wanted) in TEXTS.iter() {
+        assert!(rt; writes(rt.alloc(), text, wanted)?, "{text:?}");
     }
     Ok(())
 }

@@ -4,62 +4,136 @@
 //! inputs there are. The module `columns` says how a column is written.
 use super::shown::{operands_of, options_of};
 use crate::columns::items_of;
+use crate::invocations::invocation_of;
 use ps_lines::{Memory, decimal};
 use std::alloc::Global;
 use ut_args::{ArgFault, Class, Inv, Seam, class, keeps_closed, read_inv};
 
+/// The columns of a row behind its words.
+#[derive(Drop)]
+struct Told {
+    /// `ok`, or the fault with its details.
+    outcome: Items,
+    options: Items,
+    operands: Items,
+    inputs: Items,
+}
+
+/// Items of a column.
+type Items = Vec<Vec<u8>>;
+
+/// A column of a row, from 0.
+fn column(alloc: Global, row: &str, place: usize) -> Result<Items, Memory> {
+    let mut columns = row.as_bytes().split(|byte| *byte == b'|').skip(place);
+    items_of(alloc, columns.next().unwrap_or(&[]))
+}
+
+fn told_in(alloc: Global, row: &str) -> Result<Told, Memory> {
+    let outcome = column(alloc, row, 1)?;
+    let options = column(alloc, row, 2)?;
+    let operands = column(alloc, row, 3)?;
+    let inputs = column(alloc, row, 4)?;
+    Ok(Told {
+        outcome,
+        options,
+        operands,
+        inputs,
+    })
+}
+
 /// Whether the words of a row are read as it says.
 pub(super) fn is_read(alloc: Global, row: &str) -> Result<bool, Memory> {
-    let mut columns = row.as_bytes().split(|byte| *byte == b'|');
-    let words = items_of(alloc, columns.next().unwrap_or(&[]))?;
-    let outcome = items_of(alloc, columns.next().unwrap_or(&[]))?;
-    let options = items_of(alloc, columns.next().unwrap_or(&[]))?;
-    let operands = items_of(alloc, columns.next().unwrap_or(&[]))?;
-    let inputs = items_of(alloc, columns.next().unwrap_or(&[]))?;
+    let words = column(alloc, row, 0)?;
+    let told = told_in(alloc, row)?;
+    is_as_told(alloc, words.as_slice(), &told)
+}
+
+fn is_as_told(alloc: Global, words: &[Vec<u8>], told: &Told) -> Result<bool, Memory> {
     if words.is_empty() {
         return Ok(false);
     }
-    match read_inv(alloc, words.as_slice()) {
+    match read_inv(alloc, words) {
         Ok(inv) => {
-            let told = told_of(alloc, b"ok", b"")?;
-            Ok(
-                outcome.as_slice() == told.as_slice()
-                    && options.as_slice() == options_of(alloc, &inv)?.as_slice()
-                    && operands.as_slice() == operands_of(&inv)
-                    && inputs.as_slice() == inputs_of(alloc, &inv)?.as_slice()
-                    && is_copied(&inv, words.as_slice())?,
-            )
+            let holds = has_all(alloc, &inv, words, told);
+            // An invocation is let go by a call: going out of scope is proved a command at a time.
+            drop(inv);
+            holds
         }
-        Err(fault) => Ok(outcome.as_slice() == fault_of(alloc, &fault)?.as_slice()),
+        Err(fault) => {
+            let holds = is_fault(alloc, &fault, told.outcome.as_slice());
+            drop(fault);
+            holds
+        }
+    }
+}
+
+/// Whether the invocation has the options, the operands and the number of inputs.
+fn has_all(alloc: Global, inv: &Inv, words: &[Vec<u8>], told: &Told) -> Result<bool, Memory> {
+    let options = has_options(alloc, inv, told.options.as_slice())?;
+    let inputs = has_inputs(alloc, inv, told.inputs.as_slice())?;
+    let copied = is_copied(inv, words)?;
+    let operands = told.operands.as_slice() == operands_of(inv);
+    Ok(is_ok(told.outcome.as_slice()) && options && inputs && copied && operands)
+}
+
+fn has_options(alloc: Global, inv: &Inv, wanted: &[Vec<u8>]) -> Result<bool, Memory> {
+    let options = options_of(alloc, inv)?;
+    Ok(options.as_slice() == wanted)
+}
+
+fn has_inputs(alloc: Global, inv: &Inv, wanted: &[Vec<u8>]) -> Result<bool, Memory> {
+    let inputs = inputs_of(alloc, inv)?;
+    Ok(inputs.as_slice() == wanted)
+}
+
+fn is_ok(outcome: &[Vec<u8>]) -> bool {
+    match outcome {
+        [only] => only.as_slice() == b"ok".as_slice(),
+        _ => false,
     }
 }
 
 /// Whether a copy is the same, and has the words.
 fn is_copied(inv: &Inv, words: &[Vec<u8>]) -> Result<bool, Memory> {
     let copy = inv.copy()?;
-    Ok(copy.is(inv) && copy.words() == words)
+    let holds = copy.is(inv) && copy.words() == words;
+    drop(copy);
+    Ok(holds)
 }
 
 /// Whether an invocation without the operands that a row marks has the words, the operands and the number of inputs that it says.
 pub(super) fn is_without(alloc: Global, row: &str) -> Result<bool, Memory> {
-    let mut columns = row.as_bytes().split(|byte| *byte == b'|');
-    let words = items_of(alloc, columns.next().unwrap_or(&[]))?;
-    let lacking = flags_of(alloc, columns.next().unwrap_or(&[]))?;
-    let others = items_of(alloc, columns.next().unwrap_or(&[]))?;
-    let operands = items_of(alloc, columns.next().unwrap_or(&[]))?;
-    let inputs = items_of(alloc, columns.next().unwrap_or(&[]))?;
-    if words.is_empty() {
-        return Ok(false);
+    let words = column(alloc, row, 0)?;
+    match invocation_of(alloc, words.as_slice())? {
+        Some(inv) => {
+            let holds = lacks(alloc, &inv, row);
+            drop(inv);
+            holds
+        }
+        None => Ok(false),
     }
-    let Ok(inv) = read_inv(alloc, words.as_slice()) else {
-        return Ok(false);
-    };
+}
+
+fn lacks(alloc: Global, inv: &Inv, row: &str) -> Result<bool, Memory> {
+    let mut columns = row.as_bytes().split(|byte| *byte == b'|').skip(1);
+    let lacking = flags_of(alloc, columns.next().unwrap_or(&[]))?;
     let without = inv.without(alloc, lacking.as_slice())?;
-    Ok(
-        others.as_slice() == without.words()
-            && operands.as_slice() == operands_of(&without)
-            && inputs.as_slice() == inputs_of(alloc, &without)?.as_slice(),
-    )
+    let holds = is_left(alloc, &without, row);
+    drop(without);
+    holds
+}
+
+fn is_left(alloc: Global, without: &Inv, row: &str) -> Result<bool, Memory> {
+    let words = has_items(alloc, row, 2, without.words())?;
+    let operands = has_items(alloc, row, 3, operands_of(without))?;
+    let inputs = column(alloc, row, 4)?;
+    Ok(words && operands && has_inputs(alloc, without, inputs.as_slice())?)
+}
+
+/// Whether a column of a row, from 0, has these items.
+fn has_items(alloc: Global, row: &str, place: usize, items: &[Vec<u8>]) -> Result<bool, Memory> {
+    let wanted = column(alloc, row, place)?;
+    Ok(wanted.as_slice() == items)
 }
 
 /// The flags of a column: `1` is one that is set.
@@ -75,20 +149,28 @@ fn flags_of(alloc: Global, column: &[u8]) -> Result<Vec<bool>, Memory> {
 
 /// Whether the words of a row have the class that it says, and keep texts closed where it says so.
 pub(super) fn has_class(alloc: Global, row: &str) -> Result<bool, Memory> {
-    let mut columns = row.as_bytes().split(|byte| *byte == b'|');
-    let words = items_of(alloc, columns.next().unwrap_or(&[]))?;
-    let of = items_of(alloc, columns.next().unwrap_or(&[]))?;
-    let closed = items_of(alloc, columns.next().unwrap_or(&[]))?;
-    if words.is_empty() {
-        return Ok(false);
+    let words = column(alloc, row, 0)?;
+    match invocation_of(alloc, words.as_slice())? {
+        Some(inv) => {
+            let class = name_of(class(&inv));
+            let keeps: &[u8] = if keeps_closed(&inv) { b"yes" } else { b"no" };
+            drop(inv);
+            is_classed(alloc, row, class, keeps)
+        }
+        None => Ok(false),
     }
-    let Ok(inv) = read_inv(alloc, words.as_slice()) else {
-        return Ok(false);
-    };
-    let keeps: &[u8] = if keeps_closed(&inv) { b"yes" } else { b"no" };
-    let named = told_of(alloc, name_of(class(&inv)), b"")?;
-    let kept = told_of(alloc, keeps, b"")?;
-    Ok(of.as_slice() == named.as_slice() && closed.as_slice() == kept.as_slice())
+}
+
+fn is_classed(alloc: Global, row: &str, class: &[u8], keeps: &[u8]) -> Result<bool, Memory> {
+    let of = is_item(alloc, row, 1, class)?;
+    let kept = is_item(alloc, row, 2, keeps)?;
+    Ok(of && kept)
+}
+
+/// Whether a column of a row, from 0, is this item.
+fn is_item(alloc: Global, row: &str, place: usize, item: &[u8]) -> Result<bool, Memory> {
+    let items = told_of(alloc, item, b"")?;
+    has_items(alloc, row, place, items.as_slice())
 }
 
 fn name_of(class: Class) -> &'static [u8] {
@@ -108,6 +190,12 @@ fn inputs_of(alloc: Global, inv: &Inv) -> Result<Vec<Vec<u8>>, Memory> {
     let mut items = Vec::new(alloc);
     items.push(digits)?;
     Ok(items)
+}
+
+/// Whether the fault with its details is told so.
+fn is_fault(alloc: Global, fault: &ArgFault, wanted: &[Vec<u8>]) -> Result<bool, Memory> {
+    let told = fault_of(alloc, fault)?;
+    Ok(told.as_slice() == wanted)
 }
 
 /// A fault with its details.

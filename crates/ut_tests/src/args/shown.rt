@@ -3,7 +3,7 @@ use ps_lines::{Memory, decimal};
 use std::alloc::Global;
 use ut_args::{
     CutArgs, GrepArgs, Groups, Inv, Key, KeyEnd, Ordering, Origin, Parts, PasteArgs, Report,
-    SortArgs, Syntax, TailArgs, TrArgs, Unit,
+    SortArgs, Syntax, TailArgs, TrArgs, UniqArgs, Unit, WcArgs,
 };
 use ut_options::Texts;
 
@@ -27,41 +27,44 @@ pub(super) fn operands_of(inv: &Inv) -> &[Vec<u8>] {
 /// The options that hold.
 pub(super) fn options_of(alloc: Global, inv: &Inv) -> Result<Items, Memory> {
     let mut items = Vec::new(alloc);
-    match inv {
-        Inv::Grep(grep) => add_grep(alloc, &mut items, &grep.args)?,
-        Inv::Tr(tr) => add_tr(alloc, &mut items, &tr.args)?,
-        Inv::Cut(cut) => add_cut(alloc, &mut items, &cut.args)?,
-        Inv::Head(head) => add_number(alloc, &mut items, b"count=", head.args.count)?,
-        Inv::Tail(tail) => add_tail(alloc, &mut items, &tail.args)?,
-        Inv::Wc(wc) => {
-            add_flag(alloc, &mut items, wc.args.lines, b"l")?;
-            add_flag(alloc, &mut items, wc.args.words, b"w")?;
-            add_flag(alloc, &mut items, wc.args.bytes, b"c")?;
-        }
-        Inv::Uniq(uniq) => {
-            add_flag(alloc, &mut items, uniq.args.groups == Groups::Counted, b"c")?;
-            add_flag(
-                alloc,
-                &mut items,
-                uniq.args.groups == Groups::Repeated,
-                b"d",
-            )?;
-            add_flag(alloc, &mut items, uniq.args.groups == Groups::Single, b"u")?;
-            add_number(alloc, &mut items, b"f=", uniq.args.fields)?;
-            add_number(alloc, &mut items, b"s=", uniq.args.bytes)?;
-        }
-        Inv::Sort(sort) => add_sort(alloc, &mut items, &sort.args)?,
-        Inv::Paste(paste) => add_paste(alloc, &mut items, &paste.args)?,
-        Inv::Tee(tee) => add_flag(alloc, &mut items, tee.args.appends, b"a")?,
-        Inv::Break(exit) => add_given(alloc, &mut items, exit.args.depth)?,
-        Inv::Continue(exit) => add_given(alloc, &mut items, exit.args.depth)?,
-        Inv::Exit(exit) => add_given(alloc, &mut items, exit.args.status.map(u64::from))?,
-        Inv::Shift(shift) => add_given(alloc, &mut items, shift.args.count)?,
-        Inv::Cat(_) | Inv::True(_) | Inv::False(_) | Inv::Colon(_) => {}
-        Inv::Set(_) | Inv::Unset(_) | Inv::Read(_) | Inv::Echo(_) => {}
-        Inv::Test(_) | Inv::Bracket(_) => {}
-    }
+    add_options(alloc, &mut items, inv)?;
     Ok(items)
+}
+
+fn add_options(alloc: Global, items: &mut Items, inv: &Inv) -> Result<(), Memory> {
+    match inv {
+        Inv::Grep(grep) => add_grep(alloc, items, &grep.args),
+        Inv::Tr(tr) => add_tr(alloc, items, &tr.args),
+        Inv::Cut(cut) => add_cut(alloc, items, &cut.args),
+        Inv::Head(head) => add_number(alloc, items, b"count=", head.args.count),
+        Inv::Tail(tail) => add_tail(alloc, items, &tail.args),
+        Inv::Wc(wc) => add_wc(alloc, items, &wc.args),
+        Inv::Uniq(uniq) => add_uniq(alloc, items, &uniq.args),
+        Inv::Sort(sort) => add_sort(alloc, items, &sort.args),
+        Inv::Paste(paste) => add_paste(alloc, items, &paste.args),
+        Inv::Tee(tee) => add_flag(alloc, items, tee.args.appends, b"a"),
+        Inv::Break(exit) => add_given(alloc, items, exit.args.depth),
+        Inv::Continue(exit) => add_given(alloc, items, exit.args.depth),
+        Inv::Exit(exit) => add_given(alloc, items, exit.args.status.map(u64::from)),
+        Inv::Shift(shift) => add_given(alloc, items, shift.args.count),
+        Inv::Cat(_) | Inv::True(_) | Inv::False(_) | Inv::Colon(_) => Ok(()),
+        Inv::Set(_) | Inv::Unset(_) | Inv::Read(_) | Inv::Echo(_) => Ok(()),
+        Inv::Test(_) | Inv::Bracket(_) => Ok(()),
+    }
+}
+
+fn add_wc(alloc: Global, items: &mut Items, args: &WcArgs) -> Result<(), Memory> {
+    add_flag(alloc, items, args.lines, b"l")?;
+    add_flag(alloc, items, args.words, b"w")?;
+    add_flag(alloc, items, args.bytes, b"c")
+}
+
+fn add_uniq(alloc: Global, items: &mut Items, args: &UniqArgs) -> Result<(), Memory> {
+    add_flag(alloc, items, args.groups == Groups::Counted, b"c")?;
+    add_flag(alloc, items, args.groups == Groups::Repeated, b"d")?;
+    add_flag(alloc, items, args.groups == Groups::Single, b"u")?;
+    add_number(alloc, items, b"f=", args.fields)?;
+    add_number(alloc, items, b"s=", args.bytes)
 }
 
 /// Adds an item, of a front and its rest.

@@ -2,20 +2,24 @@
 //!
 //! A row has columns with `|` between them, written as the module `columns` says. The first one has the words.
 use crate::columns::{items_of, unescaped};
+use crate::cuttings::gives;
 use crate::invocations::invocation_of;
 use ps_lines::{Memory, is_closed};
 use std::alloc::Global;
 use std::cmp::Ordering;
 use ut_args::{Inv, SortInv};
 use ut_sort::{Sorter, merge, order};
-use ut_streams::{Stream, cut_behind, feed_all};
 
 /// Whether two lines have the order that the row says: words, one line, another, `Less`, `Equal` or `Greater`.
 pub(super) fn has_order(alloc: Global, row: &str) -> Result<bool, Memory> {
-    let Some(Inv::Sort(inv)) = invocation_in(alloc, row)? else {
-        return Ok(false);
-    };
-    compares(alloc, &inv, row)
+    match sort_in(alloc, row)? {
+        Some(inv) => {
+            let holds = compares(alloc, &inv, row);
+            drop(inv);
+            holds
+        }
+        None => Ok(false),
+    }
 }
 
 fn compares(alloc: Global, inv: &SortInv, row: &str) -> Result<bool, Memory> {
@@ -38,10 +42,14 @@ fn name_of(order: Ordering) -> &'static [u8] {
 
 /// Whether a text is sorted as the row says, over some cuttings: words, the text, what is written.
 pub(super) fn sorts(alloc: Global, row: &str) -> Result<bool, Memory> {
-    let Some(Inv::Sort(inv)) = invocation_in(alloc, row)? else {
-        return Ok(false);
-    };
-    writes_row(alloc, &inv, row)
+    match sort_in(alloc, row)? {
+        Some(inv) => {
+            let holds = writes_row(alloc, &inv, row);
+            drop(inv);
+            holds
+        }
+        None => Ok(false),
+    }
 }
 
 fn writes_row(alloc: Global, inv: &SortInv, row: &str) -> Result<bool, Memory> {
@@ -54,10 +62,14 @@ fn writes_row(alloc: Global, inv: &SortInv, row: &str) -> Result<bool, Memory> {
 
 /// Whether two texts are sorted and merged as the row says: words, one text, another, each sorted, both merged.
 pub(super) fn merges(alloc: Global, row: &str) -> Result<bool, Memory> {
-    let Some(Inv::Sort(inv)) = invocation_in(alloc, row)? else {
-        return Ok(false);
-    };
-    merges_row(alloc, &inv, row)
+    match sort_in(alloc, row)? {
+        Some(inv) => {
+            let holds = merges_row(alloc, &inv, row);
+            drop(inv);
+            holds
+        }
+        None => Ok(false),
+    }
 }
 
 fn merges_row(alloc: Global, inv: &SortInv, row: &str) -> Result<bool, Memory> {
@@ -114,11 +126,10 @@ fn writes_cut(
     cuts: u64,
     wanted: &[u8],
 ) -> Result<bool, Memory> {
-    let pieces = cut_behind(alloc, text, cuts)?;
     let mut sorter = Sorter::new(alloc, inv)?;
-    let mut out = Vec::new(alloc);
-    feed_all(&mut sorter, pieces.as_slice(), &mut out)?;
-    Ok(out.as_slice() == wanted && !sorter.is_spent() && !sorter.has_selected())
+    let holds = gives(alloc, &mut sorter, text, cuts, wanted, false);
+    drop(sorter);
+    holds
 }
 
 /// Whether the sorted lines, written piece by piece, are what is wanted.
@@ -134,6 +145,17 @@ fn writes_pieces(alloc: Global, inv: &SortInv, text: &[u8], wanted: &[u8]) -> Re
         lines.put_piece(&mut out)?;
     }
     Ok(out.as_slice() == wanted)
+}
+
+/// The invocation of a row's words, if it is one of sort.
+fn sort_in(alloc: Global, row: &str) -> Result<Option<SortInv>, Memory> {
+    match invocation_in(alloc, row)? {
+        Some(Inv::Sort(inv)) => Ok(Some(inv)),
+        other => {
+            drop(other);
+            Ok(None)
+        }
+    }
 }
 
 /// The invocation of a row's words, if there is one.

@@ -2,6 +2,7 @@
 use super::words_of;
 use ps_fakes::MemTree;
 use ps_world::WorldErr;
+use std::alloc::{AllocError, Global};
 use std::process::Abort;
 use std::test::Fail;
 use ut_test::Tested::{self, BadUsage, No, Yes};
@@ -13,15 +14,28 @@ fn answers<R: Abort + AllocGlobal>(
     files: &[(&[u8], Option<&[u8]>)],
     rows: &[(&str, Tested)],
 ) -> Result<(), Fail> {
-    let alloc = rt.alloc();
-    let tree = MemTree::of_table(alloc, b"/w", files, Vec::new(alloc))?;
+    let tree = MemTree::of_table(rt.alloc(), b"/w", files, Vec::new(rt.alloc()))?;
     let mut tree = tree.expect(rt, "the files make a tree");
+    let asked = answers_in(rt, &mut tree, rows);
+    drop(tree);
+    asked
+}
+
+fn answers_in<R: Abort + AllocGlobal>(
+    rt: &R,
+    tree: &mut MemTree,
+    rows: &[(&str, Tested)],
+) -> Result<(), Fail> {
     for &(arguments, wanted) in rows {
-        let words = words_of(alloc, arguments)?;
-        let answer = test(alloc, words.as_slice(), &mut tree)?;
-        assert_eq!(rt; answer, wanted, "{arguments}");
+        let answer = answer_to(rt.alloc(), tree, arguments)?;
+        assert!(rt; answer == wanted, "{arguments}");
     }
     Ok(())
+}
+
+fn answer_to(alloc: Global, tree: &mut MemTree, arguments: &str) -> Result<Tested, Fail> {
+    let words = words_of(alloc, arguments)?;
+    Ok(test(alloc, words.as_slice(), tree)?)
 }
 
 /// An argument alone: whether it has a byte, whatever it spells.
@@ -267,20 +281,31 @@ fn places_are_looked_at(rt: HostRuntime) -> Result<(), Fail> {
     )
 }
 
+/// A tree without files, whose first call fails.
+fn failing(alloc: Global) -> Result<Option<MemTree>, Fail> {
+    let mut fails = Vec::new(alloc);
+    fails.push(0)?;
+    Ok(MemTree::of_table(alloc, b"/w", &[], fails)?)
+}
+
+/// The fault of a call, if it has one.
+fn fault_of(
+    alloc: Global,
+    tree: &mut MemTree,
+    arguments: &str,
+) -> Result<Option<WorldErr>, AllocError> {
+    let words = words_of(alloc, arguments)?;
+    Ok(test(alloc, words.as_slice(), tree).err())
+}
+
 /// A failure of the tree is told where a place is asked for, and only there.
 #[test]
 fn a_failure_is_told_where_a_place_is_asked_for(rt: HostRuntime) -> Result<(), Fail> {
-    let alloc = rt.alloc();
-    let mut fails = Vec::new(alloc);
-    fails.push(0)?;
-    let tree = MemTree::of_table(alloc, b"/w", &[], fails)?;
-    let mut tree = tree.expect(&rt, "no files make a tree");
-    let plain = words_of(alloc, "|a|=|a")?;
-    assert_eq!(rt; test(alloc, plain.as_slice(), &mut tree)?, Yes);
-    let asking = words_of(alloc, "|!|-e|f")?;
-    assert_eq!(rt;
-        test(alloc, asking.as_slice(), &mut tree).err(),
-        Some(WorldErr::Failed)
-    );
+    let mut tree = failing(rt.alloc())?.expect(&rt, "no files make a tree");
+    let plain = answer_to(rt.alloc(), &mut tree, "|a|=|a");
+    let asking = fault_of(rt.alloc(), &mut tree, "|!|-e|f");
+    drop(tree);
+    assert!(rt; plain? == Yes);
+    assert!(rt; asking? == Some(WorldErr::Failed));
     Ok(())
 }

@@ -11,9 +11,6 @@ use std::alloc::{AllocError, Global};
 use std::process::Abort;
 use std::test::Fail;
 
-/// A path's text, and what it names: the kind of place, and after a space its path.
-type Row<'a> = (&'a [u8], &'a [u8]);
-
 /// What a place is, as the rows have it.
 fn described(alloc: Global, place: &Place) -> Result<Vec<u8>, AllocError> {
     let (kind, path) = match place {
@@ -28,457 +25,402 @@ fn described(alloc: Global, place: &Place) -> Result<Vec<u8>, AllocError> {
     Ok(text)
 }
 
-/// Looks up each row's text in a tree of these files.
-fn looks<R: Abort + AllocGlobal>(
-    rt: &R,
-    home: &[u8],
-    files: &[(&[u8], Option<&[u8]>)],
-    rows: &[Row],
-) -> Result<(), Fail> {
-    let alloc = rt.alloc();
-    let tree = MemTree::of_table(alloc, home, files, Vec::new(alloc))?;
-    let mut tree = tree.expect(rt, "the files make a tree");
-    for (text, want) in rows {
-        let place = look(alloc, &mut tree, text)?;
-        let found = described(alloc, &place)?;
-        assert!(rt; found.as_slice() == *want, "{text:?} is {found:?}");
+/// What stands before the first `=`, and behind it.
+fn parted(item: &[u8]) -> (&[u8], &[u8]) {
+    match item.iter().position(|byte| *byte == b'=') {
+        Some(place) => (&item[..place], &item[place + 1..]),
+        None => (item, b""),
     }
-    Ok(())
 }
+
+/// A tree of the files of a list, if they make one: `path=bytes`, or a directory with a `/` behind it, with a `|` between them.
+fn tree_of(alloc: Global, home: &[u8], list: &[u8]) -> Result<Option<MemTree>, Memory> {
+    let mut files = Vec::new(alloc);
+    for item in list.split(|byte| *byte == b'|') {
+        match item {
+            [] => {}
+            [dir @ .., b'/'] => files.push((dir, None))?,
+            file => {
+                let (path, bytes) = parted(file);
+                files.push((path, Some(bytes)))?;
+            }
+        }
+    }
+    MemTree::of_table(alloc, home, files.as_slice(), Vec::new(alloc))
+}
+
+/// Whether the text names this place: its kind, and after a space its path.
+fn names(alloc: Global, tree: &mut MemTree, text: &[u8], wanted: &[u8]) -> Result<bool, Fail> {
+    let place = look(alloc, tree, text)?;
+    let told = described(alloc, &place);
+    drop(place);
+    Ok(told?.as_slice() == wanted)
+}
+
+/// The same in a tree of these files, from this working directory.
+fn names_in(
+    alloc: Global,
+    home: &[u8],
+    list: &[u8],
+    text: &[u8],
+    wanted: &[u8],
+) -> Result<bool, Fail> {
+    match tree_of(alloc, home, list)? {
+        Some(mut tree) => {
+            let told = names(alloc, &mut tree, text, wanted);
+            drop(tree);
+            told
+        }
+        None => Ok(false),
+    }
+}
+
+/// The same of a row: the working directory, the files, the text, and what it names, with `;` between them.
+fn looks(alloc: Global, row: &[u8]) -> Result<bool, Fail> {
+    let mut columns = row.split(|byte| *byte == b';');
+    let home = columns.next().unwrap_or(&[]);
+    let list = columns.next().unwrap_or(&[]);
+    let text = columns.next().unwrap_or(&[]);
+    let wanted = columns.next().unwrap_or(&[]);
+    names_in(alloc, home, list, text, wanted)
+}
+
+static NAMES: &str = "/w;;;Missing
+/w;;*;Makeable /w/*
+/w;;-;Makeable /w/-
+/w;;...;Makeable /w/...
+/w;/w/a=1;a;File /w/a
+/w;/w/a=1;b;Makeable /w/b
+/w;/w/a=1;A;Makeable /w/A
+/w;/w/a=1;/;Dir /
+/w;/w/a=1;/w;Dir /w
+/w;/w/a=1;/w/a;File /w/a
+/w;/w/a=1;/a;Makeable /a
+/w;/w/a=1;/w/b;Makeable /w/b
+/w;/w/a=1;/x/b;Missing
+/w;/w/a=1;w/a;Missing
+/w;/w/a=1;/..;Dir /
+/w;/w/a=1;/../w/a;File /w/a
+/w;/w/a=1;../..;Dir /
+/w;/w/a=1;../../../w/a;File /w/a
+/w;/w/a=1;/.;Dir /
+/w;/w/a=1;/./..;Dir /
+/w;/w/a=1;/dev/null;Null
+/w;/w/a=1;../dev/null;Missing
+/w;/w/a=1;//dev/null;Missing
+/w;/w/a=1;/dev//null;Missing
+/w;/w/a=1;dev/null;Missing
+/w;/w/d/;d;Dir /w/d
+/w;/w/a b=1;a b;File /w/a b
+/w;/w/*=1;*;File /w/*
+/w;/x/f=1;/x/f;File /x/f
+/w;/x/f=1;x/f;Missing
+/x;/x/f=1;f;File /x/f
+/;/x/f=1;x/f;File /x/f
+/;/x/f=1;.;Dir /
+/;/x/f=1;g;Makeable /g
+/w;/a=1;/a;File /a
+/w/v;/a=1;../../a;File /a
+/w;/w/.a=1;.a;File /w/.a";
+
+static OTHER_NAMES: [&[u8]; 1] = [b"/w;;\xff;Makeable /w/\xff"];
 
 /// A text that begins with a slash starts at the root, another at the working directory.
 #[test]
 fn looks_up_names(rt: HostRuntime) -> Result<(), Fail> {
-    looks(
-        &rt,
-        b"/w",
-        &[],
-        &[
-            (b"", b"Missing"),
-            (b"*", b"Makeable /w/*"),
-            (b"-", b"Makeable /w/-"),
-            (b"...", b"Makeable /w/..."),
-            (b"\xff", b"Makeable /w/\xff"),
-        ],
-    )?;
-    looks(
-        &rt,
-        b"/w",
-        &[(b"/w/a", Some(b"1"))],
-        &[
-            (b"a", b"File /w/a"),
-            (b"b", b"Makeable /w/b"),
-            (b"A", b"Makeable /w/A"),
-            (b"/", b"Dir /"),
-            (b"/w", b"Dir /w"),
-            (b"/w/a", b"File /w/a"),
-            (b"/a", b"Makeable /a"),
-            (b"/w/b", b"Makeable /w/b"),
-            (b"/x/b", b"Missing"),
-            (b"w/a", b"Missing"),
-            (b"/..", b"Dir /"),
-            (b"/../w/a", b"File /w/a"),
-            (b"../..", b"Dir /"),
-            (b"../../../w/a", b"File /w/a"),
-            (b"/.", b"Dir /"),
-            (b"/./..", b"Dir /"),
-            (b"/dev/null", b"Null"),
-            (b"../dev/null", b"Missing"),
-            (b"//dev/null", b"Missing"),
-            (b"/dev//null", b"Missing"),
-            (b"dev/null", b"Missing"),
-        ],
-    )?;
-    looks(&rt, b"/w", &[(b"/w/d", None)], &[(b"d", b"Dir /w/d")])?;
-    looks(
-        &rt,
-        b"/w",
-        &[(b"/w/a b", Some(b"1"))],
-        &[(b"a b", b"File /w/a b")],
-    )?;
-    looks(
-        &rt,
-        b"/w",
-        &[(b"/w/*", Some(b"1"))],
-        &[(b"*", b"File /w/*")],
-    )?;
-    looks(
-        &rt,
-        b"/w",
-        &[(b"/x/f", Some(b"1"))],
-        &[(b"/x/f", b"File /x/f"), (b"x/f", b"Missing")],
-    )?;
-    looks(
-        &rt,
-        b"/x",
-        &[(b"/x/f", Some(b"1"))],
-        &[(b"f", b"File /x/f")],
-    )?;
-    looks(
-        &rt,
-        b"/",
-        &[(b"/x/f", Some(b"1"))],
-        &[
-            (b"x/f", b"File /x/f"),
-            (b".", b"Dir /"),
-            (b"g", b"Makeable /g"),
-        ],
-    )?;
-    looks(&rt, b"/w", &[(b"/a", Some(b"1"))], &[(b"/a", b"File /a")])?;
-    looks(
-        &rt,
-        b"/w/v",
-        &[(b"/a", Some(b"1"))],
-        &[(b"../../a", b"File /a")],
-    )?;
-    looks(
-        &rt,
-        b"/w",
-        &[(b"/w/.a", Some(b"1"))],
-        &[(b".a", b"File /w/.a")],
-    )?;
-    Ok(())
-}
-
-/// `.` stays, `..` goes up and stays at the root, slashes may follow one another, and all but the last component are directories.
-#[test]
-fn looks_up_components(rt: HostRuntime) -> Result<(), Fail> {
-    looks(
-        &rt,
-        b"/w",
-        &[(b"/w/d/a", Some(b"1"))],
-        &[
-            (b"d/a", b"File /w/d/a"),
-            (b"d/b", b"Makeable /w/d/b"),
-            (b"e/b", b"Missing"),
-            (b"d/e/b", b"Missing"),
-            (b".", b"Dir /w"),
-            (b"..", b"Dir /"),
-            (b"./d", b"Dir /w/d"),
-            (b"./d/./a", b"File /w/d/a"),
-            (b"d/.", b"Dir /w/d"),
-            (b"d/..", b"Dir /w"),
-            (b"d/../d/a", b"File /w/d/a"),
-            (b"d/../b", b"Makeable /w/b"),
-            (b"../w/d/a", b"File /w/d/a"),
-            (b"../x", b"Makeable /x"),
-            (b"d/a/.", b"Missing"),
-            (b"d/a/..", b"Missing"),
-            (b"d/a/b", b"Missing"),
-            (b"e/..", b"Missing"),
-            (b"e/../d", b"Missing"),
-            (b"e/.", b"Missing"),
-            (b"..a", b"Makeable /w/..a"),
-            (b".a", b"Makeable /w/.a"),
-            (b"//", b"Dir /"),
-            (b"//w//d//a", b"File /w/d/a"),
-            (b"d//a", b"File /w/d/a"),
-            (b"d/", b"Dir /w/d"),
-            (b"d//", b"Dir /w/d"),
-            (b"./", b"Dir /w"),
-            (b"../", b"Dir /"),
-            (b"d/a/", b"Missing"),
-            (b"d/a//", b"Missing"),
-            (b"d/b/", b"Missing"),
-            (b"b/", b"Missing"),
-            (b"b/c", b"Missing"),
-            (b"d/./", b"Dir /w/d"),
-            (b"/w/", b"Dir /w"),
-        ],
-    )?;
-    Ok(())
-}
-
-/// The text `/dev/null` and every text that leads there, whatever stands there.
-#[test]
-fn knows_the_null_device(rt: HostRuntime) -> Result<(), Fail> {
-    looks(
-        &rt,
-        b"/w",
-        &[(b"/dev/x", Some(b""))],
-        &[
-            (b"/dev/null", b"Null"),
-            (b"/dev//null", b"Null"),
-            (b"/dev/./null", b"Null"),
-            (b"//dev/null", b"Null"),
-            (b"/dev/../dev/null", b"Null"),
-            (b"../dev/null", b"Null"),
-            (b"/dev/null/", b"Missing"),
-            (b"/dev/null/.", b"Missing"),
-            (b"/dev/null/x", b"Missing"),
-            (b"/dev/nul", b"Makeable /dev/nul"),
-        ],
-    )?;
-    looks(
-        &rt,
-        b"/dev",
-        &[(b"/dev/x", Some(b""))],
-        &[(b"null", b"Null"), (b"./null", b"Null")],
-    )?;
-    looks(
-        &rt,
-        b"/w",
-        &[(b"/dev/null", Some(b"1"))],
-        &[
-            (b"/dev/null", b"Null"),
-            (b"../dev/null", b"Null"),
-            (b"../dev/null/", b"Missing"),
-        ],
-    )?;
-    looks(
-        &rt,
-        b"/w",
-        &[(b"/dev/null", None)],
-        &[
-            (b"/dev/null", b"Null"),
-            (b"../dev/null", b"Null"),
-            (b"../dev/null/", b"Null"),
-        ],
-    )?;
-    looks(
-        &rt,
-        b"/w",
-        &[(b"/dev/null/x", Some(b""))],
-        &[
-            (b"/dev/null/x", b"File /dev/null/x"),
-            (b"/dev/null/..", b"Dir /dev"),
-        ],
-    )?;
-    looks(
-        &rt,
-        b"/w",
-        &[(b"/w/dev/null", Some(b"1"))],
-        &[(b"dev/null", b"File /w/dev/null")],
-    )?;
-    Ok(())
-}
-
-/// All of these together.
-#[test]
-fn looks_up_mixed_texts(rt: HostRuntime) -> Result<(), Fail> {
-    looks(
-        &rt,
-        b"/w",
-        &[
-            (b"/w/f", Some(b"1")),
-            (b"/w/d/g", Some(b"2")),
-            (b"/w/d/e", None),
-            (b"/x/h", Some(b"3")),
-            (b"/dev", None),
-        ],
-        &[
-            (b"..", b"Dir /"),
-            (b"/w/null/dev/../", b"Missing"),
-            (b"/e", b"Makeable /e"),
-            (b"d/", b"Dir /w/d"),
-            (b"null/../x/.//", b"Missing"),
-            (b"d/e/x", b"Makeable /w/d/e/x"),
-            (b"//./../h/", b"Missing"),
-            (b"null/d/x", b"Missing"),
-            (b"/w/../f/../f/", b"Missing"),
-            (b"//new", b"Makeable /new"),
-            (b"new/./..", b"Missing"),
-            (b"//h/f", b"Missing"),
-            (b"/new/d/./w//", b"Missing"),
-            (b"null/dev/", b"Missing"),
-            (b"..//", b"Dir /"),
-            (b"dev", b"Makeable /w/dev"),
-            (b"//w/", b"Dir /w"),
-            (b"null/g/h/w//", b"Missing"),
-            (b"/f/dev//", b"Missing"),
-            (b"/w/.././null//", b"Missing"),
-            (b"/w/e", b"Makeable /w/e"),
-            (b"../dev//", b"Dir /dev"),
-            (b"/h/./h", b"Missing"),
-            (b"e/dev/null/e//", b"Missing"),
-            (b"/w/w//", b"Missing"),
-            (b"./dev/../", b"Missing"),
-            (b"/./null", b"Makeable /null"),
-            (b"/d/f//", b"Missing"),
-            (b"../h", b"Makeable /h"),
-            (b"../x/..//", b"Dir /"),
-            (b"w//", b"Missing"),
-            (b"/new/..", b"Missing"),
-            (b"h/new/g/dev", b"Missing"),
-            (b"//f/../dev/h//", b"Missing"),
-        ],
-    )?;
-    looks(
-        &rt,
-        b"/w/d",
-        &[
-            (b"/w/f", Some(b"1")),
-            (b"/w/d/g", Some(b"2")),
-            (b"/w/d/e", None),
-            (b"/x/h", Some(b"3")),
-            (b"/dev", None),
-        ],
-        &[
-            (b"f", b"Makeable /w/d/f"),
-            (b"h/", b"Missing"),
-            (b"x/h/e/e", b"Missing"),
-            (b"/w/e/w/w/new/", b"Missing"),
-            (b"../..", b"Dir /"),
-            (b"../h/f//", b"Missing"),
-            (b"//h/g/h/d", b"Missing"),
-            (b"//new/..//", b"Missing"),
-            (b"/w/f/x/h/g", b"Missing"),
-            (b"/w/./d/", b"Dir /w/d"),
-            (b"/dev/f/", b"Missing"),
-            (b"/w/../f/h/../", b"Missing"),
-            (b"/w/dev/d/null/.", b"Missing"),
-            (b"/g/x/.", b"Missing"),
-            (b"//x/g//", b"Missing"),
-            (b"//null/w/../w", b"Missing"),
-            (b"x/e/e/", b"Missing"),
-            (b"/e/w/", b"Missing"),
-            (b"../..//", b"Dir /"),
-            (b"e", b"Dir /w/d/e"),
-            (b"/../x/new//", b"Missing"),
-            (b"null/new/../w/", b"Missing"),
-            (b"/h/w/w", b"Missing"),
-            (b"null/", b"Missing"),
-            (b"e/d", b"Makeable /w/d/e/d"),
-            (b"e/g//", b"Missing"),
-        ],
-    )?;
-    looks(
-        &rt,
-        b"/",
-        &[
-            (b"/w/f", Some(b"1")),
-            (b"/w/d/g", Some(b"2")),
-            (b"/w/d/e", None),
-            (b"/x/h", Some(b"3")),
-            (b"/dev", None),
-        ],
-        &[
-            (b"null/../.", b"Missing"),
-            (b"/d/../new/w", b"Missing"),
-            (b"/w/x//", b"Missing"),
-            (b"g/d/dev/../", b"Missing"),
-            (b"/x", b"Dir /x"),
-            (b"./h/f/new", b"Missing"),
-            (b"w/", b"Dir /w"),
-            (b"e/../dev/..", b"Missing"),
-            (b"/w/null/dev", b"Missing"),
-            (b"g/new/f", b"Missing"),
-            (b"/w/../../", b"Dir /"),
-            (b"../../h//", b"Missing"),
-            (b"../d/dev/e", b"Missing"),
-            (b"/new/x/", b"Missing"),
-            (b"/g", b"Makeable /g"),
-            (b"/null/g", b"Missing"),
-            (b"null/.", b"Missing"),
-            (b"e", b"Makeable /e"),
-            (b"x/dev/d/new//", b"Missing"),
-            (b"w", b"Dir /w"),
-        ],
-    )?;
-    Ok(())
-}
-
-/// Names of bytes above 127 and of 255 bytes are names like others, and a file's name with a slash behind it leads nowhere.
-#[test]
-fn looks_up_long_names(rt: HostRuntime) -> Result<(), Fail> {
-    let alloc = rt.alloc();
-    let mut long = vec![in alloc; b'n'; 258]?;
-    let text = long.as_mut_slice();
-    text[..3].copy_from_slice(b"/w/");
-    let name = &long.as_slice()[3..];
-    let mut want = Vec::from_slice(alloc, b"File ")?;
-    want.extend_from_slice(long.as_slice())?;
-    looks(
-        &rt,
-        b"/w",
-        &[(long.as_slice(), Some(b""))],
-        &[(name, want.as_slice())],
-    )?;
-    let high: [(&[u8], Option<&[u8]>); 2] = [(b"/w/\x80\xff", Some(b"")), (b"/\xfe", None)];
-    looks(
-        &rt,
-        b"/w",
-        &high,
-        &[
-            (b"\x80\xff", b"File /w/\x80\xff"),
-            (b"../\xfe/.", b"Dir /\xfe"),
-            (b"\x80\xff/", b"Missing"),
-            (b"\x80\xff/\x80", b"Missing"),
-            (b"\x80", b"Makeable /w/\x80"),
-        ],
-    )
-}
-
-/// A look at each of these texts makes so many calls of the tree: not one fewer, and none that comes behind them.
-fn calls<R: Abort + AllocGlobal>(rt: &R, rows: &[(&[u8], u64)]) -> Result<(), Fail> {
-    let alloc = rt.alloc();
-    let files: [(&[u8], Option<&[u8]>); 1] = [(b"/w/d/a", Some(b"1"))];
-    for (text, calls) in rows {
-        for planned in [calls.saturating_sub(1), *calls] {
-            let tree = MemTree::of_table(alloc, b"/w", &files, vec![in alloc; planned]?)?;
-            let mut tree = tree.expect(rt, "the files make a tree");
-            let place = look(alloc, &mut tree, text);
-            assert_eq!(rt; place.is_ok(), planned == *calls, "{text:?} at {planned}");
-        }
+    for row in NAMES.lines() {
+        assert!(rt; looks(rt.alloc(), row.as_bytes())?, "{row}");
+    }
+    for &row in OTHER_NAMES.iter() {
+        assert!(rt; looks(rt.alloc(), row)?, "{row:?}");
     }
     Ok(())
 }
 
-/// The last place is asked for, and where nothing is there the directory above it; each place once.
+static COMPONENTS: &str = "/w;/w/d/a=1;d/a;File /w/d/a
+/w;/w/d/a=1;d/b;Makeable /w/d/b
+/w;/w/d/a=1;e/b;Missing
+/w;/w/d/a=1;d/e/b;Missing
+/w;/w/d/a=1;.;Dir /w
+/w;/w/d/a=1;..;Dir /
+/w;/w/d/a=1;./d;Dir /w/d
+/w;/w/d/a=1;./d/./a;File /w/d/a
+/w;/w/d/a=1;d/.;Dir /w/d
+/w;/w/d/a=1;d/..;Dir /w
+/w;/w/d/a=1;d/../d/a;File /w/d/a
+/w;/w/d/a=1;d/../b;Makeable /w/b
+/w;/w/d/a=1;../w/d/a;File /w/d/a
+/w;/w/d/a=1;../x;Makeable /x
+/w;/w/d/a=1;d/a/.;Missing
+/w;/w/d/a=1;d/a/..;Missing
+/w;/w/d/a=1;d/a/b;Missing
+/w;/w/d/a=1;e/..;Missing
+/w;/w/d/a=1;e/../d;Missing
+/w;/w/d/a=1;e/.;Missing
+/w;/w/d/a=1;..a;Makeable /w/..a
+/w;/w/d/a=1;.a;Makeable /w/.a
+/w;/w/d/a=1;//;Dir /
+/w;/w/d/a=1;//w//d//a;File /w/d/a
+/w;/w/d/a=1;d//a;File /w/d/a
+/w;/w/d/a=1;d/;Dir /w/d
+/w;/w/d/a=1;d//;Dir /w/d
+/w;/w/d/a=1;./;Dir /w
+/w;/w/d/a=1;../;Dir /
+/w;/w/d/a=1;d/a/;Missing
+/w;/w/d/a=1;d/a//;Missing
+/w;/w/d/a=1;d/b/;Missing
+/w;/w/d/a=1;b/;Missing
+/w;/w/d/a=1;b/c;Missing
+/w;/w/d/a=1;d/./;Dir /w/d
+/w;/w/d/a=1;/w/;Dir /w";
+
+/// `.` stays, `..` goes up and stays at the root, slashes may follow one another, and all but the last component are directories.
 #[test]
-fn a_look_asks_for_each_place_once(rt: HostRuntime) -> Result<(), Fail> {
-    calls(
-        &rt,
-        &[
-            (b"", 0),
-            (b"/dev/null", 0),
-            (b".", 1),
-            (b"..", 1),
-            (b"/", 1),
-            (b"d", 1),
-            (b"d/", 1),
-            (b"d/.", 1),
-            (b"d/..", 2),
-            (b"d/a", 2),
-            (b"d/a/", 2),
-            (b"d/nope", 2),
-            (b"d/./nope", 2),
-            (b"d/../nope", 3),
-            (b"nope", 2),
-            (b"./nope", 2),
-            (b"../nope", 2),
-            (b"/nope", 2),
-            (b"nope/a", 1),
-        ],
+fn looks_up_components(rt: HostRuntime) -> Result<(), Fail> {
+    for row in COMPONENTS.lines() {
+        assert!(rt; looks(rt.alloc(), row.as_bytes())?, "{row}");
+    }
+    Ok(())
+}
+
+static NULL: &str = "/w;/dev/x;/dev/null;Null
+/w;/dev/x;/dev//null;Null
+/w;/dev/x;/dev/./null;Null
+/w;/dev/x;//dev/null;Null
+/w;/dev/x;/dev/../dev/null;Null
+/w;/dev/x;../dev/null;Null
+/w;/dev/x;/dev/null/;Missing
+/w;/dev/x;/dev/null/.;Missing
+/w;/dev/x;/dev/null/x;Missing
+/w;/dev/x;/dev/nul;Makeable /dev/nul
+/dev;/dev/x;null;Null
+/dev;/dev/x;./null;Null
+/w;/dev/null=1;/dev/null;Null
+/w;/dev/null=1;../dev/null;Null
+/w;/dev/null=1;../dev/null/;Missing
+/w;/dev/null/;/dev/null;Null
+/w;/dev/null/;../dev/null;Null
+/w;/dev/null/;../dev/null/;Null
+/w;/dev/null/x;/dev/null/x;File /dev/null/x
+/w;/dev/null/x;/dev/null/..;Dir /dev
+/w;/w/dev/null=1;dev/null;File /w/dev/null";
+
+/// The text `/dev/null` and every text that leads there, whatever stands there.
+#[test]
+fn knows_the_null_device(rt: HostRuntime) -> Result<(), Fail> {
+    for row in NULL.lines() {
+        assert!(rt; looks(rt.alloc(), row.as_bytes())?, "{row}");
+    }
+    Ok(())
+}
+
+static MIXED: &str = "/w;/w/f=1|/w/d/g=2|/w/d/e/|/x/h=3|/dev/;..;Dir /
+/w;/w/f=1|/w/d/g=2|/w/d/e/|/x/h=3|/dev/;/w/null/dev/../;Missing
+/w;/w/f=1|/w/d/g=2|/w/d/e/|/x/h=3|/dev/;/e;Makeable /e
+/w;/w/f=1|/w/d/g=2|/w/d/e/|/x/h=3|/dev/;d/;Dir /w/d
+/w;/w/f=1|/w/d/g=2|/w/d/e/|/x/h=3|/dev/;null/../x/.//;Missing
+/w;/w/f=1|/w/d/g=2|/w/d/e/|/x/h=3|/dev/;d/e/x;Makeable /w/d/e/x
+/w;/w/f=1|/w/d/g=2|/w/d/e/|/x/h=3|/dev/;//./../h/;Missing
+/w;/w/f=1|/w/d/g=2|/w/d/e/|/x/h=3|/dev/;null/d/x;Missing
+/w;/w/f=1|/w/d/g=2|/w/d/e/|/x/h=3|/dev/;/w/../f/../f/;Missing
+/w;/w/f=1|/w/d/g=2|/w/d/e/|/x/h=3|/dev/;//new;Makeable /new
+/w;/w/f=1|/w/d/g=2|/w/d/e/|/x/h=3|/dev/;new/./..;Missing
+/w;/w/f=1|/w/d/g=2|/w/d/e/|/x/h=3|/dev/;//h/f;Missing
+/w;/w/f=1|/w/d/g=2|/w/d/e/|/x/h=3|/dev/;/new/d/./w//;Missing
+/w;/w/f=1|/w/d/g=2|/w/d/e/|/x/h=3|/dev/;null/dev/;Missing
+/w;/w/f=1|/w/d/g=2|/w/d/e/|/x/h=3|/dev/;..//;Dir /
+/w;/w/f=1|/w/d/g=2|/w/d/e/|/x/h=3|/dev/;dev;Makeable /w/dev
+/w;/w/f=1|/w/d/g=2|/w/d/e/|/x/h=3|/dev/;//w/;Dir /w
+/w;/w/f=1|/w/d/g=2|/w/d/e/|/x/h=3|/dev/;null/g/h/w//;Missing
+/w;/w/f=1|/w/d/g=2|/w/d/e/|/x/h=3|/dev/;/f/dev//;Missing
+/w;/w/f=1|/w/d/g=2|/w/d/e/|/x/h=3|/dev/;/w/.././null//;Missing
+/w;/w/f=1|/w/d/g=2|/w/d/e/|/x/h=3|/dev/;/w/e;Makeable /w/e
+/w;/w/f=1|/w/d/g=2|/w/d/e/|/x/h=3|/dev/;../dev//;Dir /dev
+/w;/w/f=1|/w/d/g=2|/w/d/e/|/x/h=3|/dev/;/h/./h;Missing
+/w;/w/f=1|/w/d/g=2|/w/d/e/|/x/h=3|/dev/;e/dev/null/e//;Missing
+/w;/w/f=1|/w/d/g=2|/w/d/e/|/x/h=3|/dev/;/w/w//;Missing
+/w;/w/f=1|/w/d/g=2|/w/d/e/|/x/h=3|/dev/;./dev/../;Missing
+/w;/w/f=1|/w/d/g=2|/w/d/e/|/x/h=3|/dev/;/./null;Makeable /null
+/w;/w/f=1|/w/d/g=2|/w/d/e/|/x/h=3|/dev/;/d/f//;Missing
+/w;/w/f=1|/w/d/g=2|/w/d/e/|/x/h=3|/dev/;../h;Makeable /h
+/w;/w/f=1|/w/d/g=2|/w/d/e/|/x/h=3|/dev/;../x/..//;Dir /
+/w;/w/f=1|/w/d/g=2|/w/d/e/|/x/h=3|/dev/;w//;Missing
+/w;/w/f=1|/w/d/g=2|/w/d/e/|/x/h=3|/dev/;/new/..;Missing
+/w;/w/f=1|/w/d/g=2|/w/d/e/|/x/h=3|/dev/;h/new/g/dev;Missing
+/w;/w/f=1|/w/d/g=2|/w/d/e/|/x/h=3|/dev/;//f/../dev/h//;Missing
+/w/d;/w/f=1|/w/d/g=2|/w/d/e/|/x/h=3|/dev/;f;Makeable /w/d/f
+/w/d;/w/f=1|/w/d/g=2|/w/d/e/|/x/h=3|/dev/;h/;Missing
+/w/d;/w/f=1|/w/d/g=2|/w/d/e/|/x/h=3|/dev/;x/h/e/e;Missing
+/w/d;/w/f=1|/w/d/g=2|/w/d/e/|/x/h=3|/dev/;/w/e/w/w/new/;Missing
+/w/d;/w/f=1|/w/d/g=2|/w/d/e/|/x/h=3|/dev/;../..;Dir /
+/w/d;/w/f=1|/w/d/g=2|/w/d/e/|/x/h=3|/dev/;../h/f//;Missing
+/w/d;/w/f=1|/w/d/g=2|/w/d/e/|/x/h=3|/dev/;//h/g/h/d;Missing
+/w/d;/w/f=1|/w/d/g=2|/w/d/e/|/x/h=3|/dev/;//new/..//;Missing
+/w/d;/w/f=1|/w/d/g=2|/w/d/e/|/x/h=3|/dev/;/w/f/x/h/g;Missing
+/w/d;/w/f=1|/w/d/g=2|/w/d/e/|/x/h=3|/dev/;/w/./d/;Dir /w/d
+/w/d;/w/f=1|/w/d/g=2|/w/d/e/|/x/h=3|/dev/;/dev/f/;Missing
+/w/d;/w/f=1|/w/d/g=2|/w/d/e/|/x/h=3|/dev/;/w/../f/h/../;Missing
+/w/d;/w/f=1|/w/d/g=2|/w/d/e/|/x/h=3|/dev/;/w/dev/d/null/.;Missing
+/w/d;/w/f=1|/w/d/g=2|/w/d/e/|/x/h=3|/dev/;/g/x/.;Missing
+/w/d;/w/f=1|/w/d/g=2|/w/d/e/|/x/h=3|/dev/;//x/g//;Missing
+/w/d;/w/f=1|/w/d/g=2|/w/d/e/|/x/h=3|/dev/;//null/w/../w;Missing
+/w/d;/w/f=1|/w/d/g=2|/w/d/e/|/x/h=3|/dev/;x/e/e/;Missing
+/w/d;/w/f=1|/w/d/g=2|/w/d/e/|/x/h=3|/dev/;/e/w/;Missing
+/w/d;/w/f=1|/w/d/g=2|/w/d/e/|/x/h=3|/dev/;../..//;Dir /
+/w/d;/w/f=1|/w/d/g=2|/w/d/e/|/x/h=3|/dev/;e;Dir /w/d/e
+/w/d;/w/f=1|/w/d/g=2|/w/d/e/|/x/h=3|/dev/;/../x/new//;Missing
+/w/d;/w/f=1|/w/d/g=2|/w/d/e/|/x/h=3|/dev/;null/new/../w/;Missing
+/w/d;/w/f=1|/w/d/g=2|/w/d/e/|/x/h=3|/dev/;/h/w/w;Missing
+/w/d;/w/f=1|/w/d/g=2|/w/d/e/|/x/h=3|/dev/;null/;Missing
+/w/d;/w/f=1|/w/d/g=2|/w/d/e/|/x/h=3|/dev/;e/d;Makeable /w/d/e/d
+/w/d;/w/f=1|/w/d/g=2|/w/d/e/|/x/h=3|/dev/;e/g//;Missing
+/;/w/f=1|/w/d/g=2|/w/d/e/|/x/h=3|/dev/;null/../.;Missing
+/;/w/f=1|/w/d/g=2|/w/d/e/|/x/h=3|/dev/;/d/../new/w;Missing
+/;/w/f=1|/w/d/g=2|/w/d/e/|/x/h=3|/dev/;/w/x//;Missing
+/;/w/f=1|/w/d/g=2|/w/d/e/|/x/h=3|/dev/;g/d/dev/../;Missing
+/;/w/f=1|/w/d/g=2|/w/d/e/|/x/h=3|/dev/;/x;Dir /x
+/;/w/f=1|/w/d/g=2|/w/d/e/|/x/h=3|/dev/;./h/f/new;Missing
+/;/w/f=1|/w/d/g=2|/w/d/e/|/x/h=3|/dev/;w/;Dir /w
+/;/w/f=1|/w/d/g=2|/w/d/e/|/x/h=3|/dev/;e/../dev/..;Missing
+/;/w/f=1|/w/d/g=2|/w/d/e/|/x/h=3|/dev/;/w/null/dev;Missing
+/;/w/f=1|/w/d/g=2|/w/d/e/|/x/h=3|/dev/;g/new/f;Missing
+/;/w/f=1|/w/d/g=2|/w/d/e/|/x/h=3|/dev/;/w/../../;Dir /
+/;/w/f=1|/w/d/g=2|/w/d/e/|/x/h=3|/dev/;../../h//;Missing
+/;/w/f=1|/w/d/g=2|/w/d/e/|/x/h=3|/dev/;../d/dev/e;Missing
+/;/w/f=1|/w/d/g=2|/w/d/e/|/x/h=3|/dev/;/new/x/;Missing
+/;/w/f=1|/w/d/g=2|/w/d/e/|/x/h=3|/dev/;/g;Makeable /g
+/;/w/f=1|/w/d/g=2|/w/d/e/|/x/h=3|/dev/;/null/g;Missing
+/;/w/f=1|/w/d/g=2|/w/d/e/|/x/h=3|/dev/;null/.;Missing
+/;/w/f=1|/w/d/g=2|/w/d/e/|/x/h=3|/dev/;e;Makeable /e
+/;/w/f=1|/w/d/g=2|/w/d/e/|/x/h=3|/dev/;x/dev/d/new//;Missing
+/;/w/f=1|/w/d/g=2|/w/d/e/|/x/h=3|/dev/;w;Dir /w";
+
+/// All of these together.
+#[test]
+fn looks_up_mixed_texts(rt: HostRuntime) -> Result<(), Fail> {
+    for row in MIXED.lines() {
+        assert!(rt; looks(rt.alloc(), row.as_bytes())?, "{row}");
+    }
+    Ok(())
+}
+
+/// Whether a file whose name has 255 bytes is found.
+fn finds_a_long_name(alloc: Global) -> Result<bool, Fail> {
+    let mut name = Vec::new(alloc);
+    for _ in 0..255 {
+        name.push(b'n')?;
+    }
+    let mut path = Vec::from_slice(alloc, b"/w/")?;
+    path.extend_from_slice(name.as_slice())?;
+    let mut wanted = Vec::from_slice(alloc, b"File ")?;
+    wanted.extend_from_slice(path.as_slice())?;
+    names_in(
+        alloc,
+        b"/w",
+        path.as_slice(),
+        name.as_slice(),
+        wanted.as_slice(),
     )
 }
 
-/// Whether these files make a tree with this home.
-fn stands(alloc: Global, home: &[u8], files: &[(&[u8], Option<&[u8]>)]) -> Result<bool, Memory> {
-    let tree = MemTree::of_table(alloc, home, files, Vec::new(alloc))?;
-    Ok(tree.is_some())
+static HIGH: [&[u8]; 5] = [
+    b"/w;/w/\x80\xff|/\xfe/;\x80\xff;File /w/\x80\xff",
+    b"/w;/w/\x80\xff|/\xfe/;../\xfe/.;Dir /\xfe",
+    b"/w;/w/\x80\xff|/\xfe/;\x80\xff/;Missing",
+    b"/w;/w/\x80\xff|/\xfe/;\x80\xff/\x80;Missing",
+    b"/w;/w/\x80\xff|/\xfe/;\x80;Makeable /w/\x80",
+];
+
+/// Names of bytes above 127 and of 255 bytes are names like others, and a file's name with a slash behind it leads nowhere.
+#[test]
+fn looks_up_long_names(rt: HostRuntime) -> Result<(), Fail> {
+    assert!(rt; finds_a_long_name(rt.alloc())?);
+    for &row in HIGH.iter() {
+        assert!(rt; looks(rt.alloc(), row)?, "{row:?}");
+    }
+    Ok(())
 }
+
+/// Whether a look at the text ends well where this call of the tree fails, from 0.
+fn ends_before(alloc: Global, text: &[u8], failing: u64) -> Result<bool, Fail> {
+    let files: [(&[u8], Option<&[u8]>); 1] = [(b"/w/d/a", Some(b"1"))];
+    let fails = vec![in alloc; failing]?;
+    match MemTree::of_table(alloc, b"/w", &files, fails)? {
+        Some(mut tree) => {
+            let ends = look(alloc, &mut tree, text).is_ok();
+            drop(tree);
+            Ok(ends)
+        }
+        None => Err(Fail::new("the files make a tree")),
+    }
+}
+
+/// Texts, and how many calls of the tree a look at them makes.
+static CALLS: [(&[u8], u64); 19] = [
+    (b"", 0),
+    (b"/dev/null", 0),
+    (b".", 1),
+    (b"..", 1),
+    (b"/", 1),
+    (b"d", 1),
+    (b"d/", 1),
+    (b"d/.", 1),
+    (b"d/..", 2),
+    (b"d/a", 2),
+    (b"d/a/", 2),
+    (b"d/nope", 2),
+    (b"d/./nope", 2),
+    (b"d/../nope", 3),
+    (b"nope", 2),
+    (b"./nope", 2),
+    (b"../nope", 2),
+    (b"/nope", 2),
+    (b"nope/a", 1),
+];
+
+/// The last place is asked for, and where nothing is there the directory above it; each place once: not one call fewer is made, and
+/// none that comes behind them.
+#[test]
+fn a_look_asks_for_each_place_once(rt: HostRuntime) -> Result<(), Fail> {
+    for &(text, calls) in CALLS.iter() {
+        assert!(rt; ends_before(rt.alloc(), text, calls)?, "{text:?}");
+        let fewer = ends_before(rt.alloc(), text, calls.saturating_sub(1))?;
+        assert!(rt; fewer == (calls == 0), "{text:?}");
+    }
+    Ok(())
+}
+
+/// Whether these files make a tree with this home.
+fn stands(alloc: Global, home: &[u8], list: &[u8]) -> Result<bool, Memory> {
+    let tree = tree_of(alloc, home, list)?;
+    let stands = tree.is_some();
+    drop(tree);
+    Ok(stands)
+}
+
+/// A working directory, files, and whether they make a tree.
+static TREES: [(&[u8], &[u8], bool); 10] = [
+    (b"/", b"", true),
+    (b"/w", b"/w/|/a/b|/a/", true),
+    (b"/w", b"/ab|/a", true),
+    (b"w", b"", false),
+    (b"/w", b"/a//", false),
+    (b"/w", b"/a/|/a", false),
+    (b"/w", b"/a|/a/b/c/", false),
+    (b"/w", b"/a/b|/a", false),
+    (b"/w/v", b"/w", false),
+    (b"/w", b"/w", false),
+];
 
 /// Entries that make no tree: a text that spells no path, a path that stands twice, and a file above another path or home.
 #[test]
 fn tells_what_makes_a_tree(rt: HostRuntime) -> Result<(), Fail> {
-    let alloc = rt.alloc();
-    assert!(rt; stands(alloc, b"/", &[])?);
-    assert!(rt;
-        stands(
-            alloc,
-            b"/w",
-            &[(b"/w", None), (b"/a/b", Some(b"")), (b"/a", None)]
-        )?
-    );
-    assert!(rt; stands(alloc, b"/w", &[(b"/ab", Some(b"")), (b"/a", Some(b""))])?);
-    assert!(rt; !stands(alloc, b"w", &[])?);
-    assert!(rt; !stands(alloc, b"/w", &[(b"/a/", None)])?);
-    assert!(rt; !stands(alloc, b"/w", &[(b"/a", None), (b"/a", Some(b""))])?);
-    assert!(rt; !stands(alloc, b"/w", &[(b"/a", Some(b"")), (b"/a/b/c", None)])?);
-    assert!(rt; !stands(alloc, b"/w", &[(b"/a/b", Some(b"")), (b"/a", Some(b""))])?);
-    assert!(rt; !stands(alloc, b"/w/v", &[(b"/w", Some(b""))])?);
-    assert!(rt; !stands(alloc, b"/w", &[(b"/w", Some(b""))])?);
+    for &(home, list, wanted) in TREES.iter() {
+        assert!(rt;
+            stands(rt.alloc(), home, list)? == wanted,
+            "{home:?} {list:?}"
+        );
+    }
     Ok(())
 }
 

@@ -84,6 +84,8 @@ fn running_kind(name: &[u8], inv: Inv) -> Option<NodeKind> {
     if name == b"finish".as_slice() {
         return Some(NodeKind::Finish(inv));
     }
+    // An invocation is let go by a call: going out of scope is proved a command at a time.
+    drop(inv);
     None
 }
 

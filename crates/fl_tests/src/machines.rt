@@ -54,72 +54,87 @@ fn run(
     Ok(None)
 }
 
-/// A map and a whole of this invocation put what is wanted for these pieces, with `.` for an end, and select a line or don't.
-fn expect_runs(
+/// The whole of these words, or their map.
+fn node_of(alloc: Global, words: &[&str], is_map: bool) -> Result<NodeKind, Fail> {
+    let inv = invocation(alloc, words)?.ok_or("no invocation")?;
+    if is_map {
+        return Ok(NodeKind::Map(inv));
+    }
+    Ok(NodeKind::Whole(inv))
+}
+
+/// What a node of this kind puts for these pieces, with `.` for an end, and whether it has selected a line.
+fn put_by(
+    alloc: Global,
+    kind: &NodeKind,
+    pieces: &[&str],
+) -> Result<(Option<Vec<u8>>, bool), Fail> {
+    if !is_utility_node(kind, 1, 1) {
+        return Err(Fail::new("no node"));
+    }
+    let mut machine = util_machine(alloc, kind, 1, 1)?;
+    let out = run(alloc, &mut machine, pieces);
+    let selected = machine.selected();
+    // A machine, as an invocation, is let go by a call: going out of scope is proved a utility at a time.
+    drop(machine);
+    Ok((out?, selected))
+}
+
+/// A node of this kind puts what is wanted for these pieces, and selects a line or doesn't.
+fn expect_put(
     rt: &impl Abort,
     alloc: Global,
-    inv: Inv,
+    kind: &NodeKind,
     pieces: &[&str],
     wanted: &str,
     selects: bool,
 ) -> Result<(), Fail> {
-    for kind in [NodeKind::Map(inv.copy()?), NodeKind::Whole(inv)] {
-        if is_utility_node(&kind, 1, 1) {
-            let mut machine = util_machine(alloc, &kind, 1, 1)?;
-            let out = run(alloc, &mut machine, pieces)?;
-            assert_eq!(rt;
-                out.as_ref().map(|out| out.as_slice()),
-                Some(wanted.as_bytes())
-            );
-            assert_eq!(rt; machine.selected(), selects);
-        } else {
-            assert!(rt; false, "no node");
-        }
-    }
+    let (out, selected) = put_by(alloc, kind, pieces)?;
+    let out = out.ok_or("another piece")?;
+    assert_eq!(rt; out.as_slice(), wanted.as_bytes());
+    assert_eq!(rt; selected, selects);
     Ok(())
 }
 
-/// A whole of this invocation, which has no input, puts nothing and ends.
-fn expect_nothing(rt: &impl Abort, alloc: Global, inv: Inv) -> Result<(), Fail> {
-    let kind = NodeKind::Whole(inv);
-    assert!(rt; !is_utility_node(&kind, 1, 1));
-    if is_utility_node(&kind, 0, 1) {
-        let mut machine = util_machine(alloc, &kind, 0, 1)?;
-        let out = run(alloc, &mut machine, [].as_slice())?;
-        assert_eq!(rt;
-            out.as_ref().map(|out| out.as_slice()),
-            Some(b".".as_slice())
-        );
-    } else {
-        assert!(rt; false, "no node");
-    }
-    Ok(())
-}
+/// The words, what a node of them puts, and whether it selects a line.
+static RUNS: [(&[&str], &str, bool); 4] = [
+    (&["grep", "-F", "a"], "b a\nab\nxa\n.", true),
+    (&["grep", "-F", "q"], ".", false),
+    (&["wc", "-l"], "3\n.", false),
+    (&["cat", "f"], "b a\nab\nc\nxa.", false),
+];
 
 #[test]
 fn nodes_put_what_their_utility_writes(rt: HostRuntime) -> Result<(), Fail> {
-    let alloc = rt.alloc();
-    let pieces = ["b a\na", "b\nc\n", "xa"];
-    for (words, wanted, selects) in [
-        (["grep", "-F", "a"].as_slice(), "b a\nab\nxa\n.", true),
-        (["grep", "-F", "q"].as_slice(), ".", false),
-        (["wc", "-l"].as_slice(), "3\n.", false),
-        (["cat", "f"].as_slice(), "b a\nab\nc\nxa.", false),
-    ] {
-        match invocation(alloc, words)? {
-            Some(inv) => expect_runs(&rt, alloc, inv, pieces.as_slice(), wanted, selects)?,
-            None => assert!(rt; false, "no invocation"),
+    for &(words, wanted, selects) in RUNS.iter() {
+        for is_map in [false, true] {
+            let kind = node_of(rt.alloc(), words, is_map)?;
+            let pieces = ["b a\na", "b\nc\n", "xa"];
+            let told = expect_put(&rt, rt.alloc(), &kind, &pieces, wanted, selects);
+            drop(kind);
+            told?;
         }
     }
     Ok(())
+}
+
+/// What a node of this kind puts, which has no input.
+fn put_by_none(alloc: Global, kind: &NodeKind) -> Result<Option<Vec<u8>>, Fail> {
+    if is_utility_node(kind, 1, 1) || !is_utility_node(kind, 0, 1) {
+        return Err(Fail::new("another node"));
+    }
+    let mut machine = util_machine(alloc, kind, 0, 1)?;
+    let out = run(alloc, &mut machine, [].as_slice());
+    drop(machine);
+    Ok(out?)
 }
 
 #[test]
 fn a_whole_of_no_input_puts_nothing_and_ends(rt: HostRuntime) -> Result<(), Fail> {
-    let alloc = rt.alloc();
-    match invocation(alloc, ["cat", ""].as_slice())? {
-        Some(inv) => expect_nothing(&rt, alloc, inv)?,
-        None => assert!(rt; false, "no invocation"),
-    }
+    let kind = node_of(rt.alloc(), &["cat", ""], false)?;
+    let told = put_by_none(rt.alloc(), &kind);
+    drop(kind);
+    let out = told?.ok_or("another piece")?;
+    assert_eq!(rt; out.as_slice(), b".".as_slice());
     Ok(())
 }

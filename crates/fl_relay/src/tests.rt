@@ -3,6 +3,7 @@ ghost use Rattle.std.specs.Prelude.{◌≡◌, ◌<◌, [], true, false, IfOk};
 ghost use Rattle.fl_graph.specs.Machines.{closes};
 ghost use Rattle.fl_graph.specs.Runs.{are_closed};
 ghost use Rattle.fl_relay.specs.Eager.{eager_gives_on, eager_takes_on, eager_given, eager_taken};
+ghost use Rattle.fl_relay.specs.Edges.{gives_over, takes_over, put_on, taken_from};
 ghost use Rattle.fl_relay.specs.Relays.{gives_on, takes_on, given, taken};
 
 use crate::laws::{settle, settle_edge};
@@ -291,5 +292,55 @@ fn count_beside<R: Threads + Wait + Sync>(
 fn all_pieces_come_through_a_relay_without_bound(rt: HostRuntime) -> Result<(), Fail> {
     let through = count_beside(&rt, rt.alloc(), PIECES)?;
     assert_eq!(rt; through, (PIECES, true));
+    Ok(())
+}
+
+/// Whether the pieces of two numbers, and the end behind them, come over an edge that has room for them.
+fn hands_on<R: Wait>(
+    rt: &R,
+    alloc: Global,
+    mut giver: EdgeGiver,
+    mut taker: EdgeTaker,
+) -> Result<bool, Memory>
+    requires same { takes_over taker ≡ gives_over giver }
+    requires given { put_on giver ≡ [] }
+    requires taken { taken_from taker ≡ [] }
+{
+    giver.put(rt, numbered(alloc, 1)?)?;
+    giver.put(rt, numbered(alloc, 2)?)?;
+    giver.put(rt, Piece::End)?;
+    let Piece::Bytes(first) = taker.take(rt) else {
+        return Ok(false);
+    };
+    let Piece::Bytes(second) = taker.take(rt) else {
+        return Ok(false);
+    };
+    let last = taker.take(rt);
+    settle_edge(rt, giver, taker);
+    Ok(
+        first.as_slice() == 1u32.to_be_bytes().as_slice()
+            && second.as_slice() == 2u32.to_be_bytes().as_slice()
+            && matches!(last, Piece::End),
+    )
+}
+
+#[test]
+fn edges_of_either_sort_hand_pieces_on(rt: HostRuntime) -> Result<(), Fail> {
+    let alloc = rt.alloc();
+    let (giver, taker) = bounded(alloc, 3)?;
+    let is_bounded = hands_on(
+        &rt,
+        alloc,
+        EdgeGiver::Bounded(giver),
+        EdgeTaker::Bounded(taker),
+    )?;
+    let (giver, taker) = unbounded(alloc)?;
+    let is_unbounded = hands_on(
+        &rt,
+        alloc,
+        EdgeGiver::Unbounded(giver),
+        EdgeTaker::Unbounded(taker),
+    )?;
+    assert_eq!(rt; (is_bounded, is_unbounded), (true, true));
     Ok(())
 }

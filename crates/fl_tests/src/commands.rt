@@ -51,7 +51,7 @@ fn noted_words(alloc: Global, used: &[Texts]) -> Result<Vec<u8>, AllocError> {
 }
 
 /// The bytes that are left of a short input.
-fn left_of(alloc: Global, input: &mut MemSource) -> Result<Vec<u8>, WorldErr> {
+pub(crate) fn left_of(alloc: Global, input: &mut MemSource) -> Result<Vec<u8>, WorldErr> {
     let mut buffer = [0; 16];
     let count = input.read(&mut buffer)?;
     Ok(Vec::from_slice(alloc, &buffer[..count])?)

@@ -18,4 +18,6 @@ mod machines;
 #[cfg(test)]
 mod nets;
 #[cfg(test)]
+mod pipelines;
+#[cfg(test)]
 mod rewrites;

@@ -1,1 +1,2 @@
 mod MemberLemmas
+pub mod NodeLemmas

@@ -18,11 +18,14 @@ pub struct HandOn {
 }
 
 impl HandOn {
-    ghost use Rattle.std.specs.Prelude.{◌≡◌, false};
+    ghost use Rattle.std.specs.Prelude.{◌≡◌, ◌<◌, ℕ, true, false};
 
     /// The machine before its first piece.
     pub fn new() -> HandOn
-        ensures { (⟦<HandOn as Machine>⟧.state result).broken ≡ false }
+        ensures whole { (⟦<HandOn as Machine>⟧.state result).broken ≡ false }
+        ensures ins { (port : ℕ) → (⟦<HandOn as Machine>⟧.state result).takes port ≡ true → port < 1 }
+        ensures outs { (port : ℕ) → (⟦<HandOn as Machine>⟧.state result).puts port ≡ true → port < 1 }
+        ensures plain { (port : ℕ) → (⟦<HandOn as Machine>⟧.state result).numbered_outs port ≡ false }
     {
         HandOn {
             held: None,

@@ -1,4 +1,4 @@
-//! The rows of dataflow: graphs, the machines of their nodes, and runs over ends, over lists of ends and on an engine.
+//! The rows of dataflow: graphs, the machines of their nodes, runs over ends, over lists of ends and on an engine, and nodes on threads.
 #![tactic(auto)]
 
 #[cfg(test)]
@@ -19,6 +19,8 @@ mod joints;
 mod machines;
 #[cfg(test)]
 mod nets;
+#[cfg(test)]
+mod nodes;
 #[cfg(test)]
 mod pipelines;
 #[cfg(test)]

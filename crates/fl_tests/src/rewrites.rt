@@ -6,7 +6,8 @@ use crate::graph::graph;
 use fl_graph::{Graph, NodeKind, StatusRule, validate};
 use fl_rewrites::Rewritten;
 use fl_split::insert_split;
-use std::alloc::{AllocError, Global};
+use ps_lines::{Memory, decimal};
+use std::alloc::Global;
 use std::test::Fail;
 
 /// The name of a kind, without its details.
@@ -26,20 +27,20 @@ fn name(kind: &NodeKind) -> &'static str {
     }
 }
 
-/// Writes numbers of one digit each, or a hyphen for none.
-fn write_numbers(text: &mut Vec<u8>, numbers: &[u32]) -> Result<(), AllocError> {
+/// Writes numbers one behind the other, or a hyphen for none.
+fn write_numbers(text: &mut Vec<u8>, numbers: &[u32]) -> Result<(), Memory> {
     text.push(b' ')?;
     if numbers.is_empty() {
         text.push(b'-')?;
     }
     for number in numbers {
-        text.push(b"0123456789"[(*number % 10) as usize])?;
+        decimal(u64::from(*number), text)?;
     }
     Ok(())
 }
 
 /// A graph's nodes, and those that its status names.
-fn printed(alloc: Global, graph: &Graph) -> Result<Vec<u8>, AllocError> {
+fn printed(alloc: Global, graph: &Graph) -> Result<Vec<u8>, Memory> {
     let mut text = Vec::new(alloc);
     for node in graph.nodes.as_slice() {
         text.extend_from_slice(name(&node.kind).as_bytes())?;

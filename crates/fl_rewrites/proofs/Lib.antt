@@ -7,4 +7,3 @@ pub mod CarryLemmas
 pub mod ValueLemmas
 pub mod SpliceLemmas
 pub mod PlaceLemmas
-pub mod KnownLemmas

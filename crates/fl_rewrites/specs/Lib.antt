@@ -2,5 +2,4 @@ pub mod Numbering
 pub mod Places
 pub mod Suits
 pub mod Keeps
-pub mod Known
 pub mod Inner

@@ -1,4 +1,3 @@
-pub mod SeamLemmas
 pub mod RowLemmas
 pub mod KindLemmas
 pub mod WireLemmas

@@ -106,6 +106,20 @@ fn run<H: Threads + Wait + Sync>(
     }))
 }
 
+/// Runs the invocation of these words so.
+fn run_words(
+    rt: &(impl Abort + Threads + Wait + Sync),
+    alloc: Global,
+    words: &str,
+    from: &First,
+) -> Result<Ran, Fail> {
+    let inv = invocation(alloc, words)?.expect(rt, words);
+    let ran = run(rt, alloc, &inv, from);
+    // An invocation is let go by a call: going out of scope is proved a command at a time.
+    drop(inv);
+    Ok(ran?.expect(rt, words))
+}
+
 /// Whether a command came to its end so.
 fn is_as(ran: &Ran, output: &str, status: u8, left: &str, noted: &str) -> bool {
     ran.ended == Ended::Done(status)
@@ -124,8 +138,7 @@ fn expect(
     left: &str,
     noted: &str,
 ) -> Result<(), Fail> {
-    let inv = invocation(alloc, words)?.expect(rt, words);
-    let ran = run(rt, alloc, &inv, &First::Input)?.expect(rt, words);
+    let ran = run_words(rt, alloc, words, &First::Input)?;
     let is_right = is_as(&ran, output, status, left, noted);
     assert!(rt;
         is_right,
@@ -185,12 +198,9 @@ fn commands_run_over_what_their_operands_name(rt: HostRuntime) -> Result<(), Fai
 
 #[test]
 fn a_text_is_read_in_place_of_the_input(rt: HostRuntime) -> Result<(), Fail> {
-    let alloc = rt.alloc();
-    let inv = invocation(alloc, "|cat|f|-")?.expect(&rt, "an invocation");
-    let from = First::Text(Text::copy_of(alloc, b"t\n")?);
-    let ran = run(&rt, alloc, &inv, &from)?.expect(&rt, "a run");
-    assert_eq!(rt; ran.ended, Ended::Done(0));
-    assert_eq!(rt; ran.output.as_slice(), b"a\nb\nt\n".as_slice());
-    assert_eq!(rt; ran.left.as_slice(), b"in\nb\n".as_slice());
+    let from = First::Text(Text::copy_of(rt.alloc(), b"t\n")?);
+    let ran = run_words(&rt, rt.alloc(), "|cat|f|-", &from)?;
+    let is_right = is_as(&ran, "a\nb\nt\n", 0, "in\nb\n", "");
+    assert!(rt; is_right, "wrote {:?}, left {:?}", ran.output, ran.left);
     Ok(())
 }

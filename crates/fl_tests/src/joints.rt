@@ -176,9 +176,12 @@ fn expect_parts(
     cuts: u64,
     wanted: &str,
 ) -> Result<(), Fail> {
-    let split = joint(alloc, &NodeKind::Split, 1, parts)?;
-    let inputs = one_input(alloc, "b a\nab\nc\nxa", cuts, Piece::End)?;
-    expect_put(rt, alloc, split, inputs, parts, wanted)
+    if 1 <= parts {
+        let split = joint(alloc, &NodeKind::Split, 1, parts)?;
+        let inputs = one_input(alloc, "b a\nab\nc\nxa", cuts, Piece::End)?;
+        return expect_put(rt, alloc, split, inputs, parts, wanted);
+    }
+    Err(Fail::new("no parts"))
 }
 
 #[test]

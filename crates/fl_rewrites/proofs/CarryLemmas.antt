@@ -1,7 +1,7 @@
 -- What the edges of a graph carry, by any values that meet the equations of its nodes: what is asked of the sources, what is written and what
 -- is selected. A rewrite is shown node by node over such values.
-use Rattle.std.proofs.Common.{◌≡◌, ℕ, ◌+◌, ◌==◌, List, [], ◌∷◌, ◌++◌, Bool, true, false, ◌&&◌, if◌then◌else◌, nat_le, length, map, get_or, refl, ap, sym, ◌∙◌}
-use Rattle.std.specs.List.{flat_map, list_all, list_any}
+use Rattle.std.proofs.Common.{◌≡◌, ℕ, ◌==◌, List, [], ◌∷◌, Bool, true, nat_le, length, map, refl, ap, sym, ◌∙◌}
+use Rattle.std.specs.List.{flat_map, list_all}
 use Rattle.std.proofs.lemmas.Bool.{and_parts, eqb-true}
 use Rattle.std.proofs.lemmas.List.{length-map, length-replicate, map-id}
 use Rattle.ut_args.specs.Inputs.{inputs_of}
@@ -9,7 +9,6 @@ use Rattle.fl_graph.specs.Net.{after, run}
 use Rattle.fl_graph.specs.declared.graphs.Cell.{Cell}
 use Rattle.fl_graph.specs.declared.graphs.Graph.{Graph}
 use Rattle.fl_graph.specs.declared.graphs.StatusRule.{StatusRule}
-use Rattle.fl_graph.specs.declared.graphs.StatusRule.TheVariants as status
 use Rattle.fl_graph.specs.Kinds.{may_have, has_its_ports}
 use Rattle.fl_graph.specs.Makers.{all_hold}
 use Rattle.fl_graph.specs.Valid.{Valid}

@@ -1,12 +1,12 @@
 -- The node with a number, and those before and behind it.
-use Rattle.std.proofs.Common.{◌≡◌, ℕ, zero, suc, ◌+◌, ◌<◌, ◌==◌, List, [], ◌∷◌, ◌++◌, Bool, true, false, if◌then◌else◌, Option, Some, None, length, get_or, map, refl, ap, sym, ◌∙◌, arith}
-use Rattle.std.specs.List.{slice_get, position, list_any}
+use Rattle.std.proofs.Common.{◌≡◌, ℕ, zero, suc, List, [], ◌∷◌, ◌++◌, true, Some, length, refl, ap, sym, ◌∙◌}
+use Rattle.std.specs.List.{slice_get}
 use Rattle.std.proofs.lemmas.Option.{none-some, same_Some}
 use Rattle.std.proofs.lemmas.List.Quantifiers.{position-Some}
 use Rattle.std.proofs.lemmas.Option.{get_or_from_slice_get}
 use Rattle.fl_graph.specs.Net.{has}
 use Rattle.fl_graph.specs.declared.graphs.Cell.{Cell}
-use Rattle.fl_rewrites.specs.Places.{replaced, giver_of, taker_of}
+use Rattle.fl_rewrites.specs.Places.{replaced, taker_of}
 
 module _ {Kind : Type 0} where
   -- the node has this number, between those before and behind it

@@ -1,6 +1,6 @@
 -- Nodes with the number of sources before each: what they are wired to and what they tell is that of the nodes alone.
-use Rattle.std.proofs.Common.{◌≡◌, ℕ, ◌+◌, ◌≤◌, List, [], ◌∷◌, ◌++◌, Bool, true, false, ◌&&◌, if◌then◌else◌, length, map, refl, ap, sym, subst, ◌∙◌}
-use Rattle.std.specs.List.{flat_map, list_all}
+use Rattle.std.proofs.Common.{◌≡◌, ℕ, ◌+◌, ◌≤◌, List, [], ◌∷◌, ◌++◌, Bool, ◌&&◌, if◌then◌else◌, map, refl, ap, sym, subst, ◌∙◌}
+use Rattle.std.specs.List.{list_all}
 use Rattle.std.proofs.lemmas.Grind.{flat_map-append}
 use Rattle.fl_graph.specs.Net.{has, count, takes, gives}
 use Rattle.fl_graph.specs.Checks.{takes_given, each_after}
@@ -8,7 +8,7 @@ use Rattle.fl_graph.specs.declared.graphs.Cell.{Cell}
 use Rattle.fl_graph.specs.declared.kinds.NodeKind.{NodeKind}
 use Rattle.fl_classes.specs.Flow.{Placed, placed, placed_from, is_source}
 use Rattle.fl_rewrites.specs.Numbering.{place, renamed, numbered}
-use Rattle.fl_rewrites.proofs.OrderLemmas.{Each, IsWired, told}
+use Rattle.fl_rewrites.proofs.OrderLemmas.{IsWired, told}
 
 -- the number of sources before the node behind these
 abbrev pub sources_behind : ℕ → List (Cell NodeKind) → ℕ

@@ -1,17 +1,16 @@
 -- Nodes that are a valid graph but for the numbers of their edges become one when they are numbered anew.
-use Rattle.std.proofs.Common.{◌≡◌, ℕ, zero, suc, ◌+◌, ◌≤◌, List, [], ◌∷◌, ◌++◌, Bool, true, false, ◌&&◌, if◌then◌else◌, Option, length, map, refl, ap, sym, subst, ◌∙◌}
-use Rattle.std.specs.List.{flat_map, list_all, count_by, filter_map, cons_option, slice_get}
-use Rattle.std.specs.Option.{option_map_or}
+use Rattle.std.proofs.Common.{◌≡◌, ℕ, zero, suc, ◌+◌, ◌≤◌, List, [], ◌∷◌, Bool, true, ◌&&◌, if◌then◌else◌, Option, length, map, refl, ap, sym, subst, ◌∙◌}
+use Rattle.std.specs.List.{list_all, count_by, filter_map, cons_option}
 use Rattle.std.proofs.lemmas.List.Folds.{list_all-map}
 use Rattle.std.proofs.lemmas.List.Sums.{sum_by-cons}
 use Rattle.std.proofs.lemmas.List.{length-replicate, length-map}
 use Rattle.ps_world.specs.Paths.{Components}
-use Rattle.fl_graph.specs.Net.{has, count, takes, gives, after, run}
+use Rattle.fl_graph.specs.Net.{gives, after}
 use Rattle.fl_graph.specs.declared.graphs.Cell.{Cell}
-use Rattle.fl_graph.specs.Kinds.{may_have, has_its_ports, is_input, is_output, reads_one_input, has_its_class, runs_what_is_built, selects_lines}
+use Rattle.fl_graph.specs.Kinds.{may_have, has_its_ports, is_input, is_output, reads_one_input, has_its_class, runs_what_is_built}
 use Rattle.fl_graph.specs.Makers.{Made, makes, made_by, absent, tells_maps, joins_maps, all_hold}
 use Rattle.fl_graph.specs.Paths.{paths_read, paths_written, path_read, path_written, ArePathsApart}
-use Rattle.fl_graph.specs.Valid.{HasEdges, HasOneOfEachEnd, Valid, nodes_named, names_selector}
+use Rattle.fl_graph.specs.Valid.{HasOneOfEachEnd, Valid, nodes_named, names_selector}
 use Rattle.fl_graph.specs.declared.kinds.NodeKind.{NodeKind}
 use Rattle.fl_graph.specs.declared.graphs.StatusRule.{StatusRule}
 use Rattle.fl_graph.proofs.EdgeLemmas.{leads_on-each}

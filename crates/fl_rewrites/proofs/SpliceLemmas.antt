@@ -1,15 +1,15 @@
 -- Nodes with others in the place of one: order, and what is told of the nodes on either side.
-use Rattle.std.proofs.Common.{◌≡◌, ℕ, zero, suc, ◌+◌, ◌<◌, ◌≤◌, ◌==◌, List, [], ◌∷◌, ◌++◌, Bool, true, false, ◌&&◌, ◌||◌, if◌then◌else◌, length, map, get_or, refl, ap, sym, ◌∙◌, append_assoc, append-nil, arith, eq-eqb, ⊎_elim, ◌⊎◌}
-use Rattle.std.specs.List.{flat_map, list_all, list_any, range_with_len, AllZip}
+use Rattle.std.proofs.Common.{◌≡◌, ℕ, zero, suc, ◌+◌, ◌<◌, ◌≤◌, ◌==◌, List, [], ◌∷◌, ◌++◌, Bool, true, false, ◌&&◌, if◌then◌else◌, map, refl, ap, sym, ◌∙◌, append_assoc, append-nil, arith, eq-eqb, ⊎_elim, ◌⊎◌}
+use Rattle.std.specs.List.{range_with_len, AllZip}
 use Rattle.std.proofs.lemmas.Bool.{true≢false, and_parts, and_from, or_cases, or_left, or_right, ne_eqb, eqb-true, cases_eq}
 use Rattle.std.proofs.lemmas.List.Folds.{list_any-append}
 use Rattle.std.proofs.lemmas.Grind.{flat_map-append}
-use Rattle.fl_graph.specs.Net.{has, count, takes, gives}
+use Rattle.fl_graph.specs.Net.{has, count, gives}
 use Rattle.fl_graph.specs.Checks.{takes_given, each_after}
 use Rattle.fl_graph.specs.declared.graphs.Cell.{Cell}
-use Rattle.fl_graph.proofs.ListLemmas.{holds-has, all-has, count-append}
+use Rattle.fl_graph.proofs.ListLemmas.{holds-has, all-has}
 use Rattle.fl_graph.proofs.NetLemmas.{has-front, has-back}
-use Rattle.fl_rewrites.proofs.OrderLemmas.{OfAll, of-both, told, count-here, present-count}
+use Rattle.fl_rewrites.proofs.OrderLemmas.{OfAll, told}
 
 -- tests of nodes in order go on behind a part
 pub after-front : {Kind : Type 0} (test : List (Cell Kind) → Cell Kind → Bool) (before front back : List (Cell Kind))

@@ -1,5 +1,5 @@
 -- Tables of places, filled from the last edge to the first, and nodes that get new edges one after another.
-use Rattle.std.proofs.Common.{◌≡◌, ℕ, zero, suc, ◌+◌, ◌-◌, ◌<◌, ◌≤◌, ◌==◌, List, [], ◌∷◌, ◌++◌, Bool, true, false, if◌then◌else◌, length, map, get_or, set, take, drop, max, replicate, refl, ap, sym, ◌∙◌, append-nil, arith, eq-eqb, ⊎_elim}
+use Rattle.std.proofs.Common.{◌≡◌, ℕ, zero, suc, ◌+◌, ◌-◌, ◌<◌, ◌≤◌, ◌==◌, List, [], ◌∷◌, ◌++◌, Bool, true, false, if◌then◌else◌, length, map, get_or, set, take, drop, replicate, refl, ap, sym, ◌∙◌, append-nil, arith, eq-eqb, ⊎_elim}
 use Rattle.std.proofs.lemmas.Bool.{ne_eqb, cases_eq}
 use Rattle.std.proofs.lemmas.List.{drop_more, drop_all, take_all, take_more, get_or-set_same, get_or-set_other, get_or_at, set_at, length-map, length-take-le, length-replicate, length-set}
 use Rattle.fl_rewrites.specs.Numbering.{place}

@@ -1,13 +1,13 @@
 -- Values that know less of where their text comes from: a graph at which only these come asks less of its sources, and does the same.
-use Rattle.std.proofs.Common.{◌≡◌, ℕ, ◌==◌, List, [], ◌∷◌, ◌++◌, Bool, true, false, ◌&&◌, if◌then◌else◌, length, map, refl, ap, sym, subst, ◌∙◌}
+use Rattle.std.proofs.Common.{◌≡◌, ℕ, List, [], ◌∷◌, ◌++◌, Bool, true, false, ◌&&◌, if◌then◌else◌, map, refl, ap, sym, subst, ◌∙◌}
 use Rattle.std.specs.List.{concat, flat_map, list_all, AllZip}
-use Rattle.std.proofs.lemmas.Bool.{true≢false, and_parts, and_from, cond-true, cond-false, false_from_ne_true}
+use Rattle.std.proofs.lemmas.Bool.{true≢false, and_parts, and_from}
 use Rattle.ps_lines.specs.Lines.{is_closed, is_cutlist, is_empty}
 use Rattle.fl_graph.specs.Makers.{all_hold}
 use Rattle.fl_graph.specs.declared.kinds.NodeKind.{NodeKind}
 use Rattle.fl_graph.specs.declared.kinds.NodeKind.TheVariants as kind
-use Rattle.fl_classes.specs.Flow.{Placed, texts_given}
-use Rattle.fl_rewrites.specs.Suits.{Value, is_file, group_of, groups_given, maps_given, with_origin, values_given, asks}
+use Rattle.fl_classes.specs.Flow.{texts_given}
+use Rattle.fl_rewrites.specs.Suits.{Value, group_of, groups_given, maps_given, with_origin, values_given, asks}
 use Rattle.fl_rewrites.proofs.CarryLemmas.{text_of}
 
 -- the second list is the first with some left out

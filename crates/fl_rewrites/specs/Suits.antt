@@ -4,7 +4,7 @@
 use Rattle.std.specs.Prelude.{◌≡◌, ℕ, List, [], ◌∷◌, Bool, true, false, if◌then◌else◌, map}
 use Rattle.std.specs.List.{concat, flat_map, list_all}
 use Rattle.ps_lines.specs.Lines.{is_cutlist}
-use Rattle.fl_graph.specs.Net.{after, run}
+use Rattle.fl_graph.specs.Net.{run}
 use Rattle.fl_graph.specs.Makers.{all_hold}
 use Rattle.fl_graph.specs.declared.graphs.Cell.{Cell}
 use Rattle.fl_graph.specs.declared.kinds.NodeKind.{NodeKind}

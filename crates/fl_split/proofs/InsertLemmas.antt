@@ -1,9 +1,9 @@
 -- A split and a Cat before a node: the graph is valid, and keeps the flow.
-use Rattle.std.proofs.Common.{◌≡◌, ℕ, zero, suc, ◌+◌, ◌-◌, ◌<◌, ◌≤◌, List, [], ◌∷◌, ◌++◌, Bool, true, false, ◌&&◌, nat_le, if◌then◌else◌, Option, None, Some, length, map, get_or, set, refl, ap, sym, subst, ◌∙◌, arith}
+use Rattle.std.proofs.Common.{◌≡◌, ℕ, zero, suc, ◌+◌, ◌<◌, ◌≤◌, List, [], ◌∷◌, ◌++◌, Bool, true, false, nat_le, if◌then◌else◌, Option, None, Some, length, map, get_or, set, refl, ap, sym, subst, ◌∙◌, arith}
 use Rattle.std.specs.List.{list_all, slice_get, insert, range_with_len}
-use Rattle.std.specs.Option.{option_map, option_map_or}
-use Rattle.std.proofs.lemmas.Bool.{true≢false, and_parts, and_from, leb-true, cond-true}
-use Rattle.std.proofs.lemmas.Option.{none-some, same_Some, slice_get_within, cond_some}
+use Rattle.std.specs.Option.{option_map_or}
+use Rattle.std.proofs.lemmas.Bool.{true≢false, and_parts, and_from, leb-true}
+use Rattle.std.proofs.lemmas.Option.{none-some, slice_get_within, cond_some}
 use Rattle.std.proofs.lemmas.List.Folds.{list_all-append, list_all-map}
 use Rattle.std.proofs.lemmas.Grind.{flat_map-append}
 use Rattle.ps_world.specs.Paths.{Components}
@@ -11,10 +11,10 @@ use Rattle.fl_graph.specs.Net.{has, takes, gives}
 use Rattle.fl_graph.specs.declared.graphs.Cell.{Cell}
 use Rattle.fl_graph.specs.declared.graphs.Graph.{Graph}
 use Rattle.fl_graph.specs.declared.graphs.StatusRule.{StatusRule}
-use Rattle.fl_graph.specs.Kinds.{has_its_ports, is_input, is_output, reads_one_input, has_its_class, runs_what_is_built}
+use Rattle.fl_graph.specs.Kinds.{is_input, is_output, reads_one_input, has_its_class, runs_what_is_built}
 use Rattle.fl_graph.specs.Makers.{all_hold}
 use Rattle.fl_graph.specs.Paths.{paths_read, paths_written, path_read, path_written, ArePathsApart}
-use Rattle.fl_graph.specs.Valid.{HasOneOfEachEnd, Valid, nodes_named, names_selector}
+use Rattle.fl_graph.specs.Valid.{Valid, nodes_named, names_selector}
 use Rattle.fl_graph.specs.declared.kinds.NodeKind.{NodeKind}
 use Rattle.fl_graph.specs.declared.kinds.NodeKind.TheVariants as kind
 use Rattle.fl_graph.proofs.ListLemmas.{list_all-agree}
@@ -24,15 +24,15 @@ use Rattle.fl_rewrites.specs.Numbering.{numbered}
 use Rattle.fl_rewrites.specs.Places.{replaced, taker_of}
 use Rattle.fl_rewrites.specs.Suits.{Value, values_given, asks}
 use Rattle.fl_rewrites.specs.Keeps.{Keeps}
-use Rattle.fl_rewrites.proofs.OrderLemmas.{Each, each-append, each-front, each-back, OfAll, IsWired, IsMet, along, told}
+use Rattle.fl_rewrites.proofs.OrderLemmas.{Each, each-append, each-front, each-back, OfAll, IsWired, IsMet, along}
 use Rattle.fl_rewrites.proofs.NumberLemmas.{taken-given}
-use Rattle.fl_rewrites.proofs.PlacedLemmas.{sources_behind, placed-append, next_source, numbered_cell}
+use Rattle.fl_rewrites.proofs.PlacedLemmas.{sources_behind, placed-append, next_source}
 use Rattle.fl_rewrites.proofs.SoundLemmas.{IsSound, sound-valid}
 use Rattle.fl_rewrites.proofs.CarryLemmas.{Carries, asked, written, selected, LeavesSame, LeavesAlways, keeps}
 use Rattle.fl_rewrites.proofs.SpliceLemmas.{told-append}
 use Rattle.fl_rewrites.proofs.PlaceLemmas.{StandsAt, stands-at, taker-takes}
 use Rattle.fl_split.specs.declared.inserting.TheConstants.{MAX_PARTS}
-use Rattle.fl_split.specs.Inserting.{may_have_parts, may_take_parts, split_cell, join_cell, turned_cell, turned, split_cells, moved, moved_status, split_graph, may_be_split, site_at, site_of, with_split}
+use Rattle.fl_split.specs.Inserting.{may_have_parts, may_take_parts, split_cell, join_cell, turned_cell, turned, split_cells, moved, moved_status, split_graph, may_be_split, site_at, site_of}
 use Rattle.fl_split.proofs.KindLemmas.{put, kinds-all, kinds-count, kinds-found, ports-kept, selector-moved, named-moved, status-moved}
 use Rattle.fl_split.proofs.WireLemmas.{wired-split}
 use Rattle.fl_split.proofs.MapLemmas.{maps-split}

@@ -1,10 +1,9 @@
 -- A split and a Cat before a node: what is asked of the kinds of nodes alone, and of the numbers that a status names.
-use Rattle.std.proofs.Common.{◌≡◌, ℕ, zero, suc, ◌+◌, ◌<◌, ◌≤◌, ◌==◌, List, [], ◌∷◌, ◌++◌, Bool, true, false, ◌&&◌, ◌||◌, nat_lt, nat_le, if◌then◌else◌, Option, None, length, map, get_or, refl, ap, sym, ◌∙◌, arith, ⊎_elim}
+use Rattle.std.proofs.Common.{◌≡◌, ℕ, zero, suc, ◌+◌, ◌<◌, ◌≤◌, ◌==◌, List, [], ◌∷◌, ◌++◌, Bool, true, false, ◌&&◌, ◌||◌, nat_le, if◌then◌else◌, Option, None, length, map, get_or, refl, ap, sym, ◌∙◌, arith, ⊎_elim}
 use Rattle.std.specs.List.{list_all, list_any, count_by, filter_map, cons_option, sum_by, range_with_len}
 use Rattle.std.proofs.lemmas.Bool.{and_parts, and_from, lt-ltb, le-ltb, le-leb, cases_lt}
 use Rattle.std.proofs.lemmas.List.{length-map, map-append}
 use Rattle.std.proofs.lemmas.List.FromFn.{length-range_with_len}
-use Rattle.std.proofs.lemmas.List.Folds.{list_all-map}
 use Rattle.std.proofs.lemmas.List.Sums.{sum_by-cons}
 use Rattle.fl_graph.specs.declared.graphs.Cell.{Cell}
 use Rattle.fl_graph.specs.declared.graphs.StatusRule.{StatusRule}
@@ -13,7 +12,6 @@ use Rattle.fl_graph.specs.Kinds.{may_have, has_its_ports, selects_lines}
 use Rattle.fl_graph.specs.Valid.{nodes_named, names_selector}
 use Rattle.fl_graph.specs.declared.kinds.NodeKind.{NodeKind}
 use Rattle.fl_graph.specs.declared.kinds.NodeKind.TheVariants as kind
-use Rattle.fl_graph.proofs.ListLemmas.{list_all-agree}
 use Rattle.fl_classes.specs.Flow.{status_by}
 use Rattle.fl_split.specs.Inserting.{split_cell, join_cell, turned_cell, turned, split_cells, moved, moved_status}
 

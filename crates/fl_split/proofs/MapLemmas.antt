@@ -1,6 +1,6 @@
 -- A split and a Cat before a node that joins no maps: aggregates and finishes still join maps of their own words.
-use Rattle.std.proofs.Common.{◌≡◌, ℕ, zero, suc, ◌+◌, ◌<◌, ◌≤◌, ◌==◌, List, [], ◌∷◌, ◌++◌, Bool, true, false, ◌&&◌, nat_lt, if◌then◌else◌, length, map, replicate, refl, ap, sym, ◌∙◌, arith}
-use Rattle.std.specs.List.{list_all, flat_map, range_with_len}
+use Rattle.std.proofs.Common.{◌≡◌, ℕ, zero, suc, ◌+◌, ◌<◌, ◌≤◌, List, [], ◌∷◌, ◌++◌, Bool, true, ◌&&◌, nat_lt, if◌then◌else◌, length, map, replicate, refl, ap, sym, ◌∙◌, arith}
+use Rattle.std.specs.List.{range_with_len}
 use Rattle.std.proofs.lemmas.Bool.{true≢false, lt-ltb, le-ltb}
 use Rattle.std.proofs.lemmas.List.Folds.{list_all-append}
 use Rattle.std.proofs.lemmas.Grind.{flat_map-append}
@@ -14,7 +14,7 @@ use Rattle.fl_rewrites.proofs.OrderLemmas.{Each, each-append, each-front, each-b
 use Rattle.fl_rewrites.proofs.NumberLemmas.{taken-given}
 use Rattle.fl_rewrites.proofs.SoundLemmas.{maps-told, made-met}
 use Rattle.fl_rewrites.proofs.SpliceLemmas.{told-append}
-use Rattle.fl_split.specs.Inserting.{may_take_parts, split_cell, join_cell, turned_cell, turned, split_cells}
+use Rattle.fl_split.specs.Inserting.{may_take_parts, turned}
 use Rattle.fl_split.proofs.KindLemmas.{put}
 
 -- a node that joins no maps asks nothing of their words

@@ -1,23 +1,23 @@
 -- A split and a Cat before a node: what comes at the node is the text that came, and knows less of where it comes from. So all edges carry
 -- what they did, and know less.
-use Rattle.std.proofs.Common.{◌≡◌, ℕ, ◌+◌, ◌<◌, ◌≤◌, ◌==◌, List, [], ◌∷◌, ◌++◌, Bool, true, false, ◌&&◌, if◌then◌else◌, length, map, get_or, refl, ap, sym, subst, ◌∙◌, arith, eq-eqb}
+use Rattle.std.proofs.Common.{◌≡◌, ℕ, ◌+◌, ◌≤◌, ◌==◌, List, [], ◌∷◌, Bool, true, false, ◌&&◌, if◌then◌else◌, length, map, get_or, refl, ap, sym, subst, ◌∙◌, arith, eq-eqb}
 use Rattle.std.specs.List.{concat, flat_map, list_all, range_with_len, AllZip}
 use Rattle.std.proofs.lemmas.Bool.{true≢false, and_parts, and_from, eqb-true, or_left, or_right}
 use Rattle.std.proofs.lemmas.List.{map-id}
 use Rattle.std.proofs.lemmas.List.FromFn.{length-range_with_len}
 use Rattle.std.proofs.lemmas.List.Folds.{list_all-append}
 use Rattle.ps_lines.specs.Lines.{is_cutlist}
-use Rattle.fl_graph.specs.Net.{has, takes, gives}
+use Rattle.fl_graph.specs.Net.{has, takes}
 use Rattle.fl_graph.specs.declared.graphs.Cell.{Cell}
 use Rattle.fl_graph.specs.Makers.{all_hold}
 use Rattle.fl_graph.specs.declared.kinds.NodeKind.{NodeKind}
 use Rattle.fl_graph.specs.declared.kinds.NodeKind.TheVariants as kind
 use Rattle.fl_graph.proofs.NetLemmas.{has-front, has-back}
-use Rattle.fl_classes.specs.Flow.{Placed, placed_from, texts_given, writes_of, selects}
+use Rattle.fl_classes.specs.Flow.{writes_of, selects}
 use Rattle.fl_classes.specs.Parts.{parts_of}
 use Rattle.fl_classes.proofs.PartLemmas.{parts-joined, parts_of-count}
-use Rattle.fl_rewrites.specs.Suits.{Value, with_origin, values_given, group_of, groups_given, asks}
-use Rattle.fl_rewrites.proofs.OrderLemmas.{Each, OfAll, IsMet, told, told-agree}
+use Rattle.fl_rewrites.specs.Suits.{Value, with_origin, values_given, group_of, asks}
+use Rattle.fl_rewrites.proofs.OrderLemmas.{Each, OfAll, IsMet, told-agree}
 use Rattle.fl_rewrites.proofs.PlacedLemmas.{numbered_cell, next_source}
 use Rattle.fl_rewrites.proofs.CarryLemmas.{Carries, text_of, map-after, asked, written, selected}
 use Rattle.fl_rewrites.proofs.SpliceLemmas.{related-values, all-related}

@@ -1,7 +1,7 @@
 -- A split and a Cat before a node: the edges are still given once, taken once, and by a later node.
-use Rattle.std.proofs.Common.{◌≡◌, ℕ, ◌+◌, ◌<◌, ◌≤◌, ◌==◌, List, [], ◌∷◌, ◌++◌, Bool, true, false, ◌&&◌, if◌then◌else◌, length, map, refl, ap, sym, ◌∙◌, arith, eq-eqb, ⊎_elim}
-use Rattle.std.specs.List.{list_all, flat_map, range_with_len}
-use Rattle.std.proofs.lemmas.Bool.{true≢false, and_parts, and_from, eqb-true, ne_eqb, cases_lt, cases_eq, or_left, false_from_ne_true}
+use Rattle.std.proofs.Common.{◌≡◌, ℕ, ◌+◌, ◌<◌, ◌≤◌, ◌==◌, List, [], ◌∷◌, ◌++◌, Bool, true, false, if◌then◌else◌, map, refl, ap, sym, ◌∙◌, arith, eq-eqb, ⊎_elim}
+use Rattle.std.specs.List.{range_with_len}
+use Rattle.std.proofs.lemmas.Bool.{and_parts, and_from, eqb-true, cases_lt, or_left, false_from_ne_true}
 use Rattle.std.proofs.lemmas.Grind.{flat_map-append}
 use Rattle.fl_graph.specs.Net.{has, count, takes, gives}
 use Rattle.fl_graph.specs.Checks.{takes_given, each_after}
@@ -9,10 +9,10 @@ use Rattle.fl_graph.specs.declared.graphs.Cell.{Cell}
 use Rattle.fl_graph.specs.declared.kinds.NodeKind.{NodeKind}
 use Rattle.fl_graph.proofs.ListLemmas.{holds-has, all-has, count-append, count-has, count-none}
 use Rattle.fl_graph.proofs.NetLemmas.{has-front, has-back}
-use Rattle.fl_rewrites.proofs.OrderLemmas.{OfAll, IsWired, count-here, present-count}
+use Rattle.fl_rewrites.proofs.OrderLemmas.{IsWired}
 use Rattle.fl_rewrites.proofs.NumberLemmas.{of-mapped}
 use Rattle.fl_rewrites.proofs.SpliceLemmas.{after-front, gives-behind, has-either, later-more, count-fresh, count-low}
-use Rattle.fl_split.specs.Inserting.{split_cell, join_cell, turned_cell, turned, split_cells}
+use Rattle.fl_split.specs.Inserting.{split_cell, join_cell, turned_cell, turned}
 use Rattle.fl_split.proofs.KindLemmas.{put}
 
 -- an edge in place of another

@@ -1,4 +1,4 @@
-use Rattle.std.proofs.Common.{◌≡◌, ◌≤◌, length}
+use Rattle.std.proofs.Common.{◌≡◌}
 use Rattle.fl_rewrites.specs.Numbering.{renamed}
 use Rattle.fl_rewrites.specs.Inner.Tables.{looked_up}
 use Rattle.fl_rewrites.proofs.TableLemmas.{changed_up_to}

@@ -9,3 +9,6 @@ pub mod MergingLemmas
 pub mod PrefixLemmas
 pub mod PlaceLemmas
 pub mod UtilityLemmas
+pub mod SideLemmas
+pub mod ChoiceLemmas
+pub mod MergerLemmas

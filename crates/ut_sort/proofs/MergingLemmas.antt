@@ -1,12 +1,13 @@
 -- One step of a merge after another.
-use Rattle.std.proofs.Common.{◌≡◌, ℕ, List, [], ◌∷◌, ◌++◌, Bool, true, false, refl, ap, sym, ◌∙◌, append_assoc, append-nil, ◌⊎◌, inl, inr, Ordering}
-use Rattle.ps_lines.specs.Lines.{lines, text_of_lines, has_newline, is_closed, CutsLine}
+use Rattle.std.proofs.Common.{◌≡◌, ℕ, List, [], ◌∷◌, ◌++◌, Bool, true, false, not, refl, ap, sym, ◌∙◌, append_assoc, append-nil, ◌⊎◌, inl, inr, Ordering}
+use Rattle.ps_lines.specs.Lines.{are_lines, lines, text_of_lines, has_newline, is_closed, CutsLine}
 use Rattle.ps_lines.proofs.LineLemmas.{lines-held, text_of_lines-closed}
 use Rattle.ps_lines.proofs.ClosedLemmas.{closed-plain}
 use Rattle.ps_lines.proofs.TextsLemmas.{begins-trans}
-use Rattle.std.proofs.lemmas.Bool.{true≢false}
+use Rattle.std.proofs.lemmas.Bool.{and_parts, true≢false}
 use Rattle.ut_streams.specs.Streams.{Put, Wrote}
 use Rattle.ut_streams.proofs.StreamLemmas.{Wrote-trans, Wrote-put, Wrote-same, Wrote-broken}
+use Rattle.ut_sort.specs.declared.merging.Step.{Step}
 use Rattle.ut_sort.specs.declared.merging.Step.TheVariants as step
 use Rattle.ut_sort.specs.Merging.{by_step, step_of, merged, merged_texts, merged_with}
 
@@ -123,3 +124,20 @@ module _ (cmp : List ℕ → List ℕ → Ordering) (unique : Bool) where
       let was : merged_with cmp unique left right ([], []) ≡ merged_texts cmp unique left right =
       λ i. merged_texts cmp unique (append-nil left i) (append-nil right i) in
       record { kept = broken.kept; grew = λ ok. absurd (true≢false (sym ok)); part = rw (← was) (broken.part ([], [])) }
+
+-- the lines of both are lines
+module _ (cmp : List ℕ → List ℕ → Ordering) (unique : Bool) where
+  pub are_lines-merged : (items others : List (List ℕ)) → are_lines items ≡ true → are_lines others ≡ true → are_lines (merged cmp unique items others) ≡ true
+  are_lines-merged [] others are are' = are'
+  are_lines-merged (item ∷ items) [] are are' = are
+  are_lines-merged (item ∷ items) (other ∷ others) are are' =
+      let parts = and_parts (not (has_newline item)) (are_lines items) are in
+      let parts' = and_parts (not (has_newline other)) (are_lines others) are' in
+      by_next (step_of unique (cmp item other)) (merged cmp unique items (other ∷ others)) (merged cmp unique (item ∷ items) others) parts.0 parts'.0
+      (are_lines-merged items (other ∷ others) parts.1 are') (are_lines-merged (item ∷ items) others are parts'.1)
+    where
+      by_next : (next : Step) (left right : List (List ℕ)) → not (has_newline item) ≡ true → not (has_newline other) ≡ true → are_lines left ≡ true → are_lines right ≡ true
+          → are_lines (by_step next (item ∷ left) right (other ∷ right)) ≡ true
+      by_next step.PutLeft left right plain plain' are are' = rw plain are
+      by_next step.DropRight left right plain plain' are are' = are'
+      by_next step.PutRight left right plain plain' are are' = rw plain' are'

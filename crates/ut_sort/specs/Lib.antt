@@ -9,3 +9,5 @@ pub mod Prefixes
 pub mod LineOrders
 pub mod Places
 pub mod Writing
+pub mod Sides
+pub mod Choices

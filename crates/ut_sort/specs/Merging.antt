@@ -1,5 +1,5 @@
 -- The merge of two lists in order.
-use Rattle.std.specs.Prelude.{ℕ, List, [], ◌∷◌, ◌++◌, Bool, if◌then◌else◌}
+use Rattle.std.specs.Prelude.{ℕ, zero, suc, List, [], ◌∷◌, ◌++◌, Bool, if◌then◌else◌}
 use Rattle.std.specs.declared.cmp.Ordering.{Ordering}
 use Rattle.std.specs.declared.cmp.Ordering.TheVariants.{Less, Equal, Greater}
 use Rattle.ps_lines.specs.Lines.{lines, text_of_lines}
@@ -28,6 +28,11 @@ module _ {Item : Type 0} (cmp : Item → Item → Ordering) where
       (merged unique (item ∷ items) others)
       (other ∷ merged unique (item ∷ items) others)
 
+  -- those of so many lists, merged from the left
+  abbrev pub merged_all : Bool → (ℕ → List Item) → ℕ → List Item
+  merged_all unique lists zero = []
+  merged_all unique lists (suc count) = merged unique (merged_all unique lists count) (lists count)
+
 -- the text of the merge of two texts in order
 abbrev pub merged_texts : (List ℕ → List ℕ → Ordering) → Bool → List ℕ → List ℕ → List ℕ
 merged_texts cmp unique left right = text_of_lines (merged cmp unique (lines left) (lines right))
@@ -35,3 +40,7 @@ merged_texts cmp unique left right = text_of_lines (merged cmp unique (lines lef
 -- the same, of what has come and what is still to come of both
 abbrev pub merged_with : (List ℕ → List ℕ → Ordering) → Bool → List ℕ → List ℕ → List ℕ × List ℕ → List ℕ
 merged_with cmp unique left right more = merged_texts cmp unique (left ++ more.0) (right ++ more.1)
+
+-- the text of the merge of so many texts in order, from the left
+abbrev pub merged_of : (List ℕ → List ℕ → Ordering) → Bool → (ℕ → List ℕ) → ℕ → List ℕ
+merged_of cmp unique texts count = text_of_lines (merged_all cmp unique (λ port. lines (texts port)) count)

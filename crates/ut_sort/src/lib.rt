@@ -6,19 +6,24 @@
 //! sort.
 #![tactic(auto)]
 
+mod choices;
 mod fields;
 mod keys;
 pub mod laws;
 mod line_orders;
+mod mergers;
 mod merging;
 mod numbers;
 mod orders;
 mod places;
 mod prefixes;
+mod sides;
 mod sorter;
+mod texts;
 mod writing;
 
 pub use fields::behind_fields;
+pub use mergers::Merger;
 pub use merging::{merge, merge_some};
 pub use orders::order;
 pub use sorter::Sorter;

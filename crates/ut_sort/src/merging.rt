@@ -3,9 +3,11 @@ ghost use Rattle.std.specs.Prelude.{◌≡◌, ◌++◌, ◌⊎◌, List, [], �
 ghost use Rattle.std.specs.Result.{is_ok};
 ghost use Rattle.ps_lines.specs.Lines.{has_newline, is_closed};
 ghost use Rattle.ut_streams.specs.Streams.{Put, Wrote};
+ghost use Rattle.ut_sort.specs.LineOrders.{cmp_by};
 ghost use Rattle.ut_sort.specs.Merging.{merged_texts, merged_with, step_of as step_of_lem};
 ghost use Rattle.ut_sort.specs.Order.{order_of};
 
+use crate::line_orders::LineOrder;
 use crate::orders::order;
 use ps_lines::{Memory, cut_line};
 use std::cmp::Ordering;
@@ -79,10 +81,24 @@ pub fn merge_some<'t>(
 fn step_of(inv: &SortInv, line: &[u8], other: &[u8]) -> Step
     ensures { result ≡ step_of_lem inv.now.args.unique (order_of inv.now.args line.now other.now) }
 {
-    match order(inv, line, other) {
+    step_for(inv.args.unique, order(inv, line, other))
+}
+
+/// The same, in an order that is kept.
+pub(crate) fn step_by(order: &LineOrder, line: &[u8], other: &[u8]) -> Step
+    ensures { result ≡ step_of_lem order.now.unique (cmp_by order.now line.now other.now) }
+{
+    step_for(order.unique, order.compare(line, other))
+}
+
+/// What is done with two first lines of this order.
+fn step_for(unique: bool, order: Ordering) -> Step
+    ensures { result ≡ step_of_lem unique order }
+{
+    match order {
         Ordering::Less => Step::PutLeft,
         Ordering::Equal => {
-            if inv.args.unique {
+            if unique {
                 Step::DropRight
             } else {
                 Step::PutLeft

@@ -1,7 +1,8 @@
 -- What a node's end gave and took, behind each of its calls.
 use Rattle.std.proofs.Common.{◌≡◌, ℕ, ◌≤◌, List, [], ◌∷◌, ◌++◌, Bool, true, false, ◌||◌, Option, Some, None, is_some, refl, ap, sym, subst, ◌∙◌, append-nil, arith, Err}
 use Rattle.std.proofs.lemmas.Bool.{true≢false}
-use Rattle.fl_graph.specs.Runs.{are_closed, has_end, is_end, text_of}
+use Rattle.fl_graph.specs.Machines.{is_broken}
+use Rattle.fl_graph.specs.Runs.{are_closed, has_broken, has_end, is_end, text_of}
 use Rattle.fl_graph.specs.declared.pieces.Piece.{Piece}
 use Rattle.fl_graph.specs.declared.pieces.Piece.TheVariants as piece
 use Rattle.fl_graph.proofs.RunLemmas.{has_end-more}
@@ -14,6 +15,19 @@ use Rattle.ps_world.specs.Told.{bytes_then, then_bytes, GrewByPrefix, IsEnded}
 use Rattle.ps_world.specs.declared.error.WorldErr.{WorldErr}
 use Rattle.ps_world.specs.declared.error.WorldErr.TheVariants as error
 use Rattle.ps_world.proofs.ToldLemmas.{bytes_then-append, grew_by_front, grew_by_more, grew_by_nothing, then_bytes-append, then_bytes-nil, bytes_then-nil}
+
+-- a Broken is among pieces where one was or the last is
+has_broken-more : (pieces : List Piece) (last : Piece) → has_broken (pieces ++ last ∷ []) ≡ (has_broken pieces || is_broken last)
+has_broken-more [] last = or-none (is_broken last)
+  where
+    or-none : (test : Bool) → (test || false) ≡ test
+    or-none true = refl
+    or-none false = refl
+has_broken-more (first ∷ pieces) last = ap (λ (rest : Bool). is_broken first || rest) (has_broken-more pieces last) ∙ regrouped (is_broken first)
+  where
+    regrouped : (test : Bool) → (test || (has_broken pieces || is_broken last)) ≡ ((test || has_broken pieces) || is_broken last)
+    regrouped true = refl
+    regrouped false = refl
 
 -- a node that hasn't failed has no end that failed
 pub none-no_fault : (failure : Option WorldErr) → is_some failure ≡ false → is_fault failure ≡ false
@@ -64,17 +78,19 @@ received-before was failure some = record {
   same = record { role = refl; reads = refl; writes = refl };
   read = λ none. absurd (true≢false (sym some ∙ none));
   ended = λ none. absurd (true≢false (sym some ∙ none));
+  whole = λ none. absurd (true≢false (sym some ∙ none));
   broken = λ is. refl;
   fails = fails-kept failure was.faults some;
 }
 
 -- a piece was read
 pub received-now : (was now : EndState) (failure : Option WorldErr) (last : Piece) → is_some failure ≡ false → SameEnd was now
-    → was.left ≡ bytes_then (text_of (last ∷ [])) now.left → (is_end last ≡ true → IsEnded now.left) → now.faults ≡ was.faults → Received was now failure None last
-received-now was now failure last none same read ended calm = record {
+    → was.left ≡ bytes_then (text_of (last ∷ [])) now.left → (is_end last ≡ true → IsEnded now.left) → is_broken last ≡ false → now.faults ≡ was.faults → Received was now failure None last
+received-now was now failure last none same read ended whole calm = record {
   same = same;
   read = λ fine. read;
   ended = λ fine. ended;
+  whole = λ fine. whole;
   broken = λ never. absurd (true≢false (sym never));
   fails = record {
     kept = λ some. absurd (true≢false (sym some ∙ none));
@@ -91,6 +107,7 @@ received-failed was now failure why none same counts = record {
   same = same;
   read = λ never. absurd (true≢false never);
   ended = λ never. absurd (true≢false never);
+  whole = λ never. absurd (true≢false never);
   broken = λ is. refl;
   fails = fails-now failure why was.faults now.faults none counts;
 }
@@ -112,6 +129,7 @@ module _ (from : EndState) (apart : from.reads ≡ true → from.writes ≡ fals
     read = λ reads. sym (bytes_then-nil from.left);
     ended = λ reads never. absurd (true≢false (sym never));
     unread = λ reads none. refl;
+    sound = λ reads none. refl;
     written = λ writes none. sym (then_bytes-nil from.taken);
     front = λ writes. grew_by_nothing from.taken [];
     rose = λ never. absurd (true≢false (sym never));
@@ -129,6 +147,7 @@ module _ (from : EndState) (apart : from.reads ≡ true → from.writes ≡ fals
       read = moved.read;
       ended = moved.ended;
       unread = λ reads none. moved.unread reads (some none);
+      sound = λ reads none. moved.sound reads (some none);
       written = λ writes none. moved.written writes (some none);
       front = moved.front;
       rose = λ failed. moved.rose (sym fault ∙ failed);
@@ -186,6 +205,7 @@ module _ (from : EndState) (apart : from.reads ≡ true → from.writes ≡ fals
               ∙ ap (λ (bytes : List ℕ). bytes_then bytes moved.rest) (sym (text ∙ ap (λ (it : Piece). text_of outside ++ text_of (it ∷ [])) (received.broken is) ∙ append-nil (text_of outside)));
           ended = λ reads ended. absurd (true≢false (sym ended ∙ ends ∙ ap is_end (received.broken is)));
           unread = λ reads none. absurd (true≢false (sym is ∙ none));
+          sound = λ reads none. absurd (true≢false (sym is ∙ none));
           written = λ writes none. never-both reads writes;
           front = λ writes. never-both reads writes;
           rose = rose-then now failure' received.fails;
@@ -203,6 +223,10 @@ module _ (from : EndState) (apart : from.reads ≡ true → from.writes ≡ fals
               ∙ ap (λ (bytes : List ℕ). bytes_then bytes now.left) (sym text);
           ended = λ reads ended. received.ended is (sym ends ∙ ended);
           unread = λ reads none. refl;
+          sound = λ reads none.
+              has_broken-more outside last
+              ∙ ap (λ (test : Bool). test || is_broken last) (moved.sound reads (none-before now failure' received.fails is))
+              ∙ received.whole is;
           written = λ writes none. never-both reads writes;
           front = λ writes. never-both reads writes;
           rose = rose-then now failure' received.fails;
@@ -223,6 +247,7 @@ module _ (from : EndState) (apart : from.reads ≡ true → from.writes ≡ fals
       read = λ reads. never-both reads writes;
       ended = λ reads ended. never-both reads writes;
       unread = λ reads none. never-both reads writes;
+      sound = λ reads none. never-both reads writes;
       written = λ writes none.
           ok none
           ∙ ap (λ (told : Option (List ℕ)). then_bytes told (text_of (last ∷ []))) (moved.written writes (none-before now failure' fails none))

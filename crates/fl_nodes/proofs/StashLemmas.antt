@@ -1,6 +1,8 @@
 -- Halves that lie by the number of their edge.
 use Rattle.std.proofs.Common.{◌≡◌, ◌≢◌, ℕ, zero, suc, ◌+◌, ◌<◌, ◌≤◌, List, [], ◌∷◌, ◌++◌, Bool, true, ◌&&◌, map, length, get_or, take, drop, Option, Some, None, is_some, arith, refl, ap, sym, ◌∙◌}
+use Rattle.std.specs.List.{list_all}
 use Rattle.std.proofs.Math.Seq.{take-suc}
+use Rattle.std.proofs.lemmas.Bool.{and_from}
 use Rattle.std.proofs.lemmas.List.{map-append}
 use Rattle.fl_graph.specs.declared.pieces.Piece.{Piece}
 use Rattle.fl_relay.specs.declared.edges.EdgeGiver.{EdgeGiver}
@@ -80,6 +82,12 @@ drop-first (first ∷ edges) zero within = refl
 drop-first (first ∷ edges) (suc place) within =
     let shift : suc place + 1 ≡ suc (place + 1) = omega arith in
     drop-first edges place (omega (arith, within)) ∙ ap (λ (it : ℕ). get_or edges place 0 ∷ drop it (first ∷ edges)) (sym shift)
+
+-- what holds of the edge at a place, and of those behind it, holds of those from the place on
+pub all-from : (test : ℕ → Bool) (edges : List ℕ) (place : ℕ) → place < length edges → test (get_or edges place 0) ≡ true → list_all test (drop (place + 1) edges) ≡ true
+    → list_all test (drop place edges) ≡ true
+all-from test edges place within here behind =
+    ap (list_all test) (drop-first edges place within) ∙ and_from (test (get_or edges place 0)) (list_all test (drop (place + 1) edges)) here behind
 
 -- there is a half for each of the edges from a place on: one for the first, and where that is gone one for each of the rest
 pub has_each-first : {Half : Type 0} (stash : List (Option Half)) (edges : List ℕ) (place : ℕ) → place < length edges

@@ -1,7 +1,7 @@
 -- How far a node on a thread has come (own): the pieces that it has taken and put, held against its machine's beginning and what its end held.
 use Rattle.std.specs.Prelude.{◌≡◌, ℕ, zero, suc, ◌<◌, ◌≤◌, List, [], ◌∷◌, Bool, true, false, map, length, get_or, Option, Some, None, is_some}
-use Rattle.fl_graph.specs.Machines.{State, closes, is_mark}
-use Rattle.fl_graph.specs.Runs.{add, are_closed, text_of, has_end, is_end, Run}
+use Rattle.fl_graph.specs.Machines.{State, closes, is_broken, is_mark}
+use Rattle.fl_graph.specs.Runs.{add, are_closed, text_of, has_broken, has_end, is_end, Run}
 use Rattle.fl_graph.specs.declared.pieces.Piece.{Piece}
 use Rattle.fl_graph.specs.declared.pieces.Piece.TheVariants as variant
 use Rattle.fl_nodes.specs.Ends.{EndState, SameEnd}
@@ -93,6 +93,8 @@ pub record Moved (from now : EndState) (failure : Option WorldErr) (outside : Li
   pub read : from.reads ≡ true → from.left ≡ bytes_then (text_of outside) rest
   pub ended : from.reads ≡ true → has_end outside ≡ true → IsEnded rest
   pub unread : from.reads ≡ true → is_some failure ≡ false → now.left ≡ rest
+  -- no Broken came where it hasn't failed
+  pub sound : from.reads ≡ true → is_some failure ≡ false → has_broken outside ≡ false
   -- what went was taken, or a front of it
   pub written : from.writes ≡ true → is_some failure ≡ false → now.taken ≡ then_bytes from.taken (text_of outside)
   pub front : from.writes ≡ true → GrewByPrefix from.taken now.taken (text_of outside)
@@ -149,6 +151,7 @@ pub record Received (was now : EndState) (failure failure' : Option WorldErr) (p
   pub same : SameEnd was now
   pub read : is_some failure' ≡ false → was.left ≡ bytes_then (text_of (piece ∷ [])) now.left
   pub ended : is_some failure' ≡ false → is_end piece ≡ true → IsEnded now.left
+  pub whole : is_some failure' ≡ false → is_broken piece ≡ false
   pub broken : is_some failure' ≡ true → piece ≡ variant.Broken
   pub fails : Fails failure failure' was.faults now.faults
 

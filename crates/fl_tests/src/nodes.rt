@@ -32,16 +32,13 @@ fn reader<'a>(
 {
     let bytes = Vec::from_slice(alloc, text)?;
     let source = MemSource::in_pieces(bytes, 3, Vec::new(alloc));
-    let Ok(inlet) = Inlet::new(alloc, source) else {
-        return Err(Memory);
-    };
     let givers = vec![in alloc; giver]?;
     Ok(NodeJob {
         number: 0,
         machine: HandOn::new(),
         takers: Vec::new(alloc),
         givers,
-        own: Own::Reader(inlet),
+        own: Own::Reader(Inlet::new(source)),
         alloc,
         gate,
     })

@@ -9,7 +9,7 @@ pub returns-in-Ok : goal.returns-in-Ok
 returns-in-Ok g c =
     let none : is_some c.args.failure ≡ false = search rules in
     received-now (g.E.OwnEnd.state c.args.own.now) (g.E.OwnEnd.state c.read_piece.new.self) c.args.failure c.in-Ok.piece none c.in-Ok.ensures.same c.in-Ok.ensures.bytes c.in-Ok.ensures.ended
-    c.in-Ok.ensures.cause.ok
+    c.in-Ok.ensures.whole c.in-Ok.ensures.cause.ok
 
 pub returns-in-Err : goal.returns-in-Err
 returns-in-Err g c =

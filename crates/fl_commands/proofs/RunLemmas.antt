@@ -250,9 +250,9 @@ module _ {R W I O : Type 0} (of_reader : R → Option (List ℕ)) (of_input : I 
         of_tree =
             calm (ap has_count (ap (λ (counts : EndCounts). counts.readers) same ∙ each-same reader_faults over.numbered.readers.items readers over.readers_are) ∙ opens.fresh)
             ∙ calm_mid
-    cause-so came.Input rose = subst (λ (it : I). Rose (input_faults it) (input_faults back.input)) over.input_is rose.0
-    cause-so came.Output rose = subst (λ (it : O). Rose (output_faults it) (output_faults back.out)) over.out_is rose.0
-    cause-so came.Reader rose = subst (λ (it : ℕ). Rose it now) calm_mid (rises (risen (each_of reader_faults over.numbered.readers.items) (each_of reader_faults back.readers.items) rose.0))
+    cause-so came.Input rose = subst (λ (it : I). Rose (input_faults it) (input_faults back.input)) over.input_is rose
+    cause-so came.Output rose = subst (λ (it : O). Rose (output_faults it) (output_faults back.out)) over.out_is rose
+    cause-so came.Reader rose = subst (λ (it : ℕ). Rose it now) calm_mid (rises (risen (each_of reader_faults over.numbered.readers.items) (each_of reader_faults back.readers.items) rose))
     cause-so came.Writer rose = tt
     cause-so came.Memory same = tt
 

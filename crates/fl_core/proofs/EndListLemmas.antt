@@ -117,7 +117,8 @@ module _ {R W I O : Type 0} (cells : List (Cell NodeKind)) (ends : Ends R W I O)
           → Blames (λ node. faults (end_at cells ends node)) (λ node. faults (end_at cells ends' node)) result
       blames_none result none calm = moved (λ old new. Blames (λ node. faults (old node)) (λ node. faults (new node)) result) (record {
         fault = λ node is. absurd (none node is);
-        others = λ node other. calm node;
+        lowest = λ node is. absurd (none node is);
+        calm = λ never. calm;
         later = later;
       })
 
@@ -126,6 +127,7 @@ module _ {R W I O : Type 0} (cells : List (Cell NodeKind)) (ends : Ends R W I O)
           → Blames (λ node. faults (end_at cells ends node)) (λ node. faults (end_at cells ends' node)) (ran.Fault failed ends')
       blames_node failed rose calm = moved (λ old new. Blames (λ node. faults (old node)) (λ node. faults (new node)) (ran.Fault failed ends')) (record {
         fault = λ node is. subst (λ (it : ℕ). Rose (faults (end_by (role_at roles it) ends)) (faults (end_by (role_at roles' it) ends'))) is rose;
-        others = calm;
+        lowest = λ node is other below. calm other (λ (same : failed ≡ other). omega (arith, is, below, same));
+        calm = λ never. absurd (never failed refl);
         later = later;
       })

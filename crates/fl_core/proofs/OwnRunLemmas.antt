@@ -170,76 +170,33 @@ module _ {R W I O : Type 0} (of_reader : R → Option (List ℕ)) (of_input : I 
     }
 
     -- where the end of a node failed
-    module _ (failed : ℕ) (rose : Rose (faults ends failed) (faults back failed)) (calm : (node : ℕ) → (failed ≡ node → ⊥) → faults back node ≡ faults ends node) where
-      other-kinds : (cell : Cell NodeKind) → slice_get graph.nodes failed ≡ Some cell → (test : NodeKind → Bool) → test cell.kind ≡ false → Calm test
-      other-kinds cell at test differs node another there is =
-          calm node (λ same.
-          let one : cell ≡ another = (let both : Some cell ≡ Some another = sym at ∙ ap (slice_get graph.nodes) same ∙ there in cc) in
-          true≢false (sym is ∙ sym (ap (λ (it : Cell NodeKind). test it.kind) one) ∙ differs))
-
+    module _ (failed : ℕ) (rose : Rose (faults ends failed) (faults back failed)) where
       -- it rose at the end that a node of this kind has
       rose-at : (cell : Cell NodeKind) (it : NodeKind) → slice_get graph.nodes failed ≡ Some cell → cell.kind ≡ it → Rose (faults_of (own_end it failed ends)) (faults_of (own_end it failed back))
       rose-at cell it at same =
           subst (λ (count : ℕ). Rose count (faults_of (own_end it failed back))) (faults-at ends failed cell it at same)
           (subst (Rose (faults ends failed)) (faults-at back failed cell it at same) rose)
 
+      -- the node is among those of a kind that it is of
+      there : (cell : Cell NodeKind) → slice_get graph.nodes failed ≡ Some cell → (test : NodeKind → Bool) → test cell.kind ≡ true → has failed (numbers_where test 0 graph.nodes) ≡ true
+      there cell at test is = let here : 0 + failed ≡ failed = omega arith in subst (λ (number : ℕ). has number (numbers_where test 0 graph.nodes) ≡ true) here (node-has test 0 graph.nodes failed cell at is)
+
       -- or among the writers, where the node writes a file
-      writer-cause : (cell : Cell NodeKind) → slice_get graph.nodes failed ≡ Some cell → writes_file cell.kind ≡ true → is_input cell.kind ≡ false → is_output cell.kind ≡ false
-          → reads_file cell.kind ≡ false → HasCause came.Writer (counts ends) (counts back)
-      writer-cause cell at writes no_input no_output reads_none = (
-        subst (λ (old : List ℕ). RoseAmong old (each_of writer_faults back.writers.items)) (of-writers graph.nodes ends own faults_of)
-            (subst (RoseAmong (map (faults ends) (file_nodes 0 graph.nodes))) (of-writers graph.nodes back own-back faults_of)
-            (rose-among (faults ends) (faults back) (file_nodes 0 graph.nodes) failed there rose)),
-        λ i. record {
-          input = input-calm (other-kinds cell at is_input no_input) i;
-          output = output-calm (other-kinds cell at is_output no_output) i;
-          readers = readers-calm (other-kinds cell at reads_file reads_none) i;
-          writers = each_of writer_faults back.writers.items;
-        },
-      )
-        where
-          there : has failed (numbers_where writes_file 0 graph.nodes) ≡ true
-          there =
-              let here : 0 + failed ≡ failed = omega arith in
-              subst (λ (number : ℕ). has number (numbers_where writes_file 0 graph.nodes) ≡ true) here (node-has writes_file 0 graph.nodes failed cell at writes)
+      writer-cause : (cell : Cell NodeKind) → slice_get graph.nodes failed ≡ Some cell → writes_file cell.kind ≡ true → HasCause came.Writer (counts ends) (counts back)
+      writer-cause cell at writes =
+          subst (λ (old : List ℕ). RoseAmong old (each_of writer_faults back.writers.items)) (of-writers graph.nodes ends own faults_of)
+          (subst (RoseAmong (map (faults ends) (file_nodes 0 graph.nodes))) (of-writers graph.nodes back own-back faults_of)
+          (rose-among (faults ends) (faults back) (file_nodes 0 graph.nodes) failed (there cell at writes_file writes) rose))
 
       by-kind : (cell : Cell NodeKind) (it : NodeKind) → slice_get graph.nodes failed ≡ Some cell → cell.kind ≡ it → HasCause (came_by it) (counts ends) (counts back)
-      by-kind cell (kind.Source from.Input) at same = (
-        rose-at cell (kind.Source from.Input) at same,
-        λ i. record {
-          input = input_faults back.input;
-          output = output-calm (other-kinds cell at is_output (ap is_output same)) i;
-          readers = readers-calm (other-kinds cell at reads_file (ap reads_file same)) i;
-          writers = writers-calm (other-kinds cell at writes_file (ap writes_file same)) i;
-        },
-      )
-      by-kind cell (kind.Sink to.Output) at same = (
-        rose-at cell (kind.Sink to.Output) at same,
-        λ i. record {
-          input = input-calm (other-kinds cell at is_input (ap is_input same)) i;
-          output = output_faults back.out;
-          readers = readers-calm (other-kinds cell at reads_file (ap reads_file same)) i;
-          writers = writers-calm (other-kinds cell at writes_file (ap writes_file same)) i;
-        },
-      )
-      by-kind cell (kind.Source (from.File path)) at same = (
-        subst (λ (old : List ℕ). RoseAmong old (each_of reader_faults back.readers.items)) (of-readers graph.nodes ends own faults_of)
-            (subst (RoseAmong (map (faults ends) (file_sources 0 graph.nodes))) (of-readers graph.nodes back own-back faults_of)
-            (rose-among (faults ends) (faults back) (file_sources 0 graph.nodes) failed (there reads_file (ap reads_file same)) rose)),
-        λ i. record {
-          input = input-calm (other-kinds cell at is_input (ap is_input same)) i;
-          output = output-calm (other-kinds cell at is_output (ap is_output same)) i;
-          readers = each_of reader_faults back.readers.items;
-          writers = writers-calm (other-kinds cell at writes_file (ap writes_file same)) i;
-        },
-      )
-        where
-          there : (test : NodeKind → Bool) → test cell.kind ≡ true → has failed (numbers_where test 0 graph.nodes) ≡ true
-          there test is = let here : 0 + failed ≡ failed = omega arith in subst (λ (number : ℕ). has number (numbers_where test 0 graph.nodes) ≡ true) here (node-has test 0 graph.nodes failed cell at is)
-      by-kind cell (kind.Sink (to.File path mode)) at same =
-          writer-cause cell at (ap writes_file same) (ap is_input same) (ap is_output same) (ap reads_file same)
-      by-kind cell (kind.TeeFile path mode) at same =
-          writer-cause cell at (ap writes_file same) (ap is_input same) (ap is_output same) (ap reads_file same)
+      by-kind cell (kind.Source from.Input) at same = rose-at cell (kind.Source from.Input) at same
+      by-kind cell (kind.Sink to.Output) at same = rose-at cell (kind.Sink to.Output) at same
+      by-kind cell (kind.Source (from.File path)) at same =
+          subst (λ (old : List ℕ). RoseAmong old (each_of reader_faults back.readers.items)) (of-readers graph.nodes ends own faults_of)
+          (subst (RoseAmong (map (faults ends) (file_sources 0 graph.nodes))) (of-readers graph.nodes back own-back faults_of)
+          (rose-among (faults ends) (faults back) (file_sources 0 graph.nodes) failed (there cell at reads_file (ap reads_file same)) rose))
+      by-kind cell (kind.Sink (to.File path mode)) at same = writer-cause cell at (ap writes_file same)
+      by-kind cell (kind.TeeFile path mode) at same = writer-cause cell at (ap writes_file same)
       by-kind cell other at same = absurd (no-rise (rose-at cell other at same))
 
       failed-cause : HasCause (came_at graph.nodes failed) (counts ends) (counts back)
@@ -288,7 +245,7 @@ module _ {R W I O : Type 0} (of_reader : R → Option (List ℕ)) (of_input : I 
     out = out-kept (ran.Done status back) runs;
     readers = runs.kept.readers;
     writers = runs.kept.writers;
-    cause = all-calm (ran.Done status back) runs (λ node. runs.cause.others node (λ bad. bad));
+    cause = all-calm (ran.Done status back) runs (λ node. runs.cause.calm (λ other bad. bad) node);
     later_input = input-later (ran.Done status back) runs;
     later_output = output-later (ran.Done status back) runs;
     used_whole = runs.used_whole;
@@ -302,7 +259,7 @@ module _ {R W I O : Type 0} (of_reader : R → Option (List ℕ)) (of_input : I 
     out = out-kept (ran.Fault node back) runs;
     readers = runs.kept.readers;
     writers = runs.kept.writers;
-    cause = failed-cause (ran.Fault node back) runs node (runs.cause.fault node refl) (λ other differs. runs.cause.others other differs);
+    cause = failed-cause (ran.Fault node back) runs node (runs.cause.fault node refl);
     later_input = input-later (ran.Fault node back) runs;
     later_output = output-later (ran.Fault node back) runs;
     used_whole = fault-at graph.nodes node _;
@@ -316,7 +273,7 @@ module _ {R W I O : Type 0} (of_reader : R → Option (List ℕ)) (of_input : I 
     out = out-kept (ran.Memory back) runs;
     readers = runs.kept.readers;
     writers = runs.kept.writers;
-    cause = all-calm (ran.Memory back) runs (λ node. runs.cause.others node (λ bad. bad));
+    cause = all-calm (ran.Memory back) runs (λ node. runs.cause.calm (λ other bad. bad) node);
     later_input = input-later (ran.Memory back) runs;
     later_output = output-later (ran.Memory back) runs;
     used_whole = tt;

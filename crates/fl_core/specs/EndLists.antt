@@ -1,6 +1,6 @@
 -- The ends of a graph's nodes, in lists (own): a node of a file has the first end with its number, and those of standard input and standard
 -- output stand apart.
-use Rattle.std.specs.Prelude.{◌≡◌, ◌≤◌, ℕ, zero, suc, ◌+◌, ◌==◌, ◌||◌, List, [], ◌∷◌, Bool, true, false, if◌then◌else◌, map, slice_get, Option, Some, None, is_some}
+use Rattle.std.specs.Prelude.{◌≡◌, ◌<◌, ◌≤◌, ℕ, zero, suc, ◌+◌, ◌==◌, ◌||◌, List, [], ◌∷◌, Bool, true, false, if◌then◌else◌, map, slice_get, Option, Some, None, is_some}
 use Rattle.std.specs.Option.{option_map, option_and_then}
 use Rattle.ps_world.specs.Counts.{Rose}
 use Rattle.ps_world.specs.Paths.{Components}
@@ -146,10 +146,12 @@ module _ {R W I O : Type 0} where
   IsFaultOf (ran.Fault failed ends) node = failed ≡ node
   IsFaultOf (ran.Memory ends) node = ⊥
 
-  -- what it says of the counts of the nodes' ends: that of a node rose where its fault is told, and no other has changed
+  -- what it says of the counts of the nodes' ends: where a node's fault is told, its count rose, and it is the lowest whose count did, since on threads
+  -- several ends may fail in one run; elsewhere no count has changed
   pub record Blames (before now : ℕ → ℕ) (result : Ran R W I O) : Type 0 where
     pub fault : (node : ℕ) → IsFaultOf result node → Rose (before node) (now node)
-    pub others : (node : ℕ) → (IsFaultOf result node → ⊥) → now node ≡ before node
+    pub lowest : (node : ℕ) → IsFaultOf result node → (other : ℕ) → other < node → now other ≡ before other
+    pub calm : ((node : ℕ) → IsFaultOf result node → ⊥) → (node : ℕ) → now node ≡ before node
     pub later : (node : ℕ) → before node ≤ now node
 
   -- the same ends are there, in their order, and those that no node has are as they were

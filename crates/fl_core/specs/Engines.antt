@@ -37,7 +37,7 @@ module _ {R W I O : Type 0} (of_reader : R → Option (List ℕ)) (of_input : I 
         (taken_at of_writer of_output graph.nodes ends) (taken_at of_writer of_output graph.nodes (given_back ran))
     pub part : (sources : List (List ℕ)) → AreTold sources graph.nodes (left_at of_reader of_input graph.nodes ends)
         → GrewByPrefix (of_output ends.out) (of_output (given_back ran).out) (outcome graph sources).output
-    -- a fault is that of a node whose own end failed, and no other count has changed
+    -- a fault is that of the lowest node whose own end failed, and without one no count has changed
     pub cause : Blames (faults_at reader_faults writer_faults input_faults output_faults graph.nodes ends)
         (faults_at reader_faults writer_faults input_faults output_faults graph.nodes (given_back ran)) ran
     -- the ends come back in their order

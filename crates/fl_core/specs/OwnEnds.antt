@@ -63,13 +63,13 @@ pub record RoseAmong (old new : List ℕ) : Type 0 where
   pub is : slice_get new place ≡ Some now
   pub rose : Rose before now
 
--- a fault comes where the count of an end of its kind rose, and no count of another kind has changed
+-- a fault comes where the count of an end of its kind rose. On threads another end may have failed too; elsewhere no count has changed
 abbrev pub HasCause : Came → EndCounts → EndCounts → Type 0
 HasCause (came.Done status) old new = new ≡ old
-HasCause came.Input old new = Rose old.input new.input × (new ≡ record old { input = new.input })
-HasCause came.Output old new = Rose old.output new.output × (new ≡ record old { output = new.output })
-HasCause came.Reader old new = RoseAmong old.readers new.readers × (new ≡ record old { readers = new.readers })
-HasCause came.Writer old new = RoseAmong old.writers new.writers × (new ≡ record old { writers = new.writers })
+HasCause came.Input old new = Rose old.input new.input
+HasCause came.Output old new = Rose old.output new.output
+HasCause came.Reader old new = RoseAmong old.readers new.readers
+HasCause came.Writer old new = RoseAmong old.writers new.writers
 HasCause came.Memory old new = new ≡ old
 
 -- what the fault of a node of this kind is; one without an end has none

@@ -45,8 +45,8 @@ pub enum Ran<R, W, I, O> {
 ///
 /// Done comes where each node has stopped: the output and each file's writer have grown by their texts of the graph's outcome, and so the
 /// end of each node that writes by its text of the graph's flow, each source's end is read to its end, and the status is the graph's. A
-/// fault is that of the one end that failed. After a fault and after Memory the end of each node that writes has grown by a front of its
-/// text. `validate`, `are_run` and `have_ends` are the tests of what the caller owes.
+/// fault is that of the lowest node whose end failed. After a fault and after Memory the end of each node that writes has grown by a
+/// front of its text. `validate`, `are_run` and `have_ends` are the tests of what the caller owes.
 pub fn run_in_turn<R: Source, W: Sink, I: Source, O: Sink>(
     alloc: Global,
     graph: &Graph,

@@ -48,7 +48,7 @@ pub fn net_of(alloc: Global, graph: &Graph, cap: Option<u32>) -> Result<Net<Node
 }
 
 /// The number of edges, which is that of outs.
-pub(crate) fn edge_count(nodes: &[Node]) -> Result<usize, Memory>
+pub fn edge_count(nodes: &[Node]) -> Result<usize, Memory>
     ensures { IfOk result (λ count. count ≡ length (gives nodes.now)) }
 {
     let mut count: usize = 0;
@@ -166,7 +166,7 @@ fn machines_of(alloc: Global, nodes: &[Node]) -> Result<Vec<NodeMachine>, Memory
 }
 
 /// The machine of a node, at its beginning.
-fn machine_of(alloc: Global, node: &Node) -> Result<NodeMachine, Memory>
+pub fn machine_of(alloc: Global, node: &Node) -> Result<NodeMachine, Memory>
     requires ports { has_its_ports node.now ≡ true }
     requires inputs { reads_one_input node.now.kind ≡ true }
     requires built { runs_what_is_built node.now.kind ≡ true }
@@ -201,7 +201,7 @@ fn wires_of(alloc: Global, count: usize) -> Result<Vec<Wire>, Memory>
 }
 
 /// The rooms on the edges of a graph, of which there are so many.
-fn rooms_of(
+pub fn rooms_of(
     alloc: Global,
     nodes: &[Node],
     edges: usize,

@@ -12,9 +12,12 @@ use std::alloc::Global;
 
 /// Which end a node has.
 #[derive(Clone, Copy, Debug, PartialEq, Eq)]
-pub(crate) enum Role {
+pub enum Role {
+    /// None.
     Nothing,
+    /// What the source of standard input reads.
     Input,
+    /// What the sink of standard output writes.
     Output,
     /// The reader at this place in its list.
     Reader(usize),
@@ -56,7 +59,7 @@ fn has_end<R, W, I, O>(kind: &NodeKind, node: usize, ends: &Ends<R, W, I, O>) ->
 }
 
 /// The roles of all nodes of a graph.
-pub(crate) fn roles_of<R, W, I, O>(
+pub fn roles_of<R, W, I, O>(
     alloc: Global,
     graph: &Graph,
     ends: &Ends<R, W, I, O>,

@@ -1,0 +1,4 @@
+pub mod EachLemmas
+pub mod LaidLemmas
+pub mod PutLemmas
+pub mod SettledLemmas

@@ -1,5 +1,5 @@
 //! Where edges lead from and to, and how many there are.
-ghost use Rattle.std.specs.Prelude.{◌≡◌, ◌≤◌, ◌+◌, length, IfSome, IfNone};
+ghost use Rattle.std.specs.Prelude.{◌≡◌, ◌≤◌, ◌^◌, length, IfSome, IfNone};
 ghost use Rattle.fl_graph.specs.Net.{gives};
 ghost use Rattle.fl_rewrites.specs.Places.{giver_of as giver_of_lem, taker_of as taker_of_lem};
 
@@ -25,7 +25,8 @@ pub fn taker_of(nodes: &[Node], edge: u32) -> Option<usize>
 
 /// The number of edges, where it has 32 bits.
 pub fn edge_count(nodes: &[Node]) -> Option<u32>
-    ensures { IfSome result (λ count. count ≡ length (gives nodes.now)) }
+    ensures some { IfSome result (λ count. count ≡ length (gives nodes.now)) }
+    ensures none { IfNone result (2 ^ 32 ≤ length (gives nodes.now)) }
 {
     let mut count: u32 = 0;
     for node in nodes {

@@ -33,6 +33,8 @@ use Rattle.sh_eval.specs.Expanding.{with_text as with_text_of}
 use Rattle.sh_eval.specs.Targets.{Target}
 use Rattle.sh_eval.specs.Redirections.{Use, named_by, unless_busy, where_free, first_busy, Redirected, led, stopped, reading_at, writing_at, redirected, leads_to, goes_on_in, redirecting, in_redirections, uses_of, holding}
 use Rattle.fl_commands.specs.Inputs.{status_of}
+use Rattle.sh_eval.specs.Inner.Runs.{Does, takes}
+use Rattle.sh_eval.specs.Segments.{notes}
 use Rattle.sh_eval.specs.Utilities.{Called, appends, deals, needs_all, Made, make_file, make_files, write_files, noted_run, is_cat, has_input, words_without, Pages, Patterns, read, wrong, refers_back, given_to, inputs_in, has_none, reads_standard, taken_in, takes_inputs, tells_some, lines_told, made_by, texts_joined, writes_out, does_nothing, runs_utility, uses_by_operands}
 use Rattle.sh_eval.specs.Builtins.{misused, answers, sets, shifts, set_all, line_in, behind_line, reads}
 use Rattle.sh_eval.specs.Asking.{Asked, no_name, unknown, unlisted, unusable, utility, builtin, at_fault, does, asked_as, asked_by}
@@ -364,6 +366,17 @@ grows-files start paths text state grows = grows-trans start state (write_files 
 grows-noted : (start : State) (is : Bool) (ran : List (List ℕ)) (state : State) → Grows start state → Grows start (in_world (noted_run is ran) state)
 grows-noted start false ran state grows = grows
 grows-noted start true ran state grows = record { output = grows.output; errors = grows.errors; turns = grows.turns }
+
+grows-notes : (start : State) (ran : List (List (List ℕ))) (state : State) → Grows start state → Grows start (in_world (notes ran) state)
+grows-notes start ran state grows = record { output = grows.output; errors = grows.errors; turns = grows.turns }
+
+pub adds-takes : (does : Does) → Adds (takes does)
+adds-takes does state =
+    let taken = taken_in does.reads state in
+    let taken_grows = grows-if state does.reads (reads_to [] state) state (grows-reads_to state [] state (grows-self state)) (grows-self state) in
+    let noted = in_world (notes (does.ran state)) taken in
+    let noted_grows = grows-notes state (does.ran state) taken taken_grows in
+    grows-puts state (does.written state) (leaves (does.status state) noted) (record { output = noted_grows.output; errors = noted_grows.errors; turns = noted_grows.turns })
 
 module _ (pages : Pages) where
   pub adds-takes_inputs : (name : List ℕ) (called : Called) (paths : List Components) (is_whole : Bool) → Adds (takes_inputs pages name called paths is_whole)

@@ -15,7 +15,11 @@ pub mod RedirectionLoops
 pub mod SkippingLemmas
 pub mod SimpleSteps
 pub mod OperandSteps
+pub mod RunSteps
 pub mod UtilitySteps
 pub mod MeasureLemmas
 pub mod ScriptSteps
 pub mod OpeningLemmas
+pub mod SegmentLemmas
+pub mod GatheringLemmas
+pub mod SegmentSteps

@@ -113,7 +113,7 @@ own-checked (utility name called) assigns targets old new came is one = absurd (
 own-checked (builtin is_special means) assigns targets old new came is one = one
 
 -- another command is a utility
-utility-so : (name : List ℕ) (words : List (List ℕ)) (asked : Command) → is_own (does name words asked) ≡ false → does name words asked ≡ utility name (record { words = words; command = asked })
+pub utility-so : (name : List ℕ) (words : List (List ℕ)) (asked : Command) → is_own (does name words asked) ≡ false → does name words asked ≡ utility name (record { words = words; command = asked })
 utility-so name words command.True other = absurd (true≢false other)
 utility-so name words command.False other = absurd (true≢false other)
 utility-so name words command.Colon other = absurd (true≢false other)

@@ -6,3 +6,5 @@ pub mod Checks
 pub mod Faults
 pub mod Opening
 pub mod Inputs
+pub mod Runs
+pub mod Gathering

@@ -21,4 +21,5 @@ pub mod Leading
 pub mod Redirecting
 pub mod Reaching
 pub mod Table
+pub mod Segments
 pub mod Inner

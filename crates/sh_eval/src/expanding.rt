@@ -29,7 +29,7 @@ use sh_tree::{Redir, Word};
 use std::alloc::Global;
 
 /// The fields of words, by a shell's variables.
-fn fields_of<T: Tree>(
+pub(crate) fn fields_of<T: Tree>(
     alloc: Global,
     words: &[Word],
     shell: &mut Shell,

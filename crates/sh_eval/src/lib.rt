@@ -9,6 +9,10 @@
 //!
 //! Lists, pipelines, groups, subshells, `if`, loops, command substitutions, redirections and simple commands are evaluated. A utility runs
 //! by `fl_commands`, as a graph of its own; one that isn't built is refused as NotBuilt where it would run.
+//!
+//! A pipeline whose stages are all utilities is gathered to a segment and runs as one graph, through which its bytes stream
+//! (`gathering`, `segments`; `specs/Segments.antt` says what it does, which is what its stages mean one after the other). Every other
+//! pipeline runs stage by stage, and what a stage writes is kept for the next.
 #![tactic(auto)]
 
 mod builtins;
@@ -17,6 +21,7 @@ mod expanding;
 mod files;
 mod flows;
 mod gathered;
+mod gathering;
 pub mod laws;
 mod leading;
 mod lines;
@@ -29,6 +34,7 @@ mod reading;
 mod redirections;
 mod refusals;
 mod rests;
+mod segments;
 mod session;
 mod shell;
 mod simple;

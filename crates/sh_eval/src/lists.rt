@@ -12,12 +12,14 @@ ghost use Rattle.sh_eval.specs.Table.{pages};
 
 use crate::expanding::expand_words;
 use crate::flows::Flow;
+use crate::gathering::gather;
 use crate::opening::{close, open_tail};
 use crate::outcomes::{
-    How, Played, Position, goes_on, goes_round, has_command, joins, leave_condition, left_by,
-    negate, note_body, position_of, settled,
+    How, Played, Position, goes_on, goes_round, has_command, how_of, joins, leave_condition,
+    left_by, negate, note_body, position_of, settled,
 };
 use crate::refusals::Refusal;
+use crate::segments::run_segment;
 use crate::session::Session;
 use crate::shell::Shell;
 use crate::simple::run_simple;
@@ -271,7 +273,8 @@ fn eval_pipeline<T: Tree, I: Source + Send, O: Sink + Send, E: Sink, G: Gate, X:
     }
 }
 
-/// Evaluates the commands of a pipeline: one alone in this shell, and each of several in a subshell.
+/// Evaluates the commands of a pipeline: one alone in this shell, utilities that can be gathered as one graph, and all others one after the
+/// other, each in a subshell.
 #[cycle(evaluation)]
 fn eval_stages<T: Tree, I: Source + Send, O: Sink + Send, E: Sink, G: Gate, X: Engine>(
     stages: &[Command],
@@ -292,13 +295,24 @@ fn eval_stages<T: Tree, I: Source + Send, O: Sink + Send, E: Sink, G: Gate, X: E
         (point_of shell.new session.new (T.state tree.new) (seen_of (drawn_of (I.left result.input) (X.used engine.new)) (O.taken result.out) (E.taken err.new))
         (faults_of (I.faults result.input) (O.faults result.out) (E.faults err.new) (T.faults tree.new))) }
 {
+    let alloc = session.alloc();
     match stages {
         [only] => eval_command(only, shell, session, tree, input, out, err, gate, engine),
-        _ => eval_several(stages, shell, session, tree, input, out, err, gate, engine),
+        _ => match gather(alloc, stages, shell, &session.streams, tree) {
+            Ok(Some(segment)) => run_segment(
+                alloc, segment, shell, session, tree, input, out, err, gate, engine,
+            ),
+            Ok(None) => eval_several(stages, shell, session, tree, input, out, err, gate, engine),
+            Err(error) => Played {
+                how: how_of(error),
+                input,
+                out,
+            },
+        },
     }
 }
 
-/// Evaluates the several commands of a pipeline.
+/// Evaluates the several commands of a pipeline, one after the other.
 #[cycle(evaluation)]
 fn eval_several<T: Tree, I: Source + Send, O: Sink + Send, E: Sink, G: Gate, X: Engine>(
     stages: &[Command],

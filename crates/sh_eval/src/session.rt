@@ -77,6 +77,7 @@ impl Session {
     ghost use Rattle.std.specs.Prelude.{◌≡◌, IfOk, OnErr};
     ghost use Rattle.sh_eval.specs.Commands.{reading_piped};
     ghost use Rattle.sh_eval.specs.Meaning.{begun_session};
+    ghost use Rattle.sh_eval.specs.Segments.{no_pipe};
     ghost use Rattle.sh_eval.specs.States.{piping, reading, unpiped, innermost};
 
     /// The session in which a run begins: no pipe is open, and no path is held.
@@ -129,6 +130,13 @@ impl Session {
         let text = self.pipes.close(alloc);
         self.streams.to = place;
         text
+    }
+
+    /// Leaves nothing for a next stage.
+    pub(crate) fn empty_pipe(&mut self, alloc: Global)
+        ensures { self.new ≡ no_pipe self.old }
+    {
+        self.piped = Text::from_vec(Vec::new(alloc));
     }
 
     /// Reads what the stage before has written, and gives what was read until now.

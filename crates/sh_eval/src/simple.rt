@@ -37,7 +37,7 @@ use std::alloc::Global;
 use ut_args::{ArgFault, Inv, is_built, read_inv};
 
 /// The most operands of a utility.
-const MAX_OPERANDS: usize = 256;
+pub(crate) const MAX_OPERANDS: usize = 256;
 
 /// What a command does once its assignments are done.
 #[derive(Clone, Copy)]
@@ -55,7 +55,7 @@ pub(crate) enum Doing<'name, 'inv> {
 }
 
 /// Whether this is one of the shell's own commands.
-fn is_builtin(inv: &Inv) -> bool
+pub(crate) fn is_builtin(inv: &Inv) -> bool
     ensures { (name : List ℕ) (words : List (List ℕ)) → result ≡ is_own (does name words (command_of inv.now)) }
 {
     matches!(

@@ -1,17 +1,21 @@
 //! The utilities, as a shell runs them (XCU 2.9.1, and each utility's page).
-ghost use Rattle.std.specs.Prelude.{◌≡◌, ◌≤◌, ◌&&◌, ◌++◌, [], List, ℕ, false, length, true, IfErr, IfOk, OnErr, OnOk};
+ghost use Rattle.std.specs.Prelude.{◌≡◌, ◌≤◌, ◌&&◌, ◌++◌, [], List, ℕ, false, length, true, IfErr, IfOk, IfSome, OnErr, OnOk};
 ghost use Rattle.std.specs.List.{list_any};
 ghost use Rattle.ps_lines.specs.Texts.{texts_of};
 ghost use Rattle.ps_world.specs.Counts.{Counts};
+ghost use Rattle.ps_world.specs.Files.{NoWriterOut};
 ghost use Rattle.ut_args.specs.Built.{is_built_of};
 ghost use Rattle.ut_args.specs.Inputs.{operands_of};
 ghost use Rattle.ut_args.specs.Invocations.{command_of};
 ghost use Rattle.fl_commands.specs.Inner.Stages.{some_lacks as some_lacks_lem};
 ghost use Rattle.fl_commands.specs.Inputs.{status_of};
+ghost use Rattle.fl_commands.specs.Runs.{Runs, counts_of};
 ghost use Rattle.sh_eval.specs.Contract.{Drawn, Evaluates, IsSound, drawn_of, faults_of, point_of, seen_of};
 ghost use Rattle.sh_eval.specs.Inner.Inputs.{IsLooked, TakesStream, called_by, how_ended as how_ended_lem, is_stream_operand, line_at, line_of, lines_by, lines_of, reads_stream as reads_stream_lem, runs_behind, shell_ended};
 ghost use Rattle.sh_eval.specs.Inner.Opening.{LooksInVain};
+ghost use Rattle.sh_eval.specs.Inner.Runs.{AreMeant, CanRun, Does, asks_of, reads_head, reads_of, takes};
 ghost use Rattle.sh_eval.specs.Lines.{diagnostic as diagnostic_lem};
+ghost use Rattle.sh_eval.specs.Segments.{is_plain_place};
 ghost use Rattle.sh_eval.specs.Simple.{most_operands};
 ghost use Rattle.sh_eval.specs.States.{on};
 ghost use Rattle.sh_eval.specs.Table.{pages};
@@ -25,13 +29,22 @@ use crate::session::Session;
 use crate::shell::Shell;
 use crate::streams::{From, To};
 use crate::writing::{put, tell};
-use fl_commands::{Commanded, Ended, Operand, lacks, look_at, run_command};
+use fl_commands::{Commanded, Ended, Member, Operand, lacks, look_at, run_command, run_pipeline};
 use fl_core::Engine;
 use fl_segments::First;
 use ps_lines::{Memory, Text};
 use ps_world::{Gate, Place, Sink, Source, Tree, WorldErr};
 use std::alloc::Global;
 use ut_args::Inv;
+
+/// What is run over its inputs as one graph.
+#[derive(Clone, Copy)]
+pub(crate) enum Task<'task, 'operands> {
+    /// A utility, with what its operands name.
+    Utility(&'task Inv, &'operands [Operand]),
+    /// The members of a pipeline, each over the output of the one before.
+    Pipeline(&'task [Member]),
+}
 
 /// Runs a utility: what its operands lack is told, and its output for what can be read is written.
 pub(crate) fn run_utility<T: Tree, I: Source + Send, O: Sink + Send, E: Sink, G: Gate, X: Engine>(
@@ -65,17 +78,31 @@ pub(crate) fn run_utility<T: Tree, I: Source + Send, O: Sink + Send, E: Sink, G:
     }
 }
 
-/// Looks up what the operands of an invocation name.
+/// Looks up what the operands of an invocation name, as a part of a command.
 fn look_operands<T: Tree>(alloc: Global, inv: &Inv, tree: &mut T) -> Result<Vec<Operand>, How>
     ensures looked { IfOk result (λ found. IsLooked (T.state tree.old) (operands_of inv.now) found.items) }
     ensures state { T.state tree.new ≡ T.state tree.old }
     ensures ok { OnOk result (T.faults tree.new ≡ T.faults tree.old) }
     ensures err { IfErr result (λ how. LooksInVain how (T.state tree.old) (T.state tree.new) (T.faults tree.old) (T.faults tree.new)) }
 {
-    match look_at(alloc, inv.operands(), tree) {
+    match look_for_operands(alloc, inv, tree) {
         Ok(found) => Ok(found),
         Err(error) => Err(how_of(error)),
     }
+}
+
+/// Looks up what the operands of an invocation name. A fault is the tree's.
+pub(crate) fn look_for_operands<T: Tree>(
+    alloc: Global,
+    inv: &Inv,
+    tree: &mut T,
+) -> Result<Vec<Operand>, WorldErr>
+    ensures looked { IfOk result (λ found. IsLooked (T.state tree.old) (operands_of inv.now) found.items) }
+    ensures state { T.state tree.new ≡ T.state tree.old }
+    ensures cause { Counts (T.faults tree.old) (T.faults tree.new) result }
+{
+    let found = look_at(alloc, inv.operands(), tree)?;
+    Ok(found)
 }
 
 /// Runs a utility whose operands name these.
@@ -135,7 +162,7 @@ fn run_looked<T: Tree, I: Source + Send, O: Sink + Send, E: Sink, G: Gate, X: En
 }
 
 /// Whether a utility does nothing, since one of these operands has no input.
-fn skips(inv: &Inv, operands: &[Operand]) -> bool
+pub(crate) fn skips(inv: &Inv, operands: &[Operand]) -> bool
     ensures { result ≡ (needs_all_lem (command_of inv.now) && some_lacks_lem operands.now) }
 {
     needs_all(inv) && some_lacks(operands)
@@ -239,7 +266,45 @@ fn take_inputs<T: Tree, I: Source + Send, O: Sink + Send, E: Sink, G: Gate, X: E
         (point_of shell.new session.new (T.state tree.new) (seen_of (drawn_of (I.left result.input) (X.used engine.new)) (O.taken result.out) (E.taken err.new))
         (faults_of (I.faults result.input) (O.faults result.out) (E.faults err.new) (T.faults tree.new))) }
 {
-    let Ok(first) = take_stream(alloc, reads_stream(operands), session) else {
+    run_task(
+        alloc,
+        Task::Utility(inv, operands),
+        shell,
+        session,
+        tree,
+        input,
+        out,
+        err,
+        gate,
+        engine,
+    )
+}
+
+/// Runs a task, and writes its output where descriptor 1 leads.
+///
+/// Where that is the output of the run, it's written as it comes; elsewhere it's gathered and put there once the task has run.
+pub(crate) fn run_task<T: Tree, I: Source + Send, O: Sink + Send, E: Sink, G: Gate, X: Engine>(
+    alloc: Global,
+    task: Task<'_, '_>,
+    shell: &mut Shell,
+    session: &mut Session,
+    tree: &mut T,
+    input: I,
+    out: O,
+    err: &mut E,
+    gate: &G,
+    engine: &mut X,
+) -> Played<I, O>
+    requires ready { CanRun task (T.state tree.old) }
+    requires sound { IsSound session.old (T.state tree.old) }
+    ensures { (does : Does) → AreMeant (asks_of task.entry) (reads_of task.entry) does (T.state tree.old) → Evaluates (λ expansions. takes does)
+        (point_of shell.old session.old (T.state tree.old) (seen_of (drawn_of (I.left input) (X.used engine.old)) (O.taken out) (E.taken err.old))
+        (faults_of (I.faults input) (O.faults out) (E.faults err.old) (T.faults tree.old)))
+        result.how
+        (point_of shell.new session.new (T.state tree.new) (seen_of (drawn_of (I.left result.input) (X.used engine.new)) (O.taken result.out) (E.taken err.new))
+        (faults_of (I.faults result.input) (O.faults result.out) (E.faults err.new) (T.faults tree.new))) }
+{
+    let Ok(first) = take_stream(alloc, reads_input(task), session) else {
         return Played {
             how: How::Memory,
             input,
@@ -247,8 +312,8 @@ fn take_inputs<T: Tree, I: Source + Send, O: Sink + Send, E: Sink, G: Gate, X: E
         };
     };
     if let To::Output = &session.streams.to {
-        let Commanded { ended, input, out } = run_command(
-            alloc, inv, operands, &first, tree, input, out, gate, engine,
+        let Commanded { ended, input, out } = run_asked(
+            alloc, task, &first, tree, input, out, gate, engine,
         );
         let how = end(ended, shell);
         return Played { how, input, out };
@@ -257,10 +322,9 @@ fn take_inputs<T: Tree, I: Source + Send, O: Sink + Send, E: Sink, G: Gate, X: E
         ended,
         input,
         out: text,
-    } = run_command(
+    } = run_asked(
         alloc,
-        inv,
-        operands,
+        task,
         &first,
         tree,
         input,
@@ -276,6 +340,53 @@ fn take_inputs<T: Tree, I: Source + Send, O: Sink + Send, E: Sink, G: Gate, X: E
     let mut out = out;
     let how = put(text.as_slice(), session, tree, &mut out, err);
     Played { how, input, out }
+}
+
+/// Runs a task over its inputs, as a graph on the engine, and writes its output.
+fn run_asked<T: Tree, I: Source + Send, O: Sink + Send, G: Gate, X: Engine>(
+    alloc: Global,
+    task: Task<'_, '_>,
+    from: &First,
+    tree: &mut T,
+    input: I,
+    out: O,
+    gate: &G,
+    engine: &mut X,
+) -> Commanded<I, O>
+    requires ready { CanRun task (T.state tree.old) }
+    requires whole { IfSome (T.state tree.old).held NoWriterOut }
+    ensures { Runs (asks_of task.entry from.now) (T.state tree.old) (T.state tree.new) (I.left input) (I.left result.input) (O.taken out) (O.taken result.out)
+        (counts_of (I.faults input) (O.faults out) (T.faults tree.old)) (counts_of (I.faults result.input) (O.faults result.out) (T.faults tree.new))
+        (X.used engine.old) (X.used engine.new) result.ended }
+{
+    match task {
+        Task::Utility(inv, operands) => {
+            run_command(alloc, inv, operands, from, tree, input, out, gate, engine)
+        }
+        Task::Pipeline(members) => run_pipeline(
+            alloc, members, from, tree, input, out, gate, engine,
+        ),
+    }
+}
+
+/// Whether a task reads the standard input.
+fn reads_input(task: Task<'_, '_>) -> bool
+    ensures { result ≡ reads_of task.entry }
+{
+    match task {
+        Task::Utility(_, operands) => reads_stream(operands),
+        Task::Pipeline(members) => head_reads(members),
+    }
+}
+
+/// Whether the first member of a pipeline reads the standard input.
+fn head_reads(members: &[Member]) -> bool
+    ensures { result ≡ reads_head members.now }
+{
+    match members {
+        [] => false,
+        [first, ..] => reads_stream(first.operands.as_slice()),
+    }
 }
 
 /// Leaves the status of a utility that has run, and gives how its command goes on.
@@ -371,7 +482,7 @@ fn is_silent(inv: &Inv) -> bool
 }
 
 /// Tells lines, if there is one.
-fn tell_some<T: Tree, O: Sink, E: Sink>(
+pub(crate) fn tell_some<T: Tree, O: Sink, E: Sink>(
     lines: &[u8],
     session: &mut Session,
     tree: &mut T,
@@ -380,6 +491,7 @@ fn tell_some<T: Tree, O: Sink, E: Sink>(
 ) -> How
     requires sound { IsSound session.old (T.state tree.old) }
     ensures untouched { lines.now ≡ [] → T.state tree.new ≡ T.state tree.old }
+    ensures aside { is_plain_place session.old.streams.errors_to ≡ true → T.state tree.new ≡ T.state tree.old }
     ensures evaluates { (shell : Shell) (drawn : Drawn) (input : ℕ) → Evaluates (λ expansions state. on (tells_some lines.now state))
         (point_of shell session.old (T.state tree.old) (seen_of drawn (O.taken out.old) (E.taken err.old))
         (faults_of input (O.faults out.old) (E.faults err.old) (T.faults tree.old)))
@@ -394,7 +506,7 @@ fn tell_some<T: Tree, O: Sink, E: Sink>(
 }
 
 /// The lines of the operands of an invocation that have no input, where it tells them.
-fn lines_told(
+pub(crate) fn lines_told(
     alloc: Global,
     name: &[u8],
     inv: &Inv,

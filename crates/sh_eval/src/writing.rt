@@ -1,10 +1,11 @@
 //! What a shell writes, where its descriptors lead (XCU 2.7).
-ghost use Rattle.std.specs.Prelude.{◌≡◌, ℕ, ◌≤◌, List, Option, IfSome, IsErrOf, OnOk};
+ghost use Rattle.std.specs.Prelude.{◌≡◌, ℕ, ◌≤◌, List, true, IfSome, IsErrOf, OnOk};
 ghost use Rattle.std.specs.Option.{option_map};
 ghost use Rattle.ps_world.specs.Counts.{Rose};
 ghost use Rattle.ps_world.specs.Files.{IsFileAt};
 ghost use Rattle.ps_world.specs.TreeState.{Balanced};
 ghost use Rattle.sh_eval.specs.Contract.{CanTake, Drawn, Evaluates, IsSound, faults_of, point_of, seen_of};
+ghost use Rattle.sh_eval.specs.Segments.{is_plain_place};
 ghost use Rattle.sh_eval.specs.States.{on, puts, tells, write};
 ghost use Rattle.sh_eval.specs.Writing.{added_to, kept as kept_lem, written as written_lem};
 ghost use Rattle.sh_eval.specs.declared.session.Session.{Session};
@@ -53,6 +54,7 @@ pub(crate) fn tell<T: Tree, O: Sink, E: Sink>(
 ) -> How
     requires sound { IsSound session.old (T.state tree.old) }
     ensures streams { session.new.streams ≡ session.old.streams }
+    ensures aside { is_plain_place session.old.streams.errors_to ≡ true → T.state tree.new ≡ T.state tree.old }
     ensures evaluates { (shell : Shell) (drawn : Drawn) (input : ℕ) → Evaluates (λ expansions state. on (tells line.now state))
         (point_of shell session.old (T.state tree.old) (seen_of drawn (O.taken out.old) (E.taken err.old))
         (faults_of input (O.faults out.old) (E.faults err.old) (T.faults tree.old)))
@@ -80,7 +82,8 @@ fn write_to<T: Tree, O: Sink, E: Sink>(
     err: &mut E,
 ) -> How
     requires there { IfSome (T.state tree.old).held (λ files. CanTake files place.now) }
-    ensures { (shell : Shell) (session : Session) (drawn : Drawn) (input : ℕ) → session.pipes ≡ pipes.old
+    ensures aside { is_plain_place place.now ≡ true → T.state tree.new ≡ T.state tree.old }
+    ensures evaluates { (shell : Shell) (session : Session) (drawn : Drawn) (input : ℕ) → session.pipes ≡ pipes.old
         → Evaluates (λ expansions state. on (write place.now bytes.now state))
         (point_of shell session (T.state tree.old) (seen_of drawn (O.taken out.old) (E.taken err.old))
         (faults_of input (O.faults out.old) (E.faults err.old) (T.faults tree.old)))

@@ -149,6 +149,45 @@ fn lists_and_pipelines_are_run(rt: HostRuntime) -> Result<(), Fail> {
 }
 
 #[test]
+fn pipelines_of_utilities_run_as_one(rt: HostRuntime) -> Result<(), Fail> {
+    for (text, input, output, errors, status) in [
+        ("cat g | cat", "", "1\n2\n", "", 0),
+        ("cat | tr 1-9 a-i | sort -r", "1\n2\n", "b\na\n", "", 0),
+        ("grep 2 g | wc -l", "", "1\n", "", 0),
+        ("! cat g | grep x", "", "", "", 0),
+        ("cat g | grep x | cat", "", "", "", 0),
+        // What is told of all operands comes before what is written.
+        (
+            "cat no g | cat - none",
+            "",
+            "1\n2\n",
+            "cat: no: No such file or directory\ncat: none: No such file or directory\n",
+            1,
+        ),
+        // Nothing of the first is read where the second does not read it.
+        ("cat - | cat g", "x\n", "1\n2\n", "", 0),
+        // Each stage has variables of its own.
+        ("cat ${x:=g} | cat $x -", "", "1\n2\n", "", 0),
+        // A stage that is more than a utility has the others run one after the other.
+        ("cat g | { cat; echo 3; }", "", "1\n2\n3\n", "", 0),
+        ("cat g | x=1 cat | sort -r", "", "2\n1\n", "", 0),
+        ("cat g | cat \"${x?gone}\"", "", "", "pash: x: gone\n", 1),
+        (
+            "cat g | sort no | cat; echo $?",
+            "",
+            "0\n",
+            "sort: no: No such file or directory\n",
+            0,
+        ),
+        ("x=$(cat g | tail -n 1); echo $x", "", "2\n", "", 0),
+        ("{ cat g | sort -r; } > f; cat f", "", "2\n1\n", "", 0),
+    ] {
+        expect(&rt, rt.alloc(), text, input, output, errors, status)?;
+    }
+    Ok(())
+}
+
+#[test]
 fn conditions_and_loops_are_run(rt: HostRuntime) -> Result<(), Fail> {
     for (text, input, output, errors, status) in [
         (

@@ -1,21 +1,29 @@
-use Rattle.std.proofs.Common.{rules, ◌+◌, not, ℕ, List, arith, refl, sym, ap, ◌∙◌}
+use Rattle.std.proofs.Common.{rules, ◌≡◌, ◌+◌, ◌≤◌, not, ℕ, List, length, Option, Some, Err, arith, refl, sym, ap, subst, ◌∙◌}
 use Rattle.sh_eval.specs.Commands.{all_turns, failed, goes_round, in_loop, its_status, some_command, substitution, subshell, succeeded, first_stage, middle_stage, last_stage, handed_on, reading_piped, unchanged, with_kept, with_text}
 use Rattle.sh_eval.specs.declared.outcomes.How.TheVariants as how
+use Rattle.sh_eval.specs.declared.gathering.Segment.{Segment}
 use Rattle.sh_eval.specs.declared.session.Session.{Session}
 use Rattle.sh_eval.specs.declared.streams.From.{From}
 use Rattle.sh_eval.specs.Inner.Bodies.{body_means, round_means, rounds_mean, turn_means}
 use Rattle.std.specs.FinMap as finite
+use Rattle.std.specs.Prelude.{IfSome}
 use Rattle.ps_lines.specs.Texts.{texts_of}
 use Rattle.sh_arith.specs.Variables.{Variables}
 use Rattle.sh_eval.specs.Shells.{with_env}
 use Rattle.sh_eval.specs.States.{piping, reading, unpiped}
-use Rattle.sh_eval.specs.Meaning.{has_item, list_means, command_means}
+use Rattle.sh_eval.specs.Inner.Gathering.{AreTold, Gathers, calls_of, emptied}
+use Rattle.ps_world.specs.TreeState.{TreeState}
+use Rattle.sh_eval.specs.Meaning.{has_item, list_means, command_means, stages_means}
+use Rattle.sh_eval.specs.Segments.{runs_through}
 use Rattle.sh_eval.specs.Table.{pages}
-use Rattle.sh_tree.specs.Views.{list_tree, command_tree}
-use Rattle.sh_eval.proofs.Growing.{adds-some_command, adds-substitution, same-turns, list-adds, command-adds, adds-subshell, adds-first_stage, adds-middle_stage, adds-last_stage}
+use Rattle.sh_tree.specs.Views.{list_tree, command_tree, stages_tree}
+use Rattle.sh_eval.proofs.Growing.{adds-some_command, adds-substitution, same-turns, list-adds, command-adds, adds-subshell, adds-first_stage, adds-middle_stage, adds-last_stage, stages-adds}
 use Rattle.sh_eval.proofs.ListSteps.{handed-back, read-back, items-followed, items-stopped, items-done, and_or-followed, and_or-stopped, joined-followed, joined-stopped, joined-done, next-runs, next-skipped, pipeline-followed, pipeline-stopped, within, wanted-at, stages-followed, stages-stopped, stages-done, staged-at}
 use Rattle.sh_eval.proofs.CommandSteps.{succeeds-so, fails-so, wanted-behind, subs-followed, subs-stopped, subs-done, substituted-empty, substituted-some, simple-followed, simple-stopped, if-stopped, if-taken, if-passed, if-else, if-none, if-body, compound-stopped, compound-opened, body-adds, while-body, until-body, while-turn, until-turn, turn-adds, turns-add, loop-adds, for-arguments, for-stopped, for-followed, for_behind, for-adds, for-fields, round-adds, rounds-add, round-of}
 use Rattle.sh_eval.proofs.LoopSteps.{over-here, left-here, again-here, done-here, in-loop, turns-over, turns-left, turns-again, turn-left, turn-held, turn-failed, body-noted}
+use Rattle.sh_eval.proofs.OpeningLemmas.{looked-in-vain}
+use Rattle.sh_eval.proofs.SegmentSteps.{stages-ran}
+use Rattle.sh_eval.proofs.UtilitySteps.{asked-before}
 use Rattle.sh_eval.proofs.Steps.{failed-early, goes-gone, gone-so, no-fewer, wanted, sound-behind}
 use Rattle.sh_tree.specs.declared.commands.Command.TheShapes.{weighed-Command-If-0-at-2}
 use Rattle.sh_tree.specs.declared.commands.Command.TheViews.{size-Command, sized-If}
@@ -131,6 +139,28 @@ pub eval_last_stage-returns : goal.eval_last_stage-returns
 eval_last_stage-returns g t c =
     within (λ expansions. command_means expansions pages (command_tree c.args.command.now)) reading_piped (λ old new. reading old.streams.from new) its_status _ _ _ _ _ _ _ _ _ _ _ _
     c.in-Ok.ensures c.read_piped-from.ensures.session refl (c.read_from.ensures ∙ ap (λ (it : From). reading it c.eval_command-how.new.session) c.read_piped-from.ensures.from) c.settled.ensures same-turns (λ old new. same-turns new) (λ old new same. record { output = same.output; errors = same.errors }) c.eval_command-how.ensures
+
+pub eval_stages-run_segment-requires-clause-told : goal.eval_stages-run_segment-requires-clause-told
+eval_stages-run_segment-requires-clause-told g t c κs lent =
+    let gathers : Gathers (stages_tree c.args.stages.now) c.args.shell.now c.args.session.now.streams (g.T.Tree.state c.args.tree.now) c.in-Ok-Some.segment = search rules in
+    subst (λ (it : TreeState). AreTold c.in-Ok-Some.segment.members.items c.in-Ok-Some.segment.lines.items it) (sym c.in-Ok-Some.ensures.state) gathers.gathered.told
+
+pub eval_stages-returns-in-Ok-Some : goal.eval_stages-returns-in-Ok-Some
+eval_stages-returns-in-Ok-Some g t c =
+    let found : c.in-Ok-Some.field-0 ≡ Some c.in-Ok-Some.segment = search rules in
+    let gathers : Gathers (stages_tree c.args.stages.now) c.args.shell.now c.args.session.now.streams (g.T.Tree.state c.args.tree.now) c.in-Ok-Some.segment =
+    subst (λ (it : Option Segment). IfSome it (Gathers (stages_tree c.args.stages.now) c.args.shell.now c.args.session.now.streams (g.T.Tree.state c.args.tree.now))) found c.in-Ok-Some.ensures.gathers in
+    let several : 2 ≤ length c.in-Ok-Some.segment.members.items = subst (λ (it : Option Segment). IfSome it (λ (segment : Segment). 2 ≤ length segment.members.items)) found c.in-Ok-Some.ensures.several in
+    stages-ran (stages_tree c.args.stages.now) c.in-Ok-Some.segment.members.items c.in-Ok-Some.segment.lines.items c.args.shell.now c.args.session.now (g.T.Tree.state c.args.tree.now) _ _ _ _
+    several gathers.plain gathers.gathered
+    (asked-before (λ expansions state. emptied (runs_through pages (calls_of c.in-Ok-Some.segment.members.items) state)) _ _ _ _ _ _ _ _ _ _ _ _
+    c.in-Ok-Some.ensures.state c.in-Ok-Some.ensures.cause.ok c.run_segment.ensures)
+
+pub eval_stages-returns-in-Err : goal.eval_stages-returns-in-Err
+eval_stages-returns-in-Err g t c =
+    rw c.how_of.ensures
+    (looked-in-vain c.in-Err.error (λ expansions. stages_means expansions pages (stages_tree c.args.stages.now)) (λ expansions. stages-adds expansions pages (stages_tree c.args.stages.now))
+    _ _ _ _ _ _ _ _ _ _ c.in-Err.ensures.state c.in-Err.ensures.cause.later (λ failed. c.in-Err.ensures.cause.failed (ap Err failed)))
 
 pub eval_several-loop-stage-init : goal.eval_several-loop-stage-init
 eval_several-loop-stage-init g t c = record { counted = refl; rest = λ came new all. all; sound = c.requires.sound }

@@ -1,0 +1,191 @@
+-- Members of a pipeline that ran as one graph are evaluated.
+use Rattle.std.proofs.Common.{◌≡◌, ◌≤◌, ℕ, suc, List, [], ◌∷◌, ◌++◌, Bool, true, false, ◌&&◌, length, Some, refl, sym, ap, ◌∙◌, subst, arith}
+use Rattle.std.specs.List.{flat_map}
+use Rattle.ps_world.specs.Files.{Files, bytes_at}
+use Rattle.ps_world.specs.Paths.{Components}
+use Rattle.ps_world.specs.TreeState.{TreeState}
+use Rattle.ps_world.proofs.TreeStateLemmas.{balanced-none}
+use Rattle.ut_args.specs.Inputs.{operands_of}
+use Rattle.ut_args.specs.Invocations.{command_of}
+use Rattle.fl_segments.specs.Chains.{begins_with}
+use Rattle.fl_commands.specs.Inputs.{output_for}
+use Rattle.fl_commands.specs.Members as members
+use Rattle.fl_commands.specs.Members.{AllCanRun, CanRun, member_output, member_status, noted_of, output_through}
+use Rattle.fl_commands.specs.Runs.{pipeline_asks}
+use Rattle.fl_commands.specs.declared.members.Member.{Member}
+use Rattle.sh_tree.specs.Trees.{CommandTree, CommandTrees, command, no_command}
+use Rattle.sh_expand.specs.Outcomes.{Expansions}
+use Rattle.sh_eval.specs.declared.flows.Flow.TheVariants as flow
+use Rattle.sh_eval.specs.declared.outcomes.How.{How}
+use Rattle.sh_eval.specs.declared.outcomes.How.TheVariants as how
+use Rattle.sh_eval.specs.declared.session.Session.{Session}
+use Rattle.sh_eval.specs.declared.shell.Shell.{Shell}
+use Rattle.sh_eval.specs.declared.streams.From.TheVariants as from
+use Rattle.sh_eval.specs.declared.streams.Held.{Held}
+use Rattle.sh_eval.specs.Contract.{Seen, Faults, Point, point_of, Base, Has, Comes, Meaning, Evaluates, goes_on}
+use Rattle.sh_eval.specs.Growth.{Adds}
+use Rattle.sh_eval.specs.Inner.Gathering.{AllLooked, AllPlain, AreGathered, AreMembers, AreTold, calls_of, emptied}
+use Rattle.sh_eval.specs.Inner.Inputs.{IsLooked, called_by, reads_stream}
+use Rattle.sh_eval.specs.Inner.Runs.{AreMeant, Begins, pipeline_does, reads_head, takes}
+use Rattle.sh_eval.specs.Meaning.{stages_means}
+use Rattle.sh_eval.specs.Segments.{is_plain_place, lines_for, name_of, no_pipe, runs_through, status_for, status_through, takes_through, text_through, words_ran, written_by}
+use Rattle.sh_eval.specs.States.{State, Ends, Means, after, in_session, on, reading, to_read}
+use Rattle.sh_eval.specs.Table.{pages}
+use Rattle.sh_eval.specs.Utilities.{Called, deals, tells_some}
+use Rattle.sh_eval.proofs.Growing.{adds-takes, grows-self}
+use Rattle.sh_eval.proofs.OperandSteps.{looked, reads-are}
+use Rattle.sh_eval.proofs.SegmentLemmas.{IsAt, several-as_one}
+use Rattle.sh_eval.proofs.SimpleSteps.{deals-not}
+use Rattle.sh_eval.proofs.Steps.{followed, held-none, meant-at, no-fewer, stopped}
+use Rattle.sh_eval.proofs.UtilitySteps.{inputs-so, noted-so, own-so, status-so}
+
+-- WHAT IS ASKED FOR of members is what they mean
+module _ (tree : TreeState) (state : State) (told : tree.held ≡ Some state.world.files) (home : tree.home ≡ state.world.home) where
+  -- the state in which descriptor 0 gives this text
+  abbrev fed : List ℕ → State
+  fed text = in_session (reading (from.Kept text)) state
+
+  module _ (member : Member) (looks : IsLooked tree (operands_of member.inv) member.operands.items) (can : CanRun member) where
+    named : member.operands.items ≡ looked state (operands_of member.inv)
+    named = looks.named state told home
+
+    plain : deals (command_of member.inv) ≡ false
+    plain = deals-not member.inv can.built
+
+    -- what it writes, where the stream is this text or isn't read
+    written-so : (stream text : List ℕ) → (reads_stream member.operands.items ≡ true → stream ≡ text) → member_output member (bytes_at state.world.files) stream ≡ written_by pages state (called_by member.inv) text
+    written-so stream text same = ap (output_for (command_of member.inv)) (inputs-so (name_of (called_by member.inv)) member.inv member.operands.items plain (fed text) named stream same)
+
+    left-so : (stream text : List ℕ) → (reads_stream member.operands.items ≡ true → stream ≡ text) → member_status member (bytes_at state.world.files) stream ≡ status_for pages state (called_by member.inv) text
+    left-so stream text same = status-so (name_of (called_by member.inv)) member.inv member.operands.items plain (fed text) named stream same
+
+  -- each over the output of the one before
+  through-so : (all : List Member) → AllLooked tree all → AllCanRun all → (text : List ℕ) → output_through all (bytes_at state.world.files) text ≡ text_through pages state (calls_of all) text
+  through-so [] looks can text = refl
+  through-so (member ∷ rest) looks can text =
+      ap (output_through rest (bytes_at state.world.files)) (written-so member looks.0 can.0 text text (λ is. refl))
+      ∙ through-so rest looks.1 can.1 (written_by pages state (called_by member.inv) text)
+
+  statuses-so : (member : Member) (rest : List Member) → AllLooked tree (member ∷ rest) → AllCanRun (member ∷ rest) → (stream text : List ℕ) → (reads_stream member.operands.items ≡ true → stream ≡ text)
+      → members.status_through (member ∷ rest) (bytes_at state.world.files) stream ≡ status_through pages state (calls_of (member ∷ rest)) text
+  statuses-so member [] looks can stream text same = left-so member looks.0 can.0 stream text same
+  statuses-so member (next ∷ rest) looks can stream text same =
+      ap (members.status_through (next ∷ rest) (bytes_at state.world.files)) (written-so member looks.0 can.0 stream text same)
+      ∙ statuses-so next rest looks.1 can.1 (written_by pages state (called_by member.inv) text) (written_by pages state (called_by member.inv) text) (λ is. refl)
+
+  ran-so : (all : List Member) → AllLooked tree all → AllCanRun all → noted_of all ≡ flat_map (words_ran state) (calls_of all)
+  ran-so [] looks can = refl
+  ran-so (member ∷ rest) looks can =
+      (λ i. noted-so (name_of (called_by member.inv)) member.inv member.operands.items (plain member looks.0 can.0) state (named member looks.0 can.0) i ++ ran-so rest looks.1 can.1 i)
+
+pub pipeline-meant : (all : List Member) (tree : TreeState) → 1 ≤ length all → AllLooked tree all → AllCanRun all → AreMeant (pipeline_asks all) (reads_head all) (pipeline_does (calls_of all)) tree
+pipeline-meant [] tree some looks can first state told home begins = absurd (omega (arith, some))
+pipeline-meant (member ∷ rest) tree some looks can first state told home begins =
+    let here = named tree state told home member looks.0 can.0 in
+    let dealt = plain tree state told home member looks.0 can.0 in
+    record {
+      same = ap reads_stream here ∙ reads-are state (operands_of member.inv);
+      output =
+          ap (output_through rest (bytes_at state.world.files)) (written-so tree state told home member looks.0 can.0 (begins_with first state.world.input) (to_read state) begins.text)
+          ∙ through-so tree state told home rest looks.1 can.1 (written_by pages state (called_by member.inv) (to_read state));
+      status = statuses-so tree state told home member rest looks can (begins_with first state.world.input) (to_read state) begins.text;
+      noted = ran-so tree state told home (member ∷ rest) looks can;
+      drawn = own-so (name_of (called_by member.inv)) member.inv member.operands.items dealt state here first (reads_stream member.operands.items) refl begins.own;
+    }
+
+-- THE RUN: the lines, the members, and nothing left in the pipe
+pub emptied-so : (shell : Shell) (session session' : Session) (tree : TreeState) (seen : Seen) (faults : Faults) → session' ≡ no_pipe session
+    → Evaluates (λ expansions state. on (in_session no_pipe state)) (point_of shell session tree seen faults) (how.Gone flow.On) (point_of shell session' tree seen faults)
+emptied-so shell session session' tree seen faults is =
+    record {
+      comes = λ expansions are base state has. record {
+        flow = refl;
+        has = record { shell = has.shell; session = is ∙ ap no_pipe has.session; home = has.home; held = has.held; seen = has.seen };
+      };
+      keeps = λ gone. record { whole = λ held. held; files = held-none tree.held; output = ap (λ (it : Session). it.streams.to) is; errors = ap (λ (it : Session). it.streams.errors_to) is };
+      turns = rw is (omega arith);
+      later = no-fewer faults;
+      cause = refl;
+      lent = balanced-none tree;
+    }
+
+module _ (all : List Member) (lines : List ℕ) where
+  abbrev tells_lines : Meaning
+  tells_lines expansions state = on (tells_some lines state)
+
+  abbrev takes_all : Meaning
+  takes_all expansions = takes (pipeline_does (calls_of all))
+
+  abbrev empties : Meaning
+  empties expansions state = on (in_session no_pipe state)
+
+  abbrev takes_then : Meaning
+  takes_then expansions state = after (takes_all expansions state) (empties expansions)
+
+  abbrev all_means : Meaning
+  all_means expansions state = emptied (runs_through pages (calls_of all) state)
+
+  then-adds : (expansions : Expansions) → Adds (takes_then expansions)
+  then-adds expansions state = let grows = adds-takes (pipeline_does (calls_of all)) state in record { output = grows.output; errors = grows.errors; turns = grows.turns }
+
+  module _ (old : Point) (told : AreTold all lines old.tree) where
+    same : (expansions : Expansions) (base : Base) (state : State) → Has base old state → all_means expansions state ≡ after (tells_lines expansions state) (takes_then expansions)
+    same expansions base state has = ap (λ (it : List ℕ). emptied (takes_through pages (calls_of all) (tells_some it state))) (sym (told state has.held has.home).1)
+
+    pub lines-stopped : (new : Point) (came : How) → goes_on came ≡ false → Evaluates tells_lines old came new → Evaluates all_means old came new
+    lines-stopped new came off one = meant-at all_means (λ expansions state. after (tells_lines expansions state) (takes_then expansions)) old new came same (stopped tells_lines takes_then old new came off then-adds one)
+
+    pub members-stopped : (mid new : Point) (came then_how : How) → goes_on came ≡ true → goes_on then_how ≡ false → Evaluates tells_lines old came mid → Evaluates takes_all mid then_how new → Evaluates all_means old then_how new
+    members-stopped mid new came then_how is off one other =
+        meant-at all_means (λ expansions state. after (tells_lines expansions state) (takes_then expansions)) old new then_how same
+        (followed tells_lines takes_then old mid new came then_how is one
+        (stopped takes_all empties mid new then_how off (λ expansions state. grows-self state) other))
+
+    pub members-ran : (mid next new : Point) (came then_how : How) → goes_on came ≡ true → goes_on then_how ≡ true → Evaluates tells_lines old came mid → Evaluates takes_all mid then_how next → Evaluates empties next (how.Gone flow.On) new
+        → Evaluates all_means old (how.Gone flow.On) new
+    members-ran mid next new came then_how is goes one other last =
+        meant-at all_means (λ expansions state. after (tells_lines expansions state) (takes_then expansions)) old new (how.Gone flow.On) same
+        (followed tells_lines takes_then old mid new came (how.Gone flow.On) is one
+        (followed takes_all empties mid next new then_how (how.Gone flow.On) goes other last))
+
+-- THE STAGES mean what the members do
+pub segment-so : (expansions : Expansions) (files : Files) (home : Components) (held : List Held) (shell : Shell) (trees : CommandTrees) (calls : List Called) (state : State) → 2 ≤ length calls
+    → AreMembers expansions pages files home held shell trees calls → IsAt pages expansions files home held shell state → AllPlain state calls
+    → stages_means expansions pages trees state ≡ emptied (runs_through pages calls state)
+segment-so expansions files home held shell trees [] state several are at plain = absurd (omega (arith, several))
+segment-so expansions files home held shell trees (first ∷ []) state several are at plain = absurd (omega (arith, several))
+segment-so expansions files home held shell no_command (first ∷ next ∷ rest) state several are at plain = absurd are
+segment-so expansions files home held shell (command tree no_command) (first ∷ next ∷ rest) state several are at plain = absurd are.1
+segment-so expansions files home held shell (command tree (command second trees)) (first ∷ next ∷ rest) state several are at plain =
+    several-as_one pages expansions files home held shell tree second trees first next rest state are at plain
+
+calls-many : (all : List Member) → length (calls_of all) ≡ length all
+calls-many [] = refl
+calls-many (member ∷ rest) = ap suc (calls-many rest)
+
+pub stages-ran : (trees : CommandTrees) (all : List Member) (lines : List ℕ) (shell : Shell) (session : Session) (tree : TreeState) (seen : Seen) (faults : Faults) (new : Point) (came : How) → 2 ≤ length all
+    → is_plain_place session.streams.errors_to ≡ true → AreGathered trees shell session.streams.held tree all lines
+    → Evaluates (all_means all lines) (point_of shell session tree seen faults) came new → Evaluates (λ expansions. stages_means expansions pages trees) (point_of shell session tree seen faults) came new
+stages-ran trees all lines shell session tree seen faults new came several plain gathered one =
+    record {
+      comes = λ expansions are base state has.
+          subst (λ (it : Ends). Comes base came new it)
+          (sym (segment-so expansions state.world.files tree.home session.streams.held shell trees (calls_of all) state (rw (calls-many all) several)
+          (gathered.stand expansions are state.world.files has.held) (at-here expansions base state has) (gathered.told state has.held has.home).0))
+          (one.comes expansions are base state has);
+      keeps = one.keeps;
+      turns = one.turns;
+      later = one.later;
+      cause = one.cause;
+      lent = one.lent;
+    }
+  where
+    at-here : (expansions : Expansions) (base : Base) (state : State) → Has base (point_of shell session tree seen faults) state → IsAt pages expansions state.world.files tree.home session.streams.held shell state
+    at-here expansions base state has =
+        record {
+          files_are = refl;
+          home_is = sym has.home;
+          held_are = ap (λ (it : Session). it.streams.held) (sym has.session);
+          shell_is = sym has.shell;
+          plain = ap (λ (it : Session). is_plain_place it.streams.errors_to) (sym has.session) ∙ plain;
+        }

@@ -1,5 +1,5 @@
 -- The inputs and the files of an invocation.
-use Rattle.std.specs.Prelude.{ℕ, ◌+◌, ◌-◌, ◌^◌, min, List, [], ◌∷◌, Bool, not, ◌&&◌, if◌then◌else◌, codes}
+use Rattle.std.specs.Prelude.{ℕ, ◌+◌, ◌-◌, ◌^◌, min, List, [], ◌∷◌, Bool, false, not, ◌&&◌, if◌then◌else◌, codes}
 use Rattle.std.specs.List.{count_by, list_all, list_any}
 use Rattle.std.specs.Str.{bytes_eq}
 use Rattle.ps_lines.specs.Lines.{is_empty}
@@ -87,6 +87,11 @@ abbrev pub shared_inputs : List (List ℕ) → ℕ
 shared_inputs [] = 1
 shared_inputs (operand ∷ operands) =
     counted (count_by is_file (operand ∷ operands) + (if list_any is_standard (operand ∷ operands) then 1 else 0))
+
+-- the lines of the standard input are dealt to all operands that are it, and each operand is a column (XCU paste)
+abbrev pub deals : Command → Bool
+deals (command.Paste args) = not args.serial
+deals other = false
 
 -- how many inputs a command reads
 abbrev pub inputs_by : Command → ℕ

@@ -5,8 +5,8 @@ ghost use Rattle.ut_args.specs.Built.{is_built_of};
 use crate::invocations::Inv;
 use crate::utilities::has_at_most_one;
 
-/// Whether an invocation is built: whether its utility has a stream so far, as `cat`, `grep`, `tr`, `cut`, `head`, `tail`, `wc`, `uniq` and
-/// `sort` have. The patterns of `grep` may be none that can be read.
+/// Whether an invocation is built: whether its utility has a stream so far, as `cat`, `grep`, `tr`, `cut`, `head`, `tail`, `wc`, `uniq`,
+/// `sort` and `paste` have. The patterns of `grep` may be none that can be read.
 pub fn is_built(inv: &Inv) -> bool
     ensures { result ≡ is_built_of inv.now }
 {
@@ -20,6 +20,7 @@ pub fn is_built(inv: &Inv) -> bool
         Inv::Wc(_) => true,
         Inv::Uniq(uniq) => has_at_most_one(&uniq.args.operands),
         Inv::Sort(_) => true,
+        Inv::Paste(_) => true,
         _ => false,
     }
 }

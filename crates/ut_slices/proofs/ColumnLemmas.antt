@@ -15,7 +15,7 @@ has_port-push port (column ∷ columns) last = first (column == port) (has_port-
     first false after = after
 
 -- one more number is below the next one
-lt-next : (port next : ℕ) → (if nat_lt port next then true else (if next == port then true else false)) ≡ nat_lt port (suc next)
+pub lt-next : (port next : ℕ) → (if nat_lt port next then true else (if next == port then true else false)) ≡ nat_lt port (suc next)
 lt-next port next = by_less (nat_lt port next) refl (next == port) refl
   where
     by_less : (less : Bool) → nat_lt port next ≡ less → (same : Bool) → (next == port) ≡ same → (if less then true else (if same then true else false)) ≡ nat_lt port (suc next)
@@ -50,7 +50,7 @@ AreUsed-new old new inputs next standard used =
     below input (inr is) = omega arith
 
 -- a column that shares an input
-shared-same : (port next input : ℕ) → input < next → (if nat_lt port next then true else (if input == port then true else false)) ≡ nat_lt port next
+pub shared-same : (port next input : ℕ) → input < next → (if nat_lt port next then true else (if input == port then true else false)) ≡ nat_lt port next
 shared-same port next input below = by_less (nat_lt port next) refl (input == port) refl
   where
     by_less : (less : Bool) → nat_lt port next ≡ less → (same : Bool) → (input == port) ≡ same → (if less then true else (if same then true else false)) ≡ less

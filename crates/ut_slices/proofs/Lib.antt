@@ -11,3 +11,5 @@ pub mod WalkLemmas
 pub mod PortLemmas
 pub mod ColumnLemmas
 pub mod SideStepLemmas
+pub mod InputLemmas
+pub mod SerialLemmas

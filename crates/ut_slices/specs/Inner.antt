@@ -5,3 +5,4 @@ pub mod Heads
 pub mod Ports
 pub mod Rows
 pub mod Columns
+pub mod Serials

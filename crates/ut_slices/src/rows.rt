@@ -6,6 +6,7 @@ ghost use Rattle.ut_slices.specs.Inner.Ports.{is_open_at, waiting_at};
 ghost use Rattle.ut_slices.specs.Inner.Rows.{weight, CutsWaiting, Goes, IsSettled};
 ghost use Rattle.ut_streams.specs.Streams.{Put};
 
+use crate::delimiters::{next_place, put_delimiter};
 use crate::ports::{is_open, pass, waiting};
 use crate::walks::{Plan, Walk};
 use ps_lines::{Memory, cut_line};
@@ -159,18 +160,6 @@ fn put_opening(
     }
 }
 
-/// Appends the delimiter at a place.
-#[tactic(auto, using(crate::proofs::PutLemmas::puts))]
-fn put_delimiter(delimiters: &[Option<u8>], place: usize, out: &mut Vec<u8>) -> Result<(), Memory>
-    ensures { Put (first_delimiter (drop place delimiters.now)) out.old.items out.new.items (is_ok result) }
-{
-    match delimiters.get(place) {
-        Some(Some(delimiter)) => put(&[*delimiter], out),
-        Some(None) => Ok(()),
-        None => Ok(()),
-    }
-}
-
 /// Goes on in a line that is begun.
 fn go_on(plan: &Plan, walk: &mut Walk, port: u32, out: &mut Vec<u8>) -> Result<bool, Memory>
     requires here { slice_get plan.now.columns.items walk.old.column ≡ Some port }
@@ -234,18 +223,6 @@ fn next_column(plan: &Plan, walk: &mut Walk)
     walk.within = false;
     walk.column += 1;
     walk.delimiter = next_place(plan.delimiters.as_slice(), walk.delimiter);
-}
-
-/// The place of the delimiter behind that at a place.
-#[tactic(auto, using(crate::proofs::WalkLemmas::nexts))]
-fn next_place(delimiters: &[Option<u8>], place: usize) -> usize
-    ensures { drop result delimiters.now ≡ following (drop 1 delimiters.now) (drop place delimiters.now) }
-{
-    if place < delimiters.len().saturating_sub(1) {
-        place + 1
-    } else {
-        1
-    }
 }
 
 /// A piece's first line, or the piece where it doesn't end in it.

@@ -1,12 +1,14 @@
 //! A paste of lines side by side.
-ghost use Rattle.std.specs.Prelude.{◌≡◌, ◌∷◌, ◌==◌, ℕ, List, [], take, slice_get, None, Some, true, false, IfOk, OnOk, if◌then◌else◌};
+ghost use Rattle.std.specs.Prelude.{◌≡◌, ◌∷◌, ◌==◌, ℕ, List, [], take, nat_lt, slice_get, None, Some, true, false, IfOk, OnOk, if◌then◌else◌};
 ghost use Rattle.std.specs.Result.{is_ok};
+ghost use Rattle.ut_args.specs.Inputs.{shared_inputs};
 ghost use Rattle.ut_streams.specs.Streams.{comes_before, ends_at, Wrote};
 ghost use Rattle.ut_slices.specs.Paste.{column_inputs, side_by_side};
 ghost use Rattle.ut_slices.specs.Inner.Ports.{is_open_at};
 ghost use Rattle.ut_slices.specs.Inner.Rows.{due_of_walk, has_port, IsRead, IsSettled};
 
 use crate::columns::{Columns, columns_of};
+use crate::delimiters::behind_none;
 use crate::ports::{end, hold, open_ports};
 use crate::rows::advance;
 use crate::waits::Port;
@@ -32,6 +34,7 @@ impl Side {
     pub fn new(alloc: Global, args: &PasteArgs) -> Result<Side, Memory>
         ensures due { IfOk result (λ side. (texts : ℕ → List ℕ) → ⟦<Side as PortStream>⟧.due side texts ≡ side_by_side args.now.delimiters (column_inputs args.now.operands) texts) }
         ensures opens { IfOk result (λ side. (port : ℕ) → ⟦<Side as PortStream>⟧.open_at side port ≡ has_port port (column_inputs args.now.operands)) }
+        ensures ports { IfOk result (λ side. (port : ℕ) → ⟦<Side as PortStream>⟧.open_at side port ≡ nat_lt port (shared_inputs args.now.operands)) }
         ensures unspent { IfOk result (λ side. ⟦<Side as PortStream>⟧.spent side ≡ false) }
     {
         let Columns {
@@ -79,20 +82,6 @@ fn walk_of(alloc: Global, ports: Vec<Port>) -> Walk
         begun: false,
         within: false,
     }
-}
-
-/// The delimiters behind one that is empty.
-fn behind_none(alloc: Global, delimiters: &[Option<u8>]) -> Result<Vec<Option<u8>>, Memory>
-    ensures { IfOk result (λ all. all.items ≡ None ∷ delimiters.now) }
-{
-    let mut all = Vec::new(alloc);
-    all.push(None)?;
-    let mut left = delimiters;
-    while let [delimiter, rest @ ..] = left {
-        all.push(*delimiter)?;
-        left = rest;
-    }
-    Ok(all)
 }
 
 impl PortStream for Side {

@@ -1,5 +1,5 @@
 -- The laws of the classes.
-use Rattle.std.proofs.Common.{◌≡◌, ℕ, ◌+◌, ◌-◌, ◌||◌, ◌&&◌, Bool, true, false, not, List, [], ◌∷◌, ◌++◌, length, take, decimal, if◌then◌else◌, refl, ap, sym, ◌∙◌, subst, append-nil, length-append, arith}
+use Rattle.std.proofs.Common.{◌≡◌, ℕ, ◌+◌, ◌-◌, ◌||◌, ◌&&◌, Bool, true, false, not, List, [], ◌∷◌, ◌++◌, length, map, take, drop, decimal, if◌then◌else◌, refl, ap, sym, ◌∙◌, subst, append-nil, length-append, arith}
 use Rattle.std.specs.List.{filter, flat_map, list_any}
 use Rattle.std.specs.Option.{unwrap_or}
 use Rattle.std.proofs.lemmas.Bool.{and_parts, cond-true, true≢false}
@@ -32,6 +32,7 @@ use Rattle.ut_args.specs.declared.invocations.SortInv.{SortInv}
 use Rattle.ut_args.specs.declared.invocations.TrInv.{TrInv}
 use Rattle.ut_args.specs.declared.invocations.CutInv.{CutInv}
 use Rattle.ut_args.specs.declared.invocations.HeadInv.{HeadInv}
+use Rattle.ut_args.specs.declared.invocations.PasteInv.{PasteInv}
 use Rattle.ut_args.specs.declared.invocations.TailInv.{TailInv}
 use Rattle.ut_args.specs.declared.invocations.UniqInv.{UniqInv}
 use Rattle.ut_args.specs.declared.invocations.WcInv.{WcInv}
@@ -45,6 +46,7 @@ use Rattle.ut_bytes.specs.Tr.{tr_output}
 use Rattle.ut_slices.specs.Cut.{cut_output}
 use Rattle.ut_slices.specs.Ends.{first_lines}
 use Rattle.ut_slices.specs.Head.{head_output, headed}
+use Rattle.ut_slices.specs.Paste.{paste_output}
 use Rattle.ut_slices.specs.Tail.{tail_by, tail_output}
 use Rattle.ut_slices.proofs.LastLemmas.{last-of-parts}
 use Rattle.ut_slices.proofs.PartLemmas.{first-of_parts}
@@ -254,6 +256,7 @@ is-of-class (inv.Tail tail) = tail-origin tail tail.args.part.origin refl
 is-of-class (inv.Wc wc) = of-one (inv.Wc wc) wc.args.operands class.P (wc-parallel wc)
 is-of-class (inv.Uniq uniq) = uniq-parallel uniq
 is-of-class (inv.Sort sort) = sort-parallel sort
+is-of-class (inv.Paste paste) = tt
 is-of-class other = unbuilt other refl (class_of other)
 
 pub keeps-closed : (inv : Inv) → keeps_closed_of inv ≡ true → KeepsClosed inv
@@ -266,6 +269,7 @@ keeps-closed (inv.Tail tail) keeps_it = absurd (true≢false (sym keeps_it))
 keeps-closed (inv.Wc wc) keeps_it = absurd (true≢false (sym keeps_it))
 keeps-closed (inv.Uniq uniq) keeps_it = absurd (true≢false (sym keeps_it))
 keeps-closed (inv.Sort sort) keeps_it = absurd (true≢false (sym keeps_it))
+keeps-closed (inv.Paste paste) keeps_it = absurd (true≢false (sym keeps_it))
 keeps-closed other keeps_it = unbuilt-closed other refl
 
 -- what those that are built make of a part
@@ -316,6 +320,11 @@ none-selected : (inputs : List Input) → list_any (λ (input : Input). false) i
 none-selected [] = refl
 none-selected (input ∷ inputs) = none-selected inputs
 
+-- the texts of inputs that have names
+labelled-texts : (names texts : List (List ℕ)) → map (λ (input : Input). input.text) (labelled names texts) ≡ texts
+labelled-texts names [] = refl
+labelled-texts names (text ∷ texts) = ap (λ rest. text ∷ rest) (labelled-texts (drop 1 names) texts)
+
 -- what those of several inputs write and select
 module _ (texts : List (List ℕ)) where
   pub grep-output : (grep : GrepInv) → output_of (inv.Grep grep) texts ≡ flat_map (λ input. written grep.args input.label input.text) (labelled (filter is_named grep.args.operands) texts)
@@ -336,5 +345,13 @@ module _ (texts : List (List ℕ)) where
 
   pub wc-selects : (wc : WcInv) → selects_of (inv.Wc wc) texts ≡ false
   wc-selects one = ap (λ utility. utility.selects (labelled (names_of (inv.Wc one)) texts)) (built-utility (inv.Wc one) refl)
+
+  pub paste-output : (paste : PasteInv) → output_of (inv.Paste paste) texts ≡ paste_output paste.args texts
+  paste-output one =
+      ap (λ utility. utility.output (labelled (names_of (inv.Paste one)) texts)) (built-utility (inv.Paste one) refl) ∙ ap (paste_output one.args) (labelled-texts (names_of (inv.Paste one)) texts)
+
+  pub paste-selects : (paste : PasteInv) → selects_of (inv.Paste paste) texts ≡ false
+  paste-selects one =
+      ap (λ utility. utility.selects (labelled (names_of (inv.Paste one)) texts)) (built-utility (inv.Paste one) refl) ∙ none-selected (labelled (names_of (inv.Paste one)) texts)
 
 pub ruleset class_laws = (is-of-class)

@@ -14,6 +14,7 @@ use Rattle.ut_grep.specs.Grep.{grep}
 use Rattle.ut_bytes.specs.Tr.{tr}
 use Rattle.ut_slices.specs.Cut.{cut}
 use Rattle.ut_slices.specs.Head.{head}
+use Rattle.ut_slices.specs.Paste.{paste}
 use Rattle.ut_slices.specs.Tail.{tail}
 use Rattle.ut_groups.specs.Uniq.{uniq}
 use Rattle.ut_groups.specs.Wc.{wc}
@@ -34,6 +35,7 @@ utility_by (command.Tail args) = tail args
 utility_by (command.Wc args) = wc args
 utility_by (command.Uniq args) = uniq args
 utility_by (command.Sort args) = sort args
+utility_by (command.Paste args) = paste args
 utility_by other = silent
 
 -- that of an invocation; one that isn't built writes nothing

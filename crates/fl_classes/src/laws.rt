@@ -5,7 +5,7 @@ ghost use Rattle.std.specs.Prelude.{◌≡◌, ◌<◌, ◌∷◌, ℕ, Bool, Li
 ghost use Rattle.std.specs.List.{concat, filter};
 ghost use Rattle.ps_lines.specs.Lines.{is_cutlist};
 ghost use Rattle.ut_args.specs.Classes.{class_of, keeps_closed_of};
-ghost use Rattle.ut_args.specs.Inputs.{emptied, is_named, operands_by, operands_of, remaining, with_operands};
+ghost use Rattle.ut_args.specs.Inputs.{deals, emptied, is_named, operands_by, operands_of, remaining, with_operands};
 ghost use Rattle.ut_args.specs.Invocations.{command_of};
 ghost use Rattle.ut_args.specs.declared.classes.Seam.{Seam as Seams};
 ghost use Rattle.ut_args.specs.declared.commands.Command.{Command};
@@ -43,13 +43,14 @@ pub fn classes_go_over_cut_lists()
 
 /// An operand that lacks an input changes which inputs there are, and nothing else: with the empty text in its place an invocation
 /// writes and selects the same for the same inputs, and these have the names of the other operands. The finish of `wc` and the map of
-/// `grep` alone name their operand.
+/// `grep` alone name their operand. A `paste` without `-s` isn't to lack an input: its operands are its columns.
 pub fn operands_may_lack_an_input()
-    ensures output { (asked : Command) (flags : List Bool) (inputs : List Input) →
+    ensures output { (asked : Command) (flags : List Bool) (inputs : List Input) → (deals asked ≡ true → emptied flags (operands_by asked) ≡ operands_by asked) →
         (utility_by (with_operands (emptied flags (operands_by asked)) asked)).output inputs ≡ (utility_by asked).output inputs }
     ensures selects { (asked : Command) (flags : List Bool) (inputs : List Input) →
         (utility_by (with_operands (emptied flags (operands_by asked)) asked)).selects inputs ≡ (utility_by asked).selects inputs }
     ensures utility { (one other : Inv) (flags : List Bool) → command_of other ≡ with_operands (emptied flags (operands_of one)) (command_of one) →
+        (deals (command_of one) ≡ true → emptied flags (operands_of one) ≡ operands_of one) →
         utility_of other ≡ record (utility_of one) { part = (utility_of other).part; finish = (utility_of other).finish } }
     ensures names { (one other : Inv) (flags : List Bool) → command_of other ≡ with_operands (emptied flags (operands_of one)) (command_of one) →
         names_of other ≡ filter is_named (remaining flags (operands_of one)) }

@@ -1,2 +1,4 @@
 pub mod MachineLemmas
 pub mod SeriesLemmas
+pub mod PortLemmas
+pub mod PasteLemmas

@@ -1,7 +1,7 @@
 -- Streams in machines, and what is due of a machine at its beginning.
-use Rattle.std.proofs.Common.{◌≡◌, ℕ, zero, suc, ◌+◌, ◌-◌, ◌≤◌, ◌<◌, ◌==◌, ◌&&◌, nat_lt, List, [], ◌∷◌, ◌++◌, Bool, true, false, if◌then◌else◌, get_or, refl, ap, sym, ◌∙◌, append-nil, arith}
+use Rattle.std.proofs.Common.{◌≡◌, ℕ, zero, suc, ◌+◌, ◌-◌, ◌≤◌, ◌<◌, ◌==◌, ◌&&◌, nat_lt, List, [], ◌∷◌, ◌++◌, Bool, true, false, if◌then◌else◌, get_or, refl, ap, sym, ◌∙◌, append-nil, subst, arith}
 use Rattle.std.specs.List.{list_all}
-use Rattle.std.proofs.lemmas.Bool.{cond-true, le-leb, true≢false, and_parts, eqb-true, eq-eqb, ltb-true, lt-ltb, false_from_ne_true}
+use Rattle.std.proofs.lemmas.Bool.{cond-true, le-leb, true≢false, and_from, and_parts, eqb-true, eq-eqb, ltb-true, lt-ltb, false_from_ne_true}
 use Rattle.std.proofs.Math.Dec.{eqb-suc-zero}
 use Rattle.ps_lines.specs.Lines.{is_empty}
 use Rattle.ut_streams.proofs.StreamLemmas.{Wrote-put}
@@ -27,7 +27,7 @@ use Rattle.ut_bytes.specs.Tr.{tr_output}
 use Rattle.ut_slices.specs.Cut.{cut_output}
 use Rattle.ut_slices.specs.Tail.{tail_by, tail_output}
 use Rattle.ut_slices.proofs.EndLemmas.{behind-empty}
-use Rattle.fl_machines.specs.Kinds.{is_in_series, is_utility_node, runs_utility, stream_output, stream_selects, takes_in_order}
+use Rattle.fl_machines.specs.Kinds.{is_utility_node, maps_as_whole, reads_apart, runs_utility, stream_output, stream_selects, takes_apart, RunsApart}
 use Rattle.fl_machines.specs.InSeries.{due_in_series, ports_from, selects_in_series, texts_from}
 use Rattle.fl_machines.specs.Through.{only_port}
 
@@ -51,7 +51,7 @@ separate-few (operand ∷ []) few = by_name (is_named operand)
     by_name false = omega arith
 separate-few (operand ∷ another ∷ others) few = absurd (true≢false (sym few))
 
-built-few : (command : Inv) → is_built_of command ≡ true → is_in_series command ≡ false → inputs_of command ≤ 1
+built-few : (command : Inv) → is_built_of command ≡ true → reads_apart command ≡ false → inputs_of command ≤ 1
 built-few (inv.Cat cat) built single = joined-few cat.args.operands
 built-few (inv.Grep grep) built single = absurd (true≢false single)
 built-few (inv.Tr tr) built single = omega arith
@@ -61,6 +61,7 @@ built-few (inv.Tail tail) built single = separate-few tail.args.operands built
 built-few (inv.Wc wc) built single = absurd (true≢false single)
 built-few (inv.Uniq uniq) built single = separate-few uniq.args.operands built
 built-few (inv.Sort sort) built single = joined-few sort.args.operands
+built-few (inv.Paste paste) built single = absurd (true≢false single)
 built-few other built single = absurd (true≢false (sym built))
 
 -- the output for one input is the map but of uniq, whose map keeps counts, and of those that read their inputs in order
@@ -69,6 +70,7 @@ whole_is_map (inv.Grep grep) = false
 whole_is_map (inv.Head head) = false
 whole_is_map (inv.Wc wc) = false
 whole_is_map (inv.Uniq uniq) = false
+whole_is_map (inv.Paste paste) = false
 whole_is_map other = true
 
 pub whole-is-map : (command : Inv) (text : List ℕ) → whole_is_map command ≡ true → map_of command text ≡ output_of command (text ∷ [])
@@ -85,6 +87,7 @@ whole-is-map command text one = by_built command (λ utility. utility.part text 
     by_command (inv.Wc wc) one = absurd (true≢false (sym one))
     by_command (inv.Uniq uniq) one = absurd (true≢false (sym one))
     by_command (inv.Sort sort) one = sym (append-nil (sorted_text sort.args text))
+    by_command (inv.Paste paste) one = absurd (true≢false (sym one))
     by_command other one = refl
 
 pub ruleset wholes = (whole-is-map)
@@ -108,18 +111,19 @@ finish-is-same command text same = by_built command (λ utility. text ≡ utilit
     by_command (inv.Wc wc) same = absurd (true≢false (sym same))
     by_command (inv.Uniq uniq) same = absurd (true≢false (sym same))
     by_command (inv.Sort sort) same = refl
+    by_command (inv.Paste paste) same = refl
     by_command other same = refl
 
 pub ruleset finishes = (finish-is-same)
 
 -- without an input nothing is written and selected, but by those that read their inputs in order
-nothing-from : (command : Inv) → is_in_series command ≡ false → (output_of command [] ≡ []) × (selects_of command [] ≡ false)
+nothing-from : (command : Inv) → reads_apart command ≡ false → (output_of command [] ≡ []) × (selects_of command [] ≡ false)
 nothing-from command single = (
   by_built command (λ utility. utility.output [] ≡ []) (λ built. writes command single) refl,
   by_built command (λ utility. utility.selects [] ≡ false) (λ built. picks command) refl,
 )
   where
-    writes : (command : Inv) → is_in_series command ≡ false → (utility_by (command_of command)).output [] ≡ []
+    writes : (command : Inv) → reads_apart command ≡ false → (utility_by (command_of command)).output [] ≡ []
     writes (inv.Cat cat) single = refl
     writes (inv.Grep grep) single = absurd (true≢false single)
     writes (inv.Tr tr) single = refl
@@ -129,6 +133,7 @@ nothing-from command single = (
     writes (inv.Wc wc) single = absurd (true≢false single)
     writes (inv.Uniq uniq) single = refl
     writes (inv.Sort sort) single = refl
+    writes (inv.Paste paste) single = absurd (true≢false single)
     writes other single = refl
 
     picks : (command : Inv) → (utility_by (command_of command)).selects [] ≡ false
@@ -141,6 +146,7 @@ nothing-from command single = (
     picks (inv.Wc wc) = refl
     picks (inv.Uniq uniq) = refl
     picks (inv.Sort sort) = refl
+    picks (inv.Paste paste) = refl
     picks other = refl
 
 -- how many ins and outs a node has that runs a utility
@@ -152,13 +158,13 @@ both ins outs rest is =
 one-port : (ins outs : ℕ) → (ins ≡ 1) × (outs ≡ 1) → (ins ≤ 1) × (outs ≡ 1)
 one-port ins outs are = let one = are.0 in (omega (arith, one), are.1)
 
-whole-ports : (inv : Inv) (ins outs : ℕ) → is_utility_node (kind.Whole inv) ins outs ≡ true → (ins ≡ inputs_of inv) × ((outs ≡ 1) × (is_built_of inv ≡ true))
+pub whole-ports : (inv : Inv) (ins outs : ℕ) → is_utility_node (kind.Whole inv) ins outs ≡ true → (ins ≡ inputs_of inv) × ((outs ≡ 1) × (is_built_of inv ≡ true))
 whole-ports inv ins outs is =
     let parts = and_parts ((ins == inputs_of inv) && (outs == 1)) (is_built_of inv) is in
     let own = and_parts (ins == inputs_of inv) (outs == 1) parts.0 in
     (eqb-true ins (inputs_of inv) own.0, (eqb-true outs 1 own.1, parts.1))
 
-ports : (kind : NodeKind) (ins outs : ℕ) → is_utility_node kind ins outs ≡ true → takes_in_order kind ≡ false → (ins ≤ 1) × (outs ≡ 1)
+ports : (kind : NodeKind) (ins outs : ℕ) → is_utility_node kind ins outs ≡ true → takes_apart kind ≡ false → (ins ≤ 1) × (outs ≡ 1)
 ports (kind.Map inv) ins outs is single = one-port ins outs (both ins outs (reads_one_input (kind.Map inv) && is_built_of inv) is)
 ports (kind.Finish inv) ins outs is single = one-port ins outs (both ins outs (is_built_of inv) is)
 ports (kind.Whole inv) ins outs is single =
@@ -186,7 +192,7 @@ either-none true text none = none
 either-none false text none = refl
 
 -- only a whole may have no in
-given-none : (kind : NodeKind) (outs : ℕ) (texts : ℕ → List ℕ) (port : ℕ) → is_utility_node kind 0 outs ≡ true → takes_in_order kind ≡ false
+given-none : (kind : NodeKind) (outs : ℕ) (texts : ℕ → List ℕ) (port : ℕ) → is_utility_node kind 0 outs ≡ true → takes_apart kind ≡ false
     → given_on kind 0 outs texts port ≡ []
 given-none (kind.Map inv) outs texts port is single = absurd (let one = (both 0 outs (reads_one_input (kind.Map inv) && is_built_of inv) is).0 in omega arith)
 given-none (kind.Whole inv) outs texts port is single =
@@ -199,7 +205,7 @@ selects-some (kind.Map inv) texts = refl
 selects-some (kind.Whole inv) texts = refl
 selects-some other texts = refl
 
-selects-none : (kind : NodeKind) (outs : ℕ) (texts : ℕ → List ℕ) → is_utility_node kind 0 outs ≡ true → takes_in_order kind ≡ false
+selects-none : (kind : NodeKind) (outs : ℕ) (texts : ℕ → List ℕ) → is_utility_node kind 0 outs ≡ true → takes_apart kind ≡ false
     → selects kind (texts_at 0 texts) ≡ false
 selects-none (kind.Map inv) outs texts is single = absurd (let one = (both 0 outs (reads_one_input (kind.Map inv) && is_built_of inv) is).0 in omega arith)
 selects-none (kind.Whole inv) outs texts is single = (nothing-from inv single).1
@@ -215,7 +221,7 @@ no-port : (port : ℕ) → false ≡ nat_lt port 0
 no-port port = sym (false_from_ne_true (nat_lt port 0) (λ here. let below = ltb-true port 0 here in absurd (omega (arith, below))))
 
 -- a machine with the stream of a node stands at the node's beginning
-module _ (kind : NodeKind) (ins outs : ℕ) (is : is_utility_node kind ins outs ≡ true) (single : takes_in_order kind ≡ false) (act : Act) (taking putting broken : Bool)
+module _ (kind : NodeKind) (ins outs : ℕ) (is : is_utility_node kind ins outs ≡ true) (single : takes_apart kind ≡ false) (act : Act) (taking putting broken : Bool)
     (due : (ℕ → List ℕ) → ℕ → List ℕ) (will : (ℕ → List ℕ) → Bool) (is_putting : putting ≡ true) (is_whole : broken ≡ false) where
   abbrev through : State
   through = record {
@@ -327,3 +333,85 @@ module _ (inv : Inv) (owes : List (List ℕ) → List ℕ) (picks : List (List �
   pub picked-none : (picked : Bool) → picked ≡ selects_of inv [] → selects_in_series at own picks picked texts ≡ selects_of inv (texts_at ins texts)
   picked-none picked willed =
       (λ i. selects_in_series (is_first i) (is_own i) picks picked texts) ∙ willed ∙ ap (λ count. selects_of inv (texts_at count texts)) (sym none)
+
+-- a machine with a stream of several inputs at once stands at the beginning of a whole
+module _ (inv : Inv) (ins outs : ℕ) (is : is_utility_node (kind.Whole inv) ins outs ≡ true) (act : Act) (opens : List Bool) (putting broken : Bool)
+    (due : (ℕ → List ℕ) → ℕ → List ℕ) (are_open : (port : ℕ) → get_or opens port false ≡ nat_lt port ins) (is_putting : putting ≡ true) (is_whole : broken ≡ false) where
+  abbrev at_ports : State
+  at_ports = record {
+    act = act;
+    takes = λ port. get_or opens port false;
+    puts = only_port putting;
+    numbered_ins = λ port. false;
+    numbered_outs = λ port. false;
+    broken = broken;
+    due = due;
+    selects = λ texts. false;
+  }
+
+  pub begins-at_ports : ((texts : ℕ → List ℕ) (port : ℕ) → due texts port ≡ (if port == 0 then output_of inv (texts_at ins texts) else []))
+      → ((texts : List (List ℕ)) → selects_of inv texts ≡ false) → Begins (kind.Whole inv) ins outs at_ports
+  begins-at_ports owed silent = record {
+    takes_all = are_open;
+    puts_all = λ port. ap (λ (is_open : Bool). only_port is_open port) is_putting ∙ first-port port ∙ ap (nat_lt port) (sym (whole-ports inv ins outs is).1.0);
+    plain_ins = λ port. refl;
+    plain_outs = λ port. refl;
+    is_whole = is_whole;
+    owes = λ texts port. owed texts port ∙ sym (only-given (output_of inv (texts_at ins texts)) port);
+    may_select = λ texts. sym (silent (texts_at ins texts));
+  }
+
+-- MAPS THAT ARE RUN AS WHOLES
+map-is-whole : (run : Inv) → maps_as_whole run ≡ true → (text : List ℕ) → map_of run text ≡ output_of run (text ∷ [])
+map-is-whole (inv.Paste paste) maps text = refl
+map-is-whole other maps text = absurd (true≢false (sym maps))
+
+maps-apart : (run : Inv) → maps_as_whole run ≡ true → reads_apart run ≡ true
+maps-apart (inv.Paste paste) maps = refl
+maps-apart other maps = absurd (true≢false (sym maps))
+
+-- a map has one in
+map-ports : (inv : Inv) (ins outs : ℕ) → is_utility_node (kind.Map inv) ins outs ≡ true → (ins ≡ 1) × ((outs ≡ 1) × ((inputs_of inv ≡ 1) × (is_built_of inv ≡ true)))
+map-ports inv ins outs is =
+    let own = both ins outs ((inputs_of inv == 1) && is_built_of inv) is in
+    let rest = and_parts (inputs_of inv == 1) (is_built_of inv) (and_parts ((ins == 1) && (outs == 1)) ((inputs_of inv == 1) && is_built_of inv) is).1 in
+    (own.0, (own.1, (eqb-true (inputs_of inv) 1 rest.0, rest.1)))
+
+map-node : (inv : Inv) (ins outs : ℕ) → is_utility_node (kind.Map inv) ins outs ≡ true → is_utility_node (kind.Whole inv) ins outs ≡ true
+map-node inv ins outs is =
+    let own = map-ports inv ins outs is in
+    and_from ((ins == inputs_of inv) && (outs == 1)) (is_built_of inv)
+    (and_from (ins == inputs_of inv) (outs == 1) (eq-eqb ins (inputs_of inv) (own.0 ∙ sym own.1.1.0)) (eq-eqb outs 1 own.1.0)) own.1.1.1
+
+pub apart-node : (node : NodeKind) (run : Inv) (ins outs : ℕ) → is_utility_node node ins outs ≡ true → RunsApart node run → is_utility_node (kind.Whole run) ins outs ≡ true
+apart-node (kind.Whole inv) run ins outs is fits = ap (λ inv. is_utility_node (kind.Whole inv) ins outs) (sym fits.0) ∙ is
+apart-node (kind.Map inv) run ins outs is fits = ap (λ inv. is_utility_node (kind.Whole inv) ins outs) (sym fits.0) ∙ map-node inv ins outs is
+apart-node other run ins outs is fits = absurd fits
+
+pub apart-reads : (node : NodeKind) (run : Inv) → RunsApart node run → reads_apart run ≡ true
+apart-reads (kind.Whole inv) run fits = fits.1
+apart-reads (kind.Map inv) run fits = maps-apart run fits.1
+apart-reads other run fits = absurd fits
+
+begins-map : (run : Inv) (ins outs : ℕ) (state : State) → ins ≡ 1 → maps_as_whole run ≡ true → Begins (kind.Whole run) ins outs state → Begins (kind.Map run) ins outs state
+begins-map run ins outs state one maps begins = record {
+  takes_all = begins.takes_all;
+  puts_all = begins.puts_all;
+  plain_ins = begins.plain_ins;
+  plain_outs = begins.plain_outs;
+  is_whole = begins.is_whole;
+  owes = λ texts port.
+      begins.owes texts port ∙ ap (λ (ins : ℕ). given_on (kind.Whole run) ins outs texts port) one ∙ ap (λ text. get_or (text ∷ []) port []) (sym (map-is-whole run maps (texts 0)))
+      ∙ ap (λ (ins : ℕ). given_on (kind.Map run) ins outs texts port) (sym one);
+  may_select = λ texts.
+      begins.may_select texts ∙ ap (λ (ins : ℕ). selects (kind.Whole run) (texts_at ins texts)) one ∙ ap (λ (ins : ℕ). selects (kind.Map run) (texts_at ins texts)) (sym one);
+}
+
+pub begins-apart : (node : NodeKind) (run : Inv) (ins outs : ℕ) (state : State) → is_utility_node node ins outs ≡ true → RunsApart node run
+    → Begins (kind.Whole run) ins outs state → Begins node ins outs state
+begins-apart (kind.Whole inv) run ins outs state is fits begins = subst (λ inv. Begins (kind.Whole inv) ins outs state) (sym fits.0) begins
+begins-apart (kind.Map inv) run ins outs state is fits begins =
+    subst (λ inv. Begins (kind.Map inv) ins outs state) (sym fits.0) (begins-map run ins outs state (map-ports inv ins outs is).0 fits.1 begins)
+begins-apart other run ins outs state is fits begins = absurd fits
+
+pub ruleset aparts = (apart-node, apart-reads, begins-apart)

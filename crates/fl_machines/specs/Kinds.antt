@@ -1,5 +1,5 @@
 -- The kinds of nodes that run a utility.
-use Rattle.std.specs.Prelude.{ℕ, List, [], ◌∷◌, Bool, true, false, ◌&&◌}
+use Rattle.std.specs.Prelude.{◌≡◌, ℕ, List, [], ◌∷◌, Bool, true, false, not, ◌&&◌}
 use Rattle.fl_classes.specs.Aggregates.{finish_of, map_of}
 use Rattle.fl_classes.specs.Utilities.{output_of, selects_of}
 use Rattle.ut_args.specs.declared.invocations.Inv.{Inv}
@@ -19,17 +19,35 @@ runs_utility other = false
 abbrev pub is_utility_node : NodeKind → ℕ → ℕ → Bool
 is_utility_node kind ins outs = runs_utility kind && (may_have kind ins outs && (reads_one_input kind && runs_what_is_built kind))
 
--- the command reads its inputs one after another, and what it writes for one may hang on those before
-abbrev pub is_in_series : Inv → Bool
-is_in_series (inv.Grep grep) = true
-is_in_series (inv.Head head) = true
-is_in_series (inv.Wc wc) = true
-is_in_series other = false
+-- the command reads its inputs apart, and a machine of it takes any number of ins
+abbrev pub reads_apart : Inv → Bool
+reads_apart (inv.Grep grep) = true
+reads_apart (inv.Head head) = true
+reads_apart (inv.Wc wc) = true
+reads_apart (inv.Paste paste) = true
+reads_apart other = false
 
--- a whole of such a command, which takes its ins in order
-abbrev pub takes_in_order : NodeKind → Bool
-takes_in_order (kind.Whole inv) = is_in_series inv
-takes_in_order other = false
+-- it reads them at once, and not one after another
+abbrev pub reads_at_once : Inv → Bool
+reads_at_once (inv.Paste paste) = not paste.args.serial
+reads_at_once other = false
+
+-- the map of the command is its output for one input, also where it has a machine of any number of ins
+abbrev pub maps_as_whole : Inv → Bool
+maps_as_whole (inv.Paste paste) = true
+maps_as_whole other = false
+
+-- a node with such a machine: a whole, or a map that is run as one
+abbrev pub takes_apart : NodeKind → Bool
+takes_apart (kind.Whole inv) = reads_apart inv
+takes_apart (kind.Map inv) = maps_as_whole inv
+takes_apart other = false
+
+-- the invocation that its machine runs
+abbrev pub RunsApart : NodeKind → Inv → Type 0
+RunsApart (kind.Whole inv) run = (inv ≡ run) × (reads_apart run ≡ true)
+RunsApart (kind.Map inv) run = (inv ≡ run) × (maps_as_whole run ≡ true)
+RunsApart other run = ⊥
 
 -- what the stream of any other such node writes for one input
 abbrev pub stream_output : NodeKind → List ℕ → List ℕ

@@ -1,3 +1,4 @@
 pub mod Kinds
 pub mod Through
 pub mod InSeries
+pub mod AtPorts

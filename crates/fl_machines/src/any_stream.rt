@@ -5,7 +5,7 @@ ghost use Rattle.fl_graph.specs.Kinds.{runs_what_is_built};
 ghost use Rattle.fl_classes.specs.Aggregates.{finish_of, map_of};
 ghost use Rattle.fl_classes.specs.Utilities.{output_of, selects_of};
 ghost use Rattle.ut_groups.specs.Uniq.{uniq_finish};
-ghost use Rattle.fl_machines.specs.Kinds.{is_in_series, stream_output, stream_selects, takes_in_order};
+ghost use Rattle.fl_machines.specs.Kinds.{maps_as_whole, reads_apart, stream_output, stream_selects, takes_apart};
 
 use crate::copies::Copy;
 use fl_graph::NodeKind;
@@ -39,7 +39,7 @@ impl AnyStream {
     /// The stream of a node that runs a utility, at the beginning of its input; a utility's stream must be built.
     pub fn of_kind(alloc: Global, kind: &NodeKind) -> Result<AnyStream, Memory>
         requires built { runs_what_is_built kind.now ≡ true }
-        requires single { takes_in_order kind.now ≡ false }
+        requires joined { takes_apart kind.now ≡ false }
         ensures due { IfOk result (λ stream. (text : List ℕ) → ⟦<AnyStream as Stream>⟧.due stream text ≡ stream_output kind.now text) }
         ensures selects { IfOk result (λ stream. (text : List ℕ) → ⟦<AnyStream as Stream>⟧.selects stream text ≡ stream_selects kind.now text) }
         ensures unspent { IfOk result (λ stream. ⟦<AnyStream as Stream>⟧.spent stream ≡ false) }
@@ -54,7 +54,8 @@ impl AnyStream {
 
     /// The stream of the map of an invocation that is built. There is none of a `grep` whose patterns can't be read, and `Memory` is told.
     fn of_map(alloc: Global, inv: &Inv) -> Result<AnyStream, Memory>
-        requires { is_built_of inv.now ≡ true }
+        requires built { is_built_of inv.now ≡ true }
+        requires own { maps_as_whole inv.now ≡ false }
         ensures due { IfOk result (λ stream. (text : List ℕ) → ⟦<AnyStream as Stream>⟧.due stream text ≡ map_of inv.now text) }
         ensures selects { IfOk result (λ stream. (text : List ℕ) → ⟦<AnyStream as Stream>⟧.selects stream text ≡ selects_of inv.now (text ∷ [])) }
         ensures unspent { IfOk result (λ stream. ⟦<AnyStream as Stream>⟧.spent stream ≡ false) }
@@ -84,6 +85,7 @@ impl AnyStream {
                 Ok(sorter) => Ok(AnyStream::Sort(sorter)),
                 Err(memory) => Err(memory),
             },
+            Inv::Paste(_) => unreachable!(),
             _ => unreachable!(),
         }
     }
@@ -92,7 +94,7 @@ impl AnyStream {
     #[tactic(auto, using(crate::proofs::MachineLemmas::wholes))]
     fn of_whole(alloc: Global, inv: &Inv) -> Result<AnyStream, Memory>
         requires built { is_built_of inv.now ≡ true }
-        requires single { is_in_series inv.now ≡ false }
+        requires joined { reads_apart inv.now ≡ false }
         ensures due { IfOk result (λ stream. (text : List ℕ) → ⟦<AnyStream as Stream>⟧.due stream text ≡ output_of inv.now (text ∷ [])) }
         ensures selects { IfOk result (λ stream. (text : List ℕ) → ⟦<AnyStream as Stream>⟧.selects stream text ≡ selects_of inv.now (text ∷ [])) }
         ensures unspent { IfOk result (λ stream. ⟦<AnyStream as Stream>⟧.spent stream ≡ false) }
@@ -102,6 +104,7 @@ impl AnyStream {
             Inv::Grep(_) => unreachable!(),
             Inv::Head(_) => unreachable!(),
             Inv::Wc(_) => unreachable!(),
+            Inv::Paste(_) => unreachable!(),
             _ => AnyStream::of_map(alloc, inv),
         }
     }

@@ -1,12 +1,13 @@
 //! The machines of nodes that run a utility: maps, wholes and finishes.
 //!
-//! Each utility is a stream, or a series where it reads its inputs one after another. `Through` makes a machine of any stream and `InSeries`
-//! one of any series, and `util_machine` takes the one that a node's kind asks for. What the machine owes at its beginning is the node's
-//! equation, `fl_classes`' word.
+//! Each utility is a stream, a series where it reads its inputs one after another, or a stream of several inputs at once: `Through`, `InSeries`
+//! and `AtPorts` make machines of any of these, and `util_machine` takes the one that a node's kind asks for. What the machine owes at its
+//! beginning is the node's equation, `fl_classes`' word.
 #![tactic(auto)]
 
 mod any_series;
 mod any_stream;
+mod at_ports;
 mod copies;
 mod in_series;
 mod kinds;
@@ -15,6 +16,7 @@ mod through;
 
 pub use any_series::AnySeries;
 pub use any_stream::AnyStream;
+pub use at_ports::AtPorts;
 pub use in_series::InSeries;
 pub use kinds::is_utility_node;
 pub use machines::{UtilMachine, util_machine};

@@ -1,18 +1,21 @@
 //! The machine of a node that runs a utility.
 ghost use Rattle.std.specs.Prelude.{◌≡◌, true, false, IfOk, IfNone, IfSome};
+ghost use Rattle.ut_args.specs.declared.invocations.Inv.TheVariants.{Paste};
 ghost use Rattle.fl_graph.specs.declared.kinds.NodeKind.TheVariants.{Whole};
 ghost use Rattle.fl_classes.specs.Nodes.{Begins};
-ghost use Rattle.fl_machines.specs.Kinds.{is_in_series as is_in_series_lem, is_utility_node, takes_in_order};
+ghost use Rattle.fl_machines.specs.Kinds.{is_utility_node, maps_as_whole as maps_as_whole_lem, reads_apart as reads_apart_lem, reads_at_once, takes_apart, RunsApart};
 
 use crate::any_series::AnySeries;
 use crate::any_stream::AnyStream;
+use crate::at_ports::AtPorts;
 use crate::copies::Copy;
 use crate::in_series::InSeries;
 use crate::through::Through;
 use fl_graph::{Act, Machine, NodeKind, Piece};
 use ps_lines::Memory;
 use std::alloc::Global;
-use ut_args::Inv;
+use ut_args::{Inv, PasteInv};
+use ut_slices::Side;
 
 /// The machine of a map, a whole or a finish.
 #[derive(Drop)]
@@ -21,12 +24,15 @@ pub enum UtilMachine {
     One(Through<AnyStream>),
     /// That of a series, with any number of ins.
     InSeries(InSeries<AnySeries>),
+    /// That of a stream of several inputs at once, with any number of ins.
+    AtOnce(AtPorts<Side>),
 }
 
 /// The machine of a node of this kind with so many ins and outs, at its beginning.
 ///
-/// A whole of a command that reads its inputs one after another is run by their series, also where there is one in: of two operands one may
+/// A whole of a command that reads its inputs apart has a machine of any number of ins, also where there is one: of two operands one may
 /// lack an input. Any other whole without an in writes nothing.
+#[tactic(auto, using(crate::proofs::MachineLemmas::aparts))]
 pub fn util_machine(
     alloc: Global,
     kind: &NodeKind,
@@ -36,9 +42,9 @@ pub fn util_machine(
     requires { is_utility_node kind.now ins outs ≡ true }
     ensures { IfOk result (λ machine. Begins kind.now ins outs (⟦<UtilMachine as Machine>⟧.state machine)) }
 {
-    match read_in_order(kind) {
-        Some(inv) => match series_machine(alloc, inv, ins, outs) {
-            Ok(machine) => Ok(UtilMachine::InSeries(machine)),
+    match run_apart(kind) {
+        Some(inv) => match apart_machine(alloc, inv, ins, outs) {
+            Ok(machine) => Ok(machine),
             Err(memory) => Err(memory),
         },
         None => match stream_machine(alloc, kind, ins, outs) {
@@ -48,15 +54,21 @@ pub fn util_machine(
     }
 }
 
-/// The invocation of a whole whose command reads its inputs one after another.
-fn read_in_order(kind: &NodeKind) -> Option<&Inv>
-    ensures whole { IfSome result (λ inv. kind.now ≡ Whole inv.now) }
-    ensures in_series { IfSome result (λ inv. is_in_series_lem inv.now ≡ true) }
-    ensures none { IfNone result (takes_in_order kind.now ≡ false) }
+/// The invocation that a node runs whose machine takes its ins apart: that of a whole, or of the map of a `paste`, which is its whole for
+/// one input.
+fn run_apart(kind: &NodeKind) -> Option<&Inv>
+    ensures runs { IfSome result (λ inv. RunsApart kind.now inv.now) }
+    ensures none { IfNone result (takes_apart kind.now ≡ false) }
 {
     match kind {
         NodeKind::Whole(inv) => {
-            if is_in_series(inv) {
+            if reads_apart(inv) {
+                return Some(inv);
+            }
+            None
+        }
+        NodeKind::Map(inv) => {
+            if maps_as_whole(inv) {
                 return Some(inv);
             }
             None
@@ -65,11 +77,76 @@ fn read_in_order(kind: &NodeKind) -> Option<&Inv>
     }
 }
 
-/// Whether the command reads its inputs one after another, and writes for each as it comes.
-fn is_in_series(inv: &Inv) -> bool
-    ensures { result ≡ is_in_series_lem inv.now }
+/// Whether the command reads its inputs apart, and not as one text.
+fn reads_apart(inv: &Inv) -> bool
+    ensures { result ≡ reads_apart_lem inv.now }
 {
-    matches!(inv, Inv::Grep(_) | Inv::Head(_) | Inv::Wc(_))
+    matches!(
+        inv,
+        Inv::Grep(_) | Inv::Head(_) | Inv::Wc(_) | Inv::Paste(_)
+    )
+}
+
+/// Whether the command reads its inputs apart, and its map is its output for one.
+fn maps_as_whole(inv: &Inv) -> bool
+    ensures { result ≡ maps_as_whole_lem inv.now }
+{
+    matches!(inv, Inv::Paste(_))
+}
+
+/// The machine of the whole of an invocation that reads its inputs apart.
+fn apart_machine(alloc: Global, inv: &Inv, ins: u32, outs: u32) -> Result<UtilMachine, Memory>
+    requires node { is_utility_node (Whole inv.now) ins outs ≡ true }
+    requires apart { reads_apart_lem inv.now ≡ true }
+    ensures { IfOk result (λ machine. Begins (Whole inv.now) ins outs (⟦<UtilMachine as Machine>⟧.state machine)) }
+{
+    match side_by_side(inv) {
+        Some(paste) => match side_machine(alloc, paste, ins, outs) {
+            Ok(machine) => Ok(UtilMachine::AtOnce(machine)),
+            Err(memory) => Err(memory),
+        },
+        None => match series_machine(alloc, inv, ins, outs) {
+            Ok(machine) => Ok(UtilMachine::InSeries(machine)),
+            Err(memory) => Err(memory),
+        },
+    }
+}
+
+/// The invocation of a `paste` of lines side by side.
+fn side_by_side(inv: &Inv) -> Option<&PasteInv>
+    ensures some { IfSome result (λ paste. inv.now ≡ Paste paste.now) }
+    ensures side { IfSome result (λ paste. paste.now.args.serial ≡ false) }
+    ensures none { IfNone result (reads_at_once inv.now ≡ false) }
+{
+    match inv {
+        Inv::Paste(paste) => {
+            if paste.args.serial {
+                return None;
+            }
+            Some(paste)
+        }
+        _ => None,
+    }
+}
+
+/// The machine of such a `paste`.
+fn side_machine(
+    alloc: Global,
+    paste: &PasteInv,
+    ins: u32,
+    outs: u32,
+) -> Result<AtPorts<Side>, Memory>
+    requires node { is_utility_node (Whole (Paste paste.now)) ins outs ≡ true }
+    requires side { paste.now.args.serial ≡ false }
+    ensures { IfOk result (λ machine. Begins (Whole (Paste paste.now)) ins outs (⟦<AtPorts<Side> as Machine>⟧.state machine)) }
+{
+    match Side::new(alloc, &paste.args) {
+        Ok(side) => match AtPorts::new(alloc, side, ins) {
+            Ok(machine) => Ok(machine),
+            Err(memory) => Err(memory),
+        },
+        Err(memory) => Err(memory),
+    }
 }
 
 /// The machine of the series of such an invocation.
@@ -80,7 +157,8 @@ fn series_machine(
     outs: u32,
 ) -> Result<InSeries<AnySeries>, Memory>
     requires node { is_utility_node (Whole inv.now) ins outs ≡ true }
-    requires in_series { is_in_series_lem inv.now ≡ true }
+    requires apart { reads_apart_lem inv.now ≡ true }
+    requires in_order { reads_at_once inv.now ≡ false }
     ensures { IfOk result (λ machine. Begins (Whole inv.now) ins outs (⟦<InSeries<AnySeries> as Machine>⟧.state machine)) }
 {
     let series = match AnySeries::of_inv(alloc, inv) {
@@ -104,7 +182,7 @@ fn stream_machine(
     outs: u32,
 ) -> Result<Through<AnyStream>, Memory>
     requires node { is_utility_node kind.now ins outs ≡ true }
-    requires single { takes_in_order kind.now ≡ false }
+    requires joined { takes_apart kind.now ≡ false }
     ensures { IfOk result (λ machine. Begins kind.now ins outs (⟦<Through<AnyStream> as Machine>⟧.state machine)) }
 {
     if ins == 0 {
@@ -125,12 +203,14 @@ impl Machine for UtilMachine {
     ghost state = { λ util. elim util [
       | variant.One machine ↦ ⟦<Through<AnyStream> as Machine>⟧.state machine
       | variant.InSeries machine ↦ ⟦<InSeries<AnySeries> as Machine>⟧.state machine
+      | variant.AtOnce machine ↦ ⟦<AtPorts<Side> as Machine>⟧.state machine
     ] };
 
     fn next(&self) -> Act {
         match self {
             UtilMachine::One(machine) => machine.next(),
             UtilMachine::InSeries(machine) => machine.next(),
+            UtilMachine::AtOnce(machine) => machine.next(),
         }
     }
 
@@ -138,6 +218,7 @@ impl Machine for UtilMachine {
         match self {
             UtilMachine::One(machine) => machine.take(piece),
             UtilMachine::InSeries(machine) => machine.take(piece),
+            UtilMachine::AtOnce(machine) => machine.take(piece),
         }
     }
 
@@ -145,6 +226,7 @@ impl Machine for UtilMachine {
         match self {
             UtilMachine::One(machine) => machine.put(),
             UtilMachine::InSeries(machine) => machine.put(),
+            UtilMachine::AtOnce(machine) => machine.put(),
         }
     }
 
@@ -152,6 +234,7 @@ impl Machine for UtilMachine {
         match self {
             UtilMachine::One(machine) => machine.break_off(),
             UtilMachine::InSeries(machine) => machine.break_off(),
+            UtilMachine::AtOnce(machine) => machine.break_off(),
         }
     }
 
@@ -159,6 +242,7 @@ impl Machine for UtilMachine {
         match self {
             UtilMachine::One(machine) => machine.selected(),
             UtilMachine::InSeries(machine) => machine.selected(),
+            UtilMachine::AtOnce(machine) => machine.selected(),
         }
     }
 }

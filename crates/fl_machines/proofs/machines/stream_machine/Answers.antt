@@ -6,6 +6,6 @@ pub returns-in-Ok-of_kind : goal.returns-in-Ok-of_kind
 returns-in-Ok-of_kind c =
     let machine = c.new-in-Ok-of_kind.result in
     let facts = c.new-in-Ok-of_kind.ensures in
-    begins-some c.args.kind.now c.args.ins c.args.outs c.requires.node c.requires.single _ machine.taking machine.putting machine.broken _ _ facts.putting facts.broken (search rules) facts.taking
+    begins-some c.args.kind.now c.args.ins c.args.outs c.requires.node c.requires.joined _ machine.taking machine.putting machine.broken _ _ facts.putting facts.broken (search rules) facts.taking
     (λ texts port. rw (facts.given, facts.taking, facts.out, facts.stream) (ap (λ text. if port == 0 then text else []) (c.in-Ok-of_kind.ensures.due (texts 0))))
     (λ texts. rw (facts.taking, facts.stream) (c.in-Ok-of_kind.ensures.selects (texts 0)))

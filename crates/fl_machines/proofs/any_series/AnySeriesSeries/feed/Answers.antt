@@ -7,5 +7,8 @@ returns-in-Grep-clause-wrote c = λ others. rw c.in-Grep.is (c.feed.ensures.wrot
 pub returns-in-Head-clause-wrote : goal.returns-in-Head-clause-wrote
 returns-in-Head-clause-wrote c = λ others. rw c.in-Head.is (c.feed-in-Head.ensures.wrote others)
 
+pub returns-in-Paste-clause-wrote : goal.returns-in-Paste-clause-wrote
+returns-in-Paste-clause-wrote c = λ others. rw c.in-Paste.is (c.feed-in-Paste.ensures.wrote others)
+
 pub returns-in-Wc-clause-wrote : goal.returns-in-Wc-clause-wrote
 returns-in-Wc-clause-wrote c = λ others. rw c.in-Wc.is (c.feed-in-Wc.ensures.wrote others)

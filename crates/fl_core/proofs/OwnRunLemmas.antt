@@ -18,6 +18,7 @@ use Rattle.fl_classes.specs.Sources.{source_texts}
 use Rattle.fl_core.specs.EndLists.{GrewByFiles, NodeEnd, Input, Output, end_at, faults_by, file_nodes, file_sources, given_back, left_at, left_by, numbers_where, own_end, reads_file, taken_by, writes_file}
 use Rattle.fl_core.specs.Ends.{IsReadOff}
 use Rattle.fl_core.specs.Engines.{RunsGraph}
+use Rattle.fl_core.specs.Logs.{Log}
 use Rattle.fl_core.specs.OwnEnds.{EndCounts, HasCause, HasOwnEnds, IfCame, IsTold, RoseAmong, RunsOwn, came_at, came_by, came_of, counts_by, each_of, grown, has_input, has_output, texts_for}
 use Rattle.fl_core.specs.declared.end_lists.Ends.{Ends}
 use Rattle.fl_core.specs.declared.end_lists.Ran.{Ran}
@@ -65,7 +66,7 @@ no-rise rose = omega (arith, rose)
 
 module _ {R W I O : Type 0} (of_reader : R → Option (List ℕ)) (of_input : I → Option (List ℕ)) (of_writer : W → Option (List ℕ)) (of_output : O → Option (List ℕ))
     (reader_faults : R → ℕ) (writer_faults : W → ℕ) (input_faults : I → ℕ) (output_faults : O → ℕ)
-    (graph : Graph) (ends : Ends R W I O) (own : HasOwnEnds graph.nodes ends) (used used' : Option (List (List (List ℕ)))) where
+    (graph : Graph) (ends : Ends R W I O) (own : HasOwnEnds graph.nodes ends) (used used' : Option Log) where
   abbrev faults_of : Option (NodeEnd R W I O) → ℕ
   faults_of end = faults_by reader_faults writer_faults input_faults output_faults end
 

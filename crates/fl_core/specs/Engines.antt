@@ -1,5 +1,5 @@
 -- What comes of a graph that an engine runs (own): one record, whichever engine it is.
-use Rattle.std.specs.Prelude.{◌≡◌, ◌⊎◌, ℕ, List, ◌++◌, Option}
+use Rattle.std.specs.Prelude.{◌≡◌, ◌⊎◌, ℕ, List, Option}
 use Rattle.std.specs.Option.{option_map}
 use Rattle.ps_world.specs.Told.{then_bytes, GrewByPrefix}
 use Rattle.fl_graph.specs.declared.graphs.Graph.{Graph}
@@ -7,19 +7,20 @@ use Rattle.fl_classes.specs.Flow.{outcome}
 use Rattle.fl_classes.specs.Used.{words_used}
 use Rattle.fl_core.specs.EndLists.{Blames, GrewByFiles, IfDone, KeepsOthers, faults_at, file_nodes, given_back, left_at, taken_at}
 use Rattle.fl_core.specs.Ends.{HasRead, HasWritten, HasWrittenFronts}
+use Rattle.fl_core.specs.Logs.{Log, with_words}
 use Rattle.fl_core.specs.Plans.{AreTold}
 use Rattle.fl_core.specs.declared.end_lists.Ends.{Ends}
 use Rattle.fl_core.specs.declared.end_lists.Ran.{Ran}
 
--- the words of the utilities that an engine has run, where it tells them, and those of this graph behind them
-abbrev pub then_used : Option (List (List (List ℕ))) → Graph → Option (List (List (List ℕ)))
-then_used told graph = option_map (λ used. used ++ words_used graph.nodes) told
+-- what an engine tells, where it does, with the words of this graph behind those that it has run
+abbrev pub then_used : Option Log → Graph → Option Log
+then_used told graph = option_map (with_words (words_used graph.nodes)) told
 
 -- what it says of the ends that tell their texts and counts by these functions
 module _ {R W I O : Type 0} (of_reader : R → Option (List ℕ)) (of_input : I → Option (List ℕ)) (of_writer : W → Option (List ℕ)) (of_output : O → Option (List ℕ))
     (reader_faults : R → ℕ) (writer_faults : W → ℕ) (input_faults : I → ℕ) (output_faults : O → ℕ) where
   -- the graph ran over these ends, on an engine that tells it has run these utilities before and those behind it
-  pub record RunsGraph (graph : Graph) (ends : Ends R W I O) (used used' : Option (List (List (List ℕ)))) (ran : Ran R W I O) : Type 0 where
+  pub record RunsGraph (graph : Graph) (ends : Ends R W I O) (used used' : Option Log) (ran : Ran R W I O) : Type 0 where
     -- where it is done, the end of each node that writes has grown by its text, so the output and each file's writer by what the graph leaves;
     -- each source's end is read to its end, and the status is the graph's
     pub written : IfDone ran (λ status. HasWritten graph.nodes (left_at of_reader of_input graph.nodes ends)

@@ -9,6 +9,7 @@ pub mod Starts
 pub mod Moves
 pub mod Inputs
 pub mod EndLists
+pub mod Logs
 pub mod Engines
 pub mod OwnEnds
 pub mod Roles

@@ -20,6 +20,7 @@ use Rattle.fl_classes.specs.Sources.{source_texts}
 use Rattle.fl_core.specs.EndLists.{file_nodes, file_sources, numbers_of}
 use Rattle.fl_core.specs.Ends.{IsReadOff}
 use Rattle.fl_core.specs.Engines.{then_used}
+use Rattle.fl_core.specs.Logs.{Log}
 use Rattle.fl_core.specs.declared.end_lists.Ends.{Ends}
 use Rattle.fl_core.specs.declared.end_lists.Ran.{Ran}
 use Rattle.fl_core.specs.declared.end_lists.Ran.TheVariants as ran
@@ -127,7 +128,7 @@ module _ {R W I O : Type 0} where
 module _ {R W I O : Type 0} (of_reader : R → Option (List ℕ)) (of_input : I → Option (List ℕ)) (of_writer : W → Option (List ℕ)) (of_output : O → Option (List ℕ))
     (reader_faults : R → ℕ) (writer_faults : W → ℕ) (input_faults : I → ℕ) (output_faults : O → ℕ) where
   -- the graph ran over its own ends, and these came back
-  pub record RunsOwn (graph : Graph) (ends : Ends R W I O) (used used' : Option (List (List (List ℕ)))) (came : Came) (back : Ends R W I O) : Type 0 where
+  pub record RunsOwn (graph : Graph) (ends : Ends R W I O) (used used' : Option Log) (came : Came) (back : Ends R W I O) : Type 0 where
     pub leaves : (input : List ℕ) (files : Components → List ℕ) → IsTold of_reader of_input graph.nodes ends input files
         → IfCame came (HasLeft of_writer of_output ends back (outcome graph (source_texts graph.nodes input files)))
     pub part : (input : List ℕ) (files : Components → List ℕ) → IsTold of_reader of_input graph.nodes ends input files

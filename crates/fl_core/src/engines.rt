@@ -1,8 +1,10 @@
 //! Engines, and the one that runs each graph on the caller's thread.
-ghost use Rattle.std.specs.Prelude.{◌≡◌, ℕ, List, [], Option, Some, OnOk, OnErr, true};
+ghost use Rattle.std.specs.Prelude.{◌≡◌, [], Option, Some, IfSome, OnOk, OnErr, true};
+ghost use Rattle.std.specs.Option.{option_map};
 ghost use Rattle.fl_graph.specs.Valid.{Valid};
 ghost use Rattle.fl_core.specs.EndLists.{HasItsEnds};
 ghost use Rattle.fl_core.specs.Engines.{RunsGraph, then_used};
+ghost use Rattle.fl_core.specs.Logs.{Log, at_width, log_of};
 ghost use Rattle.fl_classes.specs.Kinds.{are_run};
 
 use crate::end_lists::{Ends, Ran, run_in_turn};
@@ -18,15 +20,24 @@ use ut_options::Texts;
 
 /// What runs graphs.
 ///
-/// It may tell which utilities its graphs have run: their words, in the order of the runs.
+/// It says over how many parts it wants the graphs spread that it is given, and may tell that and which utilities its graphs have run: their
+/// words, in the order of the runs.
 pub trait Engine {
     /// What its threads are started by.
     type Host: Threads + Wait + Sync;
-    /// The words of the utilities that its graphs have run, where it tells them.
-    ghost used: { Self → Option (List (List (List ℕ))) };
+    /// How it spreads graphs, and the words of the utilities that its graphs have run, where it tells them.
+    ghost used: { Self → Option Log };
 
     /// What starts the threads of its graphs; None: they run on the caller's thread.
     fn host(&self) -> Option<&Self::Host>;
+
+    /// Over how many parts graphs are to be spread.
+    fn width(&self) -> u32
+        ensures { IfSome (used self.now) (λ log. result ≡ log.width) };
+
+    /// Has graphs spread over so many parts from now on.
+    fn spread_over(&mut self, width: u32)
+        ensures { used self.new ≡ option_map (at_width width) (used self.old) };
 
     /// Puts the words of a graph's utilities behind those that it has run, where it tells them.
     fn note(&mut self, graph: &Graph) -> Result<(), Memory>
@@ -58,10 +69,11 @@ pub trait Engine {
     }
 }
 
-/// An engine that runs each graph on the caller's thread, its nodes in turn. It tells the words of the utilities that it has run, which is
-/// what contracts see of it.
+/// An engine that runs each graph on the caller's thread, its nodes in turn. It tells its width and the words of the utilities that it has
+/// run, which is what contracts see of it.
 #[derive(Debug, Drop)]
 pub struct InTurn<H> {
+    width: u32,
     used: Vec<Texts>,
     alloc: Global,
     /// It has no threads, so no value of their host.
@@ -69,9 +81,9 @@ pub struct InTurn<H> {
 }
 
 impl<H> Model for InTurn<H> {
-    ghost Value = { List (List (List ℕ)) };
+    ghost Value = { Log };
 
-    ghost view = { λ engine. engine.used.items };
+    ghost view = { λ engine. log_of engine.width engine.used.items };
 }
 
 impl<H: Threads + Wait + Sync> Engine for InTurn<H> {
@@ -83,17 +95,26 @@ impl<H: Threads + Wait + Sync> Engine for InTurn<H> {
         None
     }
 
+    fn width(&self) -> u32 {
+        self.width
+    }
+
+    fn spread_over(&mut self, width: u32) {
+        self.width = width;
+    }
+
     fn note(&mut self, graph: &Graph) -> Result<(), Memory> {
         add_words(self.alloc, &mut self.used, graph.nodes.as_slice())
     }
 }
 
 impl<H> InTurn<H> {
-    /// An engine that has run nothing.
+    /// An engine that has run nothing, and spreads no graph.
     pub fn new(alloc: Global) -> InTurn<H>
-        ensures { result ≡ [] }
+        ensures { result ≡ log_of 1 [] }
     {
         InTurn {
+            width: 1,
             used: Vec::new(alloc),
             alloc,
             host: PhantomData,
@@ -102,7 +123,7 @@ impl<H> InTurn<H> {
 
     /// The words of the utilities that its graphs have run, in the order of the runs.
     pub fn used(&self) -> &[Texts]
-        ensures { result.now ≡ self.now }
+        ensures { result.now ≡ self.now.words }
     {
         self.used.as_slice()
     }

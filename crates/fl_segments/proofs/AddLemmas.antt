@@ -7,8 +7,9 @@ use Rattle.fl_graph.specs.declared.graphs.Cell.{Cell}
 use Rattle.fl_graph.specs.declared.kinds.NodeKind.{NodeKind}
 use Rattle.fl_segments.specs.Stages.{is_reader}
 use Rattle.fl_segments.specs.Inner.Drawing.{Step, drawn, behind}
-use Rattle.fl_segments.specs.Inner.Steps.{begins, chain_node, chain_rule, chain_steps, comes_behind, comes_on, does_edge, does_steps, done_edge, done_next, done_steps, drain_steps, earlier_steps, first_edge, first_steps, front_edges, front_steps, in_edges, in_steps, join_steps, joined_edges, last_steps, main_edge, main_next, main_steps, on_steps, out_steps, read_edges, read_steps}
-use Rattle.fl_segments.specs.declared.inputs.Coming.{Coming}
+use Rattle.fl_segments.specs.Inner.Steps.{begins, chain_nodes, chain_rule, chain_steps, comes_behind, comes_cut, comes_from, does_nodes, does_parts, does_steps, done_next, done_parts, done_steps, drain_steps, earlier_steps, ends_from, first_parts, first_steps, front_edges, front_steps, goes_from, in_edges, in_steps, join_steps, joined_edges, last_steps, main_nodes, main_parts, main_steps, parts_on, read_edges, read_steps}
+use Rattle.fl_segments.specs.declared.parts.Coming.{Coming}
+use Rattle.fl_segments.specs.declared.parts.Parts.{Parts}
 use Rattle.fl_segments.specs.declared.stages.Does.TheVariants as does
 use Rattle.fl_segments.specs.declared.stages.In.{In}
 use Rattle.fl_segments.specs.declared.stages.Stage.{Stage}
@@ -30,6 +31,21 @@ module _ (next : ℕ) (front back : List Step) where
 
   pub next-append : (on last : ℕ) → on ≡ behind next front → last ≡ behind on back → last ≡ behind next (front ++ back)
   next-append on last on_is last_is = last_is ∙ ap (λ (from : ℕ). behind from back) on_is ∙ sym (behind-append next front back)
+
+-- where the second part hangs on the number behind the first, and on what that gave
+module _ {Given : Type 0} (next : ℕ) (front : List Step) (back : Given → ℕ → List Step) (given : Given) (on : ℕ) (gave : Given) (on_is : on ≡ behind next front) (gave_is : gave ≡ given) where
+  same-back : back gave on ≡ back given (behind next front)
+  same-back = ap (λ (it : Given). back it on) gave_is ∙ ap (back given) on_is
+
+  pub adds-both : (old mid new : List (Cell NodeKind)) → mid ≡ old ++ drawn next front → new ≡ mid ++ drawn on (back gave on) → new ≡ old ++ drawn next (front ++ back given (behind next front))
+  adds-both old mid new mid_is new_is =
+      adds-append next front (back given (behind next front)) old mid new on mid_is on_is (new_is ∙ ap (λ (steps : List Step). mid ++ drawn on steps) same-back)
+
+  pub next-both : (last : ℕ) → last ≡ behind on (back gave on) → last ≡ behind next (front ++ back given (behind next front))
+  next-both last is = next-append next front (back given (behind next front)) on last on_is (is ∙ ap (behind on) same-back)
+
+  pub gives-both : {Value : Type 0} (value : Given → ℕ → Value) (it : Value) → it ≡ value gave on → it ≡ value given (behind next front)
+  gives-both value it is = is ∙ ap (λ (it : Given). value it on) gave_is ∙ ap (value given) on_is
 
 -- how many nodes there are then
 pub adds-count : (old new : List (Cell NodeKind)) (next : ℕ) (steps : List Step) → new ≡ old ++ drawn next steps → length new ≡ length old + length steps
@@ -54,112 +70,116 @@ module _ (number : ℕ) (comes : Coming) (stage : Stage) (next on : ℕ) (on_is 
   pub front-next : (last : ℕ) → last ≡ behind on (read_steps number comes stage.does stage.ins on) → last ≡ behind next (front_steps number comes stage next)
   front-next last is = next-append next drain (reads next) on last on_behind (is ∙ ap (λ (from : ℕ). behind on (reads from)) on_is)
 
-  pub front-takes : (edges : List ℕ) → edges ≡ read_edges number comes stage.does stage.ins on → edges ≡ front_edges number comes stage next
-  front-takes edges is = is ∙ ap (read_edges number comes stage.does stage.ins) on_is
+  pub front-takes : (edges : List ℕ) (cut : Bool) → cut ≡ comes_cut comes → edges ≡ read_edges number comes stage.does stage.ins on → parts_on edges cut ≡ parts_on (front_edges number comes stage next) (comes_cut comes)
+  front-takes edges cut cut_is is =
+      ap (λ (edges : List ℕ). parts_on edges cut) (is ∙ ap (read_edges number comes stage.does stage.ins) on_is) ∙ ap (parts_on (front_edges number comes stage next)) cut_is
 
-module _ (number : ℕ) (comes : Coming) (inv : Inv) (ins : List In) (next on : ℕ) (edges : List ℕ) (on_is : on ≡ behind next (in_steps number comes ins)) (edges_are : edges ≡ in_edges number comes ins next) where
-  pub inputs-add : (old mid new : List (Cell NodeKind)) → mid ≡ old ++ drawn next (in_steps number comes ins) → new ≡ mid ++ drawn on (join_steps number inv edges)
+module _ (number : ℕ) (comes : Coming) (inv : Inv) (ins : List In) (next on : ℕ) (edges : List ℕ) (leads : Bool) (on_is : on ≡ behind next (in_steps number comes ins)) (edges_are : edges ≡ in_edges number comes ins next) (leads_is : leads ≡ begins comes) where
+  same-joins : join_steps number leads inv ins edges ≡ join_steps number (begins comes) inv ins (in_edges number comes ins next)
+  same-joins = ap (λ (leads : Bool). join_steps number leads inv ins edges) leads_is ∙ ap (join_steps number (begins comes) inv ins) edges_are
+
+  pub inputs-add : (old mid new : List (Cell NodeKind)) → mid ≡ old ++ drawn next (in_steps number comes ins) → new ≡ mid ++ drawn on (join_steps number leads inv ins edges)
       → new ≡ old ++ drawn next (read_steps number comes (does.Util inv) ins next)
   inputs-add old mid new mid_is new_is =
-      adds-append next (in_steps number comes ins) (join_steps number inv (in_edges number comes ins next)) old mid new on mid_is on_is
-      (new_is ∙ ap (λ (edges : List ℕ). mid ++ drawn on (join_steps number inv edges)) edges_are)
+      adds-append next (in_steps number comes ins) (join_steps number (begins comes) inv ins (in_edges number comes ins next)) old mid new on mid_is on_is
+      (new_is ∙ ap (λ (steps : List Step). mid ++ drawn on steps) same-joins)
 
-  pub inputs-next : (last : ℕ) → last ≡ behind on (join_steps number inv edges) → last ≡ behind next (read_steps number comes (does.Util inv) ins next)
+  pub inputs-next : (last : ℕ) → last ≡ behind on (join_steps number leads inv ins edges) → last ≡ behind next (read_steps number comes (does.Util inv) ins next)
   inputs-next last is =
-      next-append next (in_steps number comes ins) (join_steps number inv (in_edges number comes ins next)) on last on_is (is ∙ ap (λ (edges : List ℕ). behind on (join_steps number inv edges)) edges_are)
+      next-append next (in_steps number comes ins) (join_steps number (begins comes) inv ins (in_edges number comes ins next)) on last on_is (is ∙ ap (behind on) same-joins)
 
-  pub inputs-edges : (joined : List ℕ) → joined ≡ joined_edges inv edges on → joined ≡ read_edges number comes (does.Util inv) ins next
-  inputs-edges joined is = is ∙ ap (λ (edges : List ℕ). joined_edges inv edges on) edges_are ∙ ap (joined_edges inv (in_edges number comes ins next)) on_is
+  pub inputs-edges : (joined : List ℕ) → joined ≡ joined_edges leads inv ins edges on → joined ≡ read_edges number comes (does.Util inv) ins next
+  inputs-edges joined is =
+      is ∙ ap (λ (leads : Bool). joined_edges leads inv ins edges on) leads_is ∙ ap (λ (edges : List ℕ). joined_edges (begins comes) inv ins edges on) edges_are
+      ∙ ap (joined_edges (begins comes) inv ins (in_edges number comes ins next)) on_is
 
 -- A STAGE
-module _ (number : ℕ) (comes : Coming) (stage : Stage) (next : ℕ) where
+module _ (width number : ℕ) (comes : Coming) (stage : Stage) (next : ℕ) where
   -- what it adds up to where its output goes
-  pub record Main (old one two three : List (Cell NodeKind)) (edges : List ℕ) (leads : Bool) (to_one to_two to_three node done both : ℕ) : Type 0 where
+  pub record Main (old one two three : List (Cell NodeKind)) (leads : Bool) (to_one to_two to_three : ℕ) (taken done both : Parts) (nodes : List ℕ) : Type 0 where
     pub front : one ≡ old ++ drawn next (front_steps number comes stage next)
     pub to_front : to_one ≡ behind next (front_steps number comes stage next)
-    pub edges_are : edges ≡ front_edges number comes stage next
+    pub taken_is : taken ≡ parts_on (front_edges number comes stage next) (comes_cut comes)
     pub leads_is : leads ≡ begins comes
-    pub node_is : node ≡ length one
-    pub does_so : two ≡ one ++ drawn to_one (does_steps number leads stage.does stage.first edges)
-    pub to_does : to_two ≡ behind to_one (does_steps number leads stage.does stage.first edges)
-    pub done_is : done ≡ does_edge leads stage.does edges to_one
-    pub first_so : three ≡ two ++ drawn to_two (first_steps number stage.does stage.first done to_two)
-    pub to_first : to_three ≡ behind to_two (first_steps number stage.does stage.first done to_two)
-    pub both_is : both ≡ first_edge stage.does stage.first done to_two
+    pub does_so : two ≡ one ++ drawn to_one (does_steps width number leads stage.does stage.first taken.edges to_one)
+    pub to_does : to_two ≡ behind to_one (does_steps width number leads stage.does stage.first taken.edges to_one)
+    pub done_is : done ≡ does_parts width number leads stage.does taken to_one
+    pub nodes_are : nodes ≡ does_nodes width number leads stage.does taken.edges (length one)
+    pub first_so : three ≡ two ++ drawn to_two (first_steps number stage.does stage.first done.edges)
+    pub to_first : to_three ≡ behind to_two (first_steps number stage.does stage.first done.edges)
+    pub both_is : both ≡ first_parts number stage.does stage.first done to_two
 
-  module _ (old one two three : List (Cell NodeKind)) (edges : List ℕ) (leads : Bool) (to_one to_two to_three node done both : ℕ) (main : Main old one two three edges leads to_one to_two to_three node done both) where
-    same-does : does_steps number leads stage.does stage.first edges ≡ done_steps number comes stage next
+  module _ (old one two three : List (Cell NodeKind)) (leads : Bool) (to_one to_two to_three : ℕ) (taken done both : Parts) (nodes : List ℕ) (main : Main old one two three leads to_one to_two to_three taken done both nodes) where
+    same-does : does_steps width number leads stage.does stage.first taken.edges to_one ≡ done_steps width number comes stage next
     same-does =
-        ap (λ (leads : Bool). does_steps number leads stage.does stage.first edges) main.leads_is
-        ∙ ap (does_steps number (begins comes) stage.does stage.first) main.edges_are
+        ap (λ (leads : Bool). does_steps width number leads stage.does stage.first taken.edges to_one) main.leads_is
+        ∙ ap (λ (taken : Parts). does_steps width number (begins comes) stage.does stage.first taken.edges to_one) main.taken_is
+        ∙ ap (does_steps width number (begins comes) stage.does stage.first (front_edges number comes stage next)) main.to_front
 
-    two-behind : to_two ≡ behind to_one (done_steps number comes stage next)
+    two-behind : to_two ≡ behind to_one (done_steps width number comes stage next)
     two-behind = main.to_does ∙ ap (behind to_one) same-does
 
-    two-is : to_two ≡ done_next number comes stage next
-    two-is = two-behind ∙ ap (λ (from : ℕ). behind from (done_steps number comes stage next)) main.to_front
+    two-is : to_two ≡ done_next width number comes stage next
+    two-is = two-behind ∙ ap (λ (from : ℕ). behind from (done_steps width number comes stage next)) main.to_front
 
-    done-same : done ≡ done_edge number comes stage next
+    done-same : done ≡ done_parts width number comes stage next
     done-same =
-        main.done_is ∙ ap (λ (leads : Bool). does_edge leads stage.does edges to_one) main.leads_is
-        ∙ ap (λ (edges : List ℕ). does_edge (begins comes) stage.does edges to_one) main.edges_are
-        ∙ ap (does_edge (begins comes) stage.does (front_edges number comes stage next)) main.to_front
+        main.done_is ∙ ap (λ (leads : Bool). does_parts width number leads stage.does taken to_one) main.leads_is
+        ∙ ap (λ (taken : Parts). does_parts width number (begins comes) stage.does taken to_one) main.taken_is
+        ∙ ap (does_parts width number (begins comes) stage.does (parts_on (front_edges number comes stage next) (comes_cut comes))) main.to_front
 
-    same-first : first_steps number stage.does stage.first done to_two ≡ first_steps number stage.does stage.first (done_edge number comes stage next) (done_next number comes stage next)
-    same-first =
-        ap (λ (edge : ℕ). first_steps number stage.does stage.first edge to_two) done-same
-        ∙ ap (first_steps number stage.does stage.first (done_edge number comes stage next)) two-is
+    same-first : first_steps number stage.does stage.first done.edges ≡ first_steps number stage.does stage.first (done_parts width number comes stage next).edges
+    same-first = ap (λ (done : Parts). first_steps number stage.does stage.first done.edges) done-same
 
-    pub main-adds : three ≡ old ++ drawn next (main_steps number comes stage next)
+    pub main-adds : three ≡ old ++ drawn next (main_steps width number comes stage next)
     main-adds =
-        let firsts : List Step = first_steps number stage.does stage.first (done_edge number comes stage next) (done_next number comes stage next) in
-        adds-append next (front_steps number comes stage next) (done_steps number comes stage next ++ firsts) old one three to_one main.front main.to_front
-        (adds-append to_one (done_steps number comes stage next) firsts one two three to_two (main.does_so ∙ ap (λ (steps : List Step). one ++ drawn to_one steps) same-does) two-behind
+        let firsts : List Step = first_steps number stage.does stage.first (done_parts width number comes stage next).edges in
+        adds-append next (front_steps number comes stage next) (done_steps width number comes stage next ++ firsts) old one three to_one main.front main.to_front
+        (adds-append to_one (done_steps width number comes stage next) firsts one two three to_two (main.does_so ∙ ap (λ (steps : List Step). one ++ drawn to_one steps) same-does) two-behind
         (main.first_so ∙ ap (λ (steps : List Step). two ++ drawn to_two steps) same-first))
 
-    pub main-behind : to_three ≡ behind next (main_steps number comes stage next)
+    pub main-behind : to_three ≡ behind next (main_steps width number comes stage next)
     main-behind =
-        let firsts : List Step = first_steps number stage.does stage.first (done_edge number comes stage next) (done_next number comes stage next) in
-        next-append next (front_steps number comes stage next) (done_steps number comes stage next ++ firsts) to_one to_three main.to_front
-        (next-append to_one (done_steps number comes stage next) firsts to_two to_three two-behind (main.to_first ∙ ap (behind to_two) same-first))
+        let firsts : List Step = first_steps number stage.does stage.first (done_parts width number comes stage next).edges in
+        next-append next (front_steps number comes stage next) (done_steps width number comes stage next ++ firsts) to_one to_three main.to_front
+        (next-append to_one (done_steps width number comes stage next) firsts to_two to_three two-behind (main.to_first ∙ ap (behind to_two) same-first))
 
-    pub main-leads : both ≡ main_edge number comes stage next
-    main-leads =
-        main.both_is ∙ ap (λ (edge : ℕ). first_edge stage.does stage.first edge to_two) done-same
-        ∙ ap (first_edge stage.does stage.first (done_edge number comes stage next)) two-is
+    pub main-gives : both ≡ main_parts width number comes stage next
+    main-gives =
+        main.both_is ∙ ap (λ (done : Parts). first_parts number stage.does stage.first done to_two) done-same
+        ∙ ap (first_parts number stage.does stage.first (done_parts width number comes stage next)) two-is
 
-    pub main-node : node ≡ length old + length (front_steps number comes stage next)
-    main-node = main.node_is ∙ adds-count old one next (front_steps number comes stage next) main.front
+    pub main-named : nodes ≡ main_nodes width number comes stage next (length old)
+    main-named =
+        main.nodes_are ∙ ap (λ (leads : Bool). does_nodes width number leads stage.does taken.edges (length one)) main.leads_is
+        ∙ ap (λ (taken : Parts). does_nodes width number (begins comes) stage.does taken.edges (length one)) main.taken_is
+        ∙ ap (does_nodes width number (begins comes) stage.does (front_edges number comes stage next)) (adds-count old one next (front_steps number comes stage next) main.front)
 
-  module _ (on edge : ℕ) (on_is : on ≡ behind next (main_steps number comes stage next)) (edge_is : edge ≡ main_edge number comes stage next) where
-    pub earlier-adds : (reads : Bool) (old mid new : List (Cell NodeKind)) → mid ≡ old ++ drawn next (main_steps number comes stage next)
-        → new ≡ mid ++ drawn on (on_steps number stage.out stage.piped reads edge) → new ≡ old ++ drawn next (earlier_steps number comes stage next reads)
-    earlier-adds reads old mid new mid_is new_is =
-        adds-append next (main_steps number comes stage next) (on_steps number stage.out stage.piped reads (main_edge number comes stage next)) old mid new on mid_is on_is
-        (new_is ∙ ap (λ (edge : ℕ). mid ++ drawn on (on_steps number stage.out stage.piped reads edge)) edge_is)
+  module _ (on : ℕ) (parts : Parts) (on_is : on ≡ behind next (main_steps width number comes stage next)) (parts_are : parts ≡ main_parts width number comes stage next) where
+    pub earlier-adds : (following : Stage) (old mid new : List (Cell NodeKind)) → mid ≡ old ++ drawn next (main_steps width number comes stage next)
+        → new ≡ mid ++ drawn on (goes_from width number stage following parts on) → new ≡ old ++ drawn next (earlier_steps width number comes stage next following)
+    earlier-adds following old mid new mid_is new_is =
+        adds-both next (main_steps width number comes stage next) (goes_from width number stage following) (main_parts width number comes stage next) on parts on_is parts_are old mid new mid_is new_is
 
-    pub earlier-next : (reads : Bool) (last : ℕ) → last ≡ behind on (on_steps number stage.out stage.piped reads edge) → last ≡ behind next (earlier_steps number comes stage next reads)
-    earlier-next reads last is =
-        next-append next (main_steps number comes stage next) (on_steps number stage.out stage.piped reads (main_edge number comes stage next)) on last on_is
-        (is ∙ ap (λ (edge : ℕ). behind on (on_steps number stage.out stage.piped reads edge)) edge_is)
+    pub earlier-next : (following : Stage) (last : ℕ) → last ≡ behind on (goes_from width number stage following parts on) → last ≡ behind next (earlier_steps width number comes stage next following)
+    earlier-next following last is =
+        next-both next (main_steps width number comes stage next) (goes_from width number stage following) (main_parts width number comes stage next) on parts on_is parts_are last is
 
-    pub earlier-comes : (reads : Bool) (goes : Coming) → goes ≡ comes_on stage.out reads edge on → goes ≡ comes_behind number comes stage next reads
-    earlier-comes reads goes is =
-        is ∙ ap (λ (edge : ℕ). comes_on stage.out reads edge on) edge_is ∙ ap (comes_on stage.out reads (main_edge number comes stage next)) on_is
+    pub earlier-comes : (following : Stage) (goes : Coming) → goes ≡ comes_from width number stage following parts on → goes ≡ comes_behind width number comes stage next following
+    earlier-comes following goes is =
+        gives-both next (main_steps width number comes stage next) (goes_from width number stage following) (main_parts width number comes stage next) on parts on_is parts_are (comes_from width number stage following) goes is
 
-    pub last-adds : (old mid new : List (Cell NodeKind)) → mid ≡ old ++ drawn next (main_steps number comes stage next)
-        → new ≡ mid ++ drawn on (out_steps number stage.out stage.piped edge on) → new ≡ old ++ drawn next (last_steps number comes stage next)
+    pub last-adds : (old mid new : List (Cell NodeKind)) → mid ≡ old ++ drawn next (main_steps width number comes stage next)
+        → new ≡ mid ++ drawn on (ends_from number stage parts on) → new ≡ old ++ drawn next (last_steps width number comes stage next)
     last-adds old mid new mid_is new_is =
-        adds-append next (main_steps number comes stage next) (out_steps number stage.out stage.piped (main_edge number comes stage next) (main_next number comes stage next)) old mid new on mid_is on_is
-        (new_is ∙ ap (λ (edge : ℕ). mid ++ drawn on (out_steps number stage.out stage.piped edge on)) edge_is
-        ∙ ap (λ (from : ℕ). mid ++ drawn on (out_steps number stage.out stage.piped (main_edge number comes stage next) from)) on_is)
+        adds-both next (main_steps width number comes stage next) (ends_from number stage) (main_parts width number comes stage next) on parts on_is parts_are old mid new mid_is new_is
 
 -- ALL STAGES
 -- the stages from this one on are left to add
-pub record IsAt (before now : List (Cell NodeKind)) (from next : ℕ) (begin comes : Coming) (segment left : List Stage) (stage : Stage) (number : ℕ) : Type 0 where
-  pub nodes : now ++ drawn next (chain_steps number comes (stage ∷ left) next) ≡ before ++ drawn from (chain_steps 0 begin segment from)
-  pub node : length now + chain_node number comes (stage ∷ left) next ≡ length before + chain_node 0 begin segment from
-  pub rule : (node : ℕ) → chain_rule (stage ∷ left) node ≡ chain_rule segment node
+pub record IsAt (width : ℕ) (before now : List (Cell NodeKind)) (from next : ℕ) (begin comes : Coming) (segment left : List Stage) (stage : Stage) (number : ℕ) : Type 0 where
+  pub nodes : now ++ drawn next (chain_steps width number comes (stage ∷ left) next) ≡ before ++ drawn from (chain_steps width 0 begin segment from)
+  pub named : chain_nodes width number comes (stage ∷ left) next (length now) ≡ chain_nodes width 0 begin segment from (length before)
+  pub rule : (nodes : List ℕ) → chain_rule (stage ∷ left) nodes ≡ chain_rule segment nodes
   pub count : number + 1 + length left ≡ length segment
 
 -- a slice's first element, and the rest
@@ -168,33 +188,32 @@ left-parts [] stage is some = absurd (omega (arith, some))
 left-parts (first ∷ left) stage is some =
     ap (λ (it : Stage). it ∷ left) (sym is) ∙ ap (λ (rest : List Stage). stage ∷ rest) (sym (take_all (length (first ∷ left) - 1) left (omega arith)))
 
-module _ (before now : List (Cell NodeKind)) (from next : ℕ) (begin comes : Coming) (segment : List Stage) (stage : Stage) (number : ℕ) where
-  pub goes-on : (following : Stage) (others : List Stage) → IsAt before now from next begin comes segment (following ∷ others) stage number
+module _ (width : ℕ) (before now : List (Cell NodeKind)) (from next : ℕ) (begin comes : Coming) (segment : List Stage) (stage : Stage) (number : ℕ) where
+  pub goes-on : (following : Stage) (others : List Stage) → IsAt width before now from next begin comes segment (following ∷ others) stage number
       → (new : List (Cell NodeKind)) (on : ℕ) (goes : Coming)
-      → new ≡ now ++ drawn next (earlier_steps number comes stage next (is_reader following)) → on ≡ behind next (earlier_steps number comes stage next (is_reader following))
-      → goes ≡ comes_behind number comes stage next (is_reader following) → IsAt before new from on begin goes segment others following (number + 1)
+      → new ≡ now ++ drawn next (earlier_steps width number comes stage next following) → on ≡ behind next (earlier_steps width number comes stage next following)
+      → goes ≡ comes_behind width number comes stage next following → IsAt width before new from on begin goes segment others following (number + 1)
   goes-on following others at new on goes new_is on_is goes_is =
-      let here : List Step = earlier_steps number comes stage next (is_reader following) in
-      let coming : Coming = comes_behind number comes stage next (is_reader following) in
+      let here : List Step = earlier_steps width number comes stage next following in
+      let coming : Coming = comes_behind width number comes stage next following in
       let there : ℕ = behind next here in
+      let count : length new ≡ length now + length here = adds-count now new next here new_is in
       record {
-        nodes = ap (λ (comes : Coming). new ++ drawn on (chain_steps (number + 1) comes (following ∷ others) on)) goes_is
-            ∙ ap (λ (from : ℕ). new ++ drawn from (chain_steps (number + 1) coming (following ∷ others) from)) on_is
-            ∙ ap (λ (cells : List (Cell NodeKind)). cells ++ drawn there (chain_steps (number + 1) coming (following ∷ others) there)) new_is
-            ∙ append_assoc now (drawn next here) (drawn there (chain_steps (number + 1) coming (following ∷ others) there))
-            ∙ ap (λ (cells : List (Cell NodeKind)). now ++ cells) (sym (drawn-append next here (chain_steps (number + 1) coming (following ∷ others) there))) ∙ at.nodes;
-        node = ap (λ (comes : Coming). length new + chain_node (number + 1) comes (following ∷ others) on) goes_is
-            ∙ ap (λ (from : ℕ). length new + chain_node (number + 1) coming (following ∷ others) from) on_is
-            ∙ (let count = adds-count now new next here new_is in let all = at.node in omega (arith, count, all));
+        nodes = ap (λ (comes : Coming). new ++ drawn on (chain_steps width (number + 1) comes (following ∷ others) on)) goes_is
+            ∙ ap (λ (from : ℕ). new ++ drawn from (chain_steps width (number + 1) coming (following ∷ others) from)) on_is
+            ∙ ap (λ (cells : List (Cell NodeKind)). cells ++ drawn there (chain_steps width (number + 1) coming (following ∷ others) there)) new_is
+            ∙ append_assoc now (drawn next here) (drawn there (chain_steps width (number + 1) coming (following ∷ others) there))
+            ∙ ap (λ (cells : List (Cell NodeKind)). now ++ cells) (sym (drawn-append next here (chain_steps width (number + 1) coming (following ∷ others) there))) ∙ at.nodes;
+        named = ap (λ (comes : Coming). chain_nodes width (number + 1) comes (following ∷ others) on (length new)) goes_is
+            ∙ ap (λ (from : ℕ). chain_nodes width (number + 1) coming (following ∷ others) from (length new)) on_is
+            ∙ ap (chain_nodes width (number + 1) coming (following ∷ others) there) count ∙ at.named;
         rule = at.rule;
         count = (let all = at.count in omega (arith, all));
       }
 
-  pub goes-on-at : (left : List Stage) (following : Stage) → following ≡ get_or left 0 following → 1 ≤ length left → IsAt before now from next begin comes segment left stage number
-      → (is_read : Bool) → is_read ≡ is_reader following → (new : List (Cell NodeKind)) (on : ℕ) (goes : Coming)
-      → new ≡ now ++ drawn next (earlier_steps number comes stage next is_read) → on ≡ behind next (earlier_steps number comes stage next is_read)
-      → goes ≡ comes_behind number comes stage next is_read → IsAt before new from on begin goes segment (take (length left - 1) (drop 1 left)) following (number + 1)
-  goes-on-at left following is some at is_read read_is new on goes new_is on_is goes_is =
-      goes-on following (take (length left - 1) (drop 1 left)) (subst (λ (left : List Stage). IsAt before now from next begin comes segment left stage number) (left-parts left following is some) at) new on goes
-      (new_is ∙ ap (λ (reads : Bool). now ++ drawn next (earlier_steps number comes stage next reads)) read_is)
-      (on_is ∙ ap (λ (reads : Bool). behind next (earlier_steps number comes stage next reads)) read_is) (goes_is ∙ ap (comes_behind number comes stage next) read_is)
+  pub goes-on-at : (left : List Stage) (following : Stage) → following ≡ get_or left 0 following → 1 ≤ length left → IsAt width before now from next begin comes segment left stage number
+      → (new : List (Cell NodeKind)) (on : ℕ) (goes : Coming)
+      → new ≡ now ++ drawn next (earlier_steps width number comes stage next following) → on ≡ behind next (earlier_steps width number comes stage next following)
+      → goes ≡ comes_behind width number comes stage next following → IsAt width before new from on begin goes segment (take (length left - 1) (drop 1 left)) following (number + 1)
+  goes-on-at left following is some at new on goes new_is on_is goes_is =
+      goes-on following (take (length left - 1) (drop 1 left)) (subst (λ (left : List Stage). IsAt width before now from next begin comes segment left stage number) (left-parts left following is some) at) new on goes new_is on_is goes_is

@@ -1,5 +1,5 @@
 -- Graphs that are made node by node: their edges, and what is found among their nodes.
-use Rattle.std.proofs.Common.{◌≡◌, ℕ, suc, ◌+◌, List, [], ◌∷◌, ◌++◌, Bool, true, false, ◌&&◌, ◌||◌, Option, if◌then◌else◌, nat_lt, length, refl, ap, sym, ◌∙◌, append-nil, arith}
+use Rattle.std.proofs.Common.{◌≡◌, ℕ, zero, suc, ◌+◌, List, [], ◌∷◌, ◌++◌, Bool, true, false, ◌&&◌, ◌||◌, Option, if◌then◌else◌, nat_lt, length, refl, ap, sym, ◌∙◌, append-nil, arith}
 use Rattle.std.specs.List.{range_with_len, list_all, list_any, count_by, filter_map, flat_map, cons_option}
 use Rattle.std.proofs.lemmas.Bool.{true≢false, and_from, and_parts, ltb-true}
 use Rattle.std.proofs.lemmas.Grind.{flat_map-append}
@@ -14,13 +14,13 @@ use Rattle.fl_graph.specs.declared.kinds.NodeKind.{NodeKind}
 use Rattle.fl_graph.specs.declared.kinds.NodeKind.TheVariants as kind
 use Rattle.fl_graph.proofs.ListLemmas.{holds-has, all-has}
 use Rattle.fl_graph.proofs.EdgeLemmas.{leads_on-each}
-use Rattle.fl_segments.specs.Inner.Drawing.{Step, gives_one, cell_of, outs_of, next_of, drawn, behind}
+use Rattle.fl_segments.specs.Inner.Drawing.{Step, cell_of, outs_of, next_of, drawn, behind}
 use Rattle.fl_segments.proofs.RowLemmas.{range-append, range-below, range-has, range-once}
 
 -- how many edges these give, and those that they take
 abbrev pub given : List Step → ℕ
 given [] = 0
-given (it ∷ steps) = (if gives_one it.kind then 1 else 0) + given steps
+given (it ∷ steps) = it.outs + given steps
 
 abbrev pub taken : List Step → List ℕ
 taken steps = flat_map (λ it. it.ins) steps
@@ -28,26 +28,28 @@ taken steps = flat_map (λ it. it.ins) steps
 -- each takes edges that are given before
 abbrev pub AreBelow : ℕ → List Step → Type 0
 AreBelow next [] = Unit {0}
-AreBelow next (it ∷ steps) = (list_all (λ edge. nat_lt edge next) it.ins ≡ true) × AreBelow (next_of it.kind next) steps
+AreBelow next (it ∷ steps) = (list_all (λ edge. nat_lt edge next) it.ins ≡ true) × AreBelow (next_of it.outs next) steps
 
 pub drawn-append : (next : ℕ) (front back : List Step) → drawn next (front ++ back) ≡ drawn next front ++ drawn (behind next front) back
 drawn-append next [] back = refl
-drawn-append next (it ∷ front) back = ap (λ (cells : List (Cell NodeKind)). cell_of it (outs_of it.kind next) ∷ cells) (drawn-append (next_of it.kind next) front back)
+drawn-append next (it ∷ front) back = ap (λ (cells : List (Cell NodeKind)). cell_of it (outs_of it.outs next) ∷ cells) (drawn-append (next_of it.outs next) front back)
 
 pub behind-append : (next : ℕ) (front back : List Step) → behind next (front ++ back) ≡ behind (behind next front) back
 behind-append next [] back = refl
-behind-append next (it ∷ front) back = behind-append (next_of it.kind next) front back
+behind-append next (it ∷ front) back = behind-append (next_of it.outs next) front back
 
-next-is : (one : Bool) (next : ℕ) → (if one then next + 1 else next) ≡ next + (if one then 1 else 0)
-next-is true next = refl
-next-is false next = omega arith
+pub next-is : (outs next : ℕ) → next_of outs next ≡ next + outs
+next-is zero next = omega arith
+next-is (suc outs) next = next-is outs (next + 1) ∙ omega arith
+
+pub next_sum : (outs next sum : ℕ) → sum ≡ next + outs → sum ≡ next_of outs next
+next_sum outs next sum is = is ∙ sym (next-is outs next)
 
 pub behind-given : (next : ℕ) (steps : List Step) → behind next steps ≡ next + given steps
 behind-given next [] = omega arith
 behind-given next (it ∷ steps) =
-    let one : ℕ = if gives_one it.kind then 1 else 0 in
-    let here = next-is (gives_one it.kind) next in
-    let rest = behind-given (next_of it.kind next) steps in
+    let here = next-is it.outs next in
+    let rest = behind-given (next_of it.outs next) steps in
     rest ∙ ap (λ (from : ℕ). from + given steps) here ∙ omega arith
 
 pub given-append : (front back : List Step) → given (front ++ back) ≡ given front + given back
@@ -56,38 +58,36 @@ given-append (it ∷ front) back = let rest = given-append front back in omega (
 
 pub below-append : (next : ℕ) (front back : List Step) → AreBelow next front → AreBelow (behind next front) back → AreBelow next (front ++ back)
 below-append next [] back first rest = rest
-below-append next (it ∷ front) back first rest = (first.0, below-append (next_of it.kind next) front back first.1 rest)
+below-append next (it ∷ front) back first rest = (first.0, below-append (next_of it.outs next) front back first.1 rest)
 
 pub takes-drawn : (next : ℕ) (steps : List Step) → takes (drawn next steps) ≡ taken steps
 takes-drawn next [] = refl
-takes-drawn next (it ∷ steps) = ap (λ (edges : List ℕ). it.ins ++ edges) (takes-drawn (next_of it.kind next) steps)
-
-one-row : (one : Bool) (next count : ℕ) → (if one then next ∷ [] else []) ++ range_with_len (if one then next + 1 else next) count ≡ range_with_len next ((if one then 1 else 0) + count)
-one-row true next count = let all : 1 + count ≡ suc count = omega arith in rw all refl
-one-row false next count = let all : 0 + count ≡ count = omega arith in rw all refl
+takes-drawn next (it ∷ steps) = ap (λ (edges : List ℕ). it.ins ++ edges) (takes-drawn (next_of it.outs next) steps)
 
 pub gives-drawn : (next : ℕ) (steps : List Step) → gives (drawn next steps) ≡ range_with_len next (given steps)
 gives-drawn next [] = refl
 gives-drawn next (it ∷ steps) =
-    ap (λ (edges : List ℕ). outs_of it.kind next ++ edges) (gives-drawn (next_of it.kind next) steps) ∙ one-row (gives_one it.kind) next (given steps)
+    ap (λ (edges : List ℕ). range_with_len next it.outs ++ edges) (gives-drawn (next_of it.outs next) steps)
+    ∙ ap (λ (from : ℕ). range_with_len next it.outs ++ range_with_len from (given steps)) (next-is it.outs next) ∙ range-append next it.outs (given steps)
 
-outs-row : (one : Bool) (next : ℕ) → range_with_len 0 next ++ (if one then next ∷ [] else []) ≡ range_with_len 0 (if one then next + 1 else next)
-outs-row true next = let here : 0 + next ≡ next = omega arith in ap (λ (from : ℕ). range_with_len 0 next ++ range_with_len from 1) (sym here) ∙ range-append 0 next 1
-outs-row false next = append-nil (range_with_len 0 next)
+outs-row : (outs next : ℕ) → range_with_len 0 next ++ range_with_len next outs ≡ range_with_len 0 (next_of outs next)
+outs-row outs next =
+    let here : 0 + next ≡ next = omega arith in
+    ap (λ (from : ℕ). range_with_len 0 next ++ range_with_len from outs) (sym here) ∙ range-append 0 next outs ∙ ap (range_with_len 0) (sym (next-is outs next))
 
 order-drawn : (before : List (Cell NodeKind)) (next : ℕ) (steps : List Step) → gives before ≡ range_with_len 0 next → AreBelow next steps
     → each_after takes_given before (drawn next steps) ≡ true
 order-drawn before next [] row below = refl
 order-drawn before next (it ∷ steps) row below =
-    let cell : Cell NodeKind = cell_of it (outs_of it.kind next) in
+    let cell : Cell NodeKind = cell_of it (outs_of it.outs next) in
     let here : takes_given before cell ≡ true =
     all-has (λ edge. has edge (gives before)) it.ins (λ edge there.
     ap (has edge) row ∙ range-has 0 next edge (omega arith) (let less = ltb-true edge next (holds-has (λ edge. nat_lt edge next) edge it.ins below.0 there) in omega (arith, less))) in
-    let all : gives (before ++ cell ∷ []) ≡ range_with_len 0 (next_of it.kind next) =
-    flat_map-append (λ (cell : Cell NodeKind). cell.outs) before (cell ∷ []) ∙ ap (λ (outs : List ℕ). gives before ++ outs) (append-nil (outs_of it.kind next))
-    ∙ ap (λ (edges : List ℕ). edges ++ outs_of it.kind next) row ∙ outs-row (gives_one it.kind) next in
-    and_from (takes_given before cell) (each_after takes_given (before ++ cell ∷ []) (drawn (next_of it.kind next) steps)) here
-    (order-drawn (before ++ cell ∷ []) (next_of it.kind next) steps all below.1)
+    let all : gives (before ++ cell ∷ []) ≡ range_with_len 0 (next_of it.outs next) =
+    flat_map-append (λ (cell : Cell NodeKind). cell.outs) before (cell ∷ []) ∙ ap (λ (outs : List ℕ). gives before ++ outs) (append-nil (outs_of it.outs next))
+    ∙ ap (λ (edges : List ℕ). edges ++ outs_of it.outs next) row ∙ outs-row it.outs next in
+    and_from (takes_given before cell) (each_after takes_given (before ++ cell ∷ []) (drawn (next_of it.outs next) steps)) here
+    (order-drawn (before ++ cell ∷ []) (next_of it.outs next) steps all below.1)
 
 -- each edge is taken once
 abbrev pub AreTaken : List Step → Type 0
@@ -109,43 +109,39 @@ edges-drawn steps below all =
 module _ (test : NodeKind → Bool) where
   pub all-drawn : (next : ℕ) (steps : List Step) → list_all (λ (cell : Cell NodeKind). test cell.kind) (drawn next steps) ≡ list_all (λ (it : Step). test it.kind) steps
   all-drawn next [] = refl
-  all-drawn next (it ∷ steps) = ap (λ rest. test it.kind && rest) (all-drawn (next_of it.kind next) steps)
+  all-drawn next (it ∷ steps) = ap (λ rest. test it.kind && rest) (all-drawn (next_of it.outs next) steps)
 
   pub any-drawn : (next : ℕ) (steps : List Step) → list_any (λ (cell : Cell NodeKind). test cell.kind) (drawn next steps) ≡ list_any (λ (it : Step). test it.kind) steps
   any-drawn next [] = refl
-  any-drawn next (it ∷ steps) = ap (λ rest. test it.kind || rest) (any-drawn (next_of it.kind next) steps)
+  any-drawn next (it ∷ steps) = ap (λ rest. test it.kind || rest) (any-drawn (next_of it.outs next) steps)
 
   pub count-drawn : (next : ℕ) (steps : List Step) → count_by (λ (cell : Cell NodeKind). test cell.kind) (drawn next steps) ≡ count_by (λ (it : Step). test it.kind) steps
   count-drawn next [] = refl
   count-drawn next (it ∷ steps) =
-      sum_by-cons (λ (cell : Cell NodeKind). if test cell.kind then 1 else 0) (cell_of it (outs_of it.kind next)) (drawn (next_of it.kind next) steps)
-      ∙ ap (λ rest. (if test it.kind then 1 else 0) + rest) (count-drawn (next_of it.kind next) steps)
+      sum_by-cons (λ (cell : Cell NodeKind). if test cell.kind then 1 else 0) (cell_of it (outs_of it.outs next)) (drawn (next_of it.outs next) steps)
+      ∙ ap (λ rest. (if test it.kind then 1 else 0) + rest) (count-drawn (next_of it.outs next) steps)
       ∙ sym (sum_by-cons (λ (it : Step). if test it.kind then 1 else 0) it steps)
 
 module _ {Found : Type 0} (find : NodeKind → Option Found) where
   pub found-drawn : (next : ℕ) (steps : List Step) → filter_map (λ (cell : Cell NodeKind). find cell.kind) (drawn next steps) ≡ filter_map (λ (it : Step). find it.kind) steps
   found-drawn next [] = refl
-  found-drawn next (it ∷ steps) = ap (λ (rest : List Found). cons_option (find it.kind) rest) (found-drawn (next_of it.kind next) steps)
+  found-drawn next (it ∷ steps) = ap (λ (rest : List Found). cons_option (find it.kind) rest) (found-drawn (next_of it.outs next) steps)
 
 module _ {Told : Type 0} (tell : NodeKind → ℕ → List Told) where
   pub told-drawn : (next : ℕ) (steps : List Step)
       → flat_map (λ (cell : Cell NodeKind). tell cell.kind (length cell.ins)) (drawn next steps) ≡ flat_map (λ (it : Step). tell it.kind (length it.ins)) steps
   told-drawn next [] = refl
-  told-drawn next (it ∷ steps) = ap (λ (rest : List Told). tell it.kind (length it.ins) ++ rest) (told-drawn (next_of it.kind next) steps)
+  told-drawn next (it ∷ steps) = ap (λ (rest : List Told). tell it.kind (length it.ins) ++ rest) (told-drawn (next_of it.outs next) steps)
 
 -- each has the ports of its kind
 abbrev pub fits_ports : Step → Bool
-fits_ports it = may_have it.kind (length it.ins) (if gives_one it.kind then 1 else 0)
-
-out-count : (one : Bool) (next : ℕ) → length (if one then next ∷ [] else []) ≡ (if one then 1 else 0)
-out-count true next = refl
-out-count false next = refl
+fits_ports it = may_have it.kind (length it.ins) it.outs
 
 pub ports-drawn : (next : ℕ) (steps : List Step) → list_all has_its_ports (drawn next steps) ≡ list_all fits_ports steps
 ports-drawn next [] = refl
 ports-drawn next (it ∷ steps) =
-    ap (λ (outs : ℕ). may_have it.kind (length it.ins) outs && list_all has_its_ports (drawn (next_of it.kind next) steps)) (out-count (gives_one it.kind) next)
-    ∙ ap (λ rest. fits_ports it && rest) (ports-drawn (next_of it.kind next) steps)
+    ap (λ (outs : ℕ). may_have it.kind (length it.ins) outs && list_all has_its_ports (drawn (next_of it.outs next) steps)) (length-range_with_len next it.outs)
+    ∙ ap (λ rest. fits_ports it && rest) (ports-drawn (next_of it.outs next) steps)
 
 -- where none joins maps
 abbrev pub joins_none : NodeKind → Bool

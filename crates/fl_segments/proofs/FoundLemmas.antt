@@ -1,16 +1,15 @@
 -- What is gathered over the nodes of a segment, by the kind of each and the number of its ins: tests, paths, ends and words.
-use Rattle.std.proofs.Common.{◌≡◌, ℕ, suc, ◌+◌, ◌≤◌, ◌==◌, List, [], ◌∷◌, ◌++◌, Bool, true, false, ◌&&◌, ◌||◌, not, Option, Some, None, if◌then◌else◌, length, nat_lt, replicate, refl, ap, sym, ◌∙◌, append-nil, append_assoc, arith}
+use Rattle.std.proofs.Common.{◌≡◌, ℕ, zero, suc, ◌+◌, ◌≤◌, ◌==◌, List, [], ◌∷◌, ◌++◌, ◌⊎◌, inl, inr, Bool, true, false, ◌&&◌, ◌||◌, not, Option, Some, None, if◌then◌else◌, length, nat_lt, replicate, refl, ap, sym, subst, ◌∙◌, append-nil, append_assoc, length-append, arith}
 use Rattle.std.specs.List.{list_all, list_any, count_by, filter_map, flat_map, cons_option}
-use Rattle.std.proofs.lemmas.Bool.{and_from, and_parts, lt-ltb, ltb-true, ne_eqb}
+use Rattle.std.proofs.lemmas.Bool.{true≢false, and_from, and_parts, eq-eqb, leb-true, lt-ltb, ltb-true, ne_eqb}
 use Rattle.std.proofs.lemmas.List.Sums.{sum_by-cons}
 use Rattle.ps_lines.specs.Lines.{is_empty}
 use Rattle.ps_world.specs.Paths.{Components}
 use Rattle.ut_args.specs.Built.{is_built_of}
-use Rattle.ut_args.specs.Classes.{class_of}
 use Rattle.ut_args.specs.Inputs.{inputs_of}
 use Rattle.ut_args.specs.Invocations.{words_of}
 use Rattle.ut_args.specs.declared.invocations.Inv.{Inv}
-use Rattle.fl_graph.specs.Kinds.{has_map, is_input, is_output}
+use Rattle.fl_graph.specs.Kinds.{is_input, is_output}
 use Rattle.fl_graph.specs.Paths.{path_read, path_written}
 use Rattle.fl_graph.specs.declared.kinds.NodeKind.{NodeKind}
 use Rattle.fl_graph.specs.declared.kinds.NodeKind.TheVariants as kind
@@ -21,11 +20,12 @@ use Rattle.fl_graph.specs.declared.kinds.To.TheVariants as to
 use Rattle.fl_graph.proofs.ListLemmas.{and-true}
 use Rattle.fl_classes.specs.Used.{is_cat, words_by as words_of_node, words_with}
 use Rattle.fl_classes.proofs.ClassLemmas.{or-none}
-use Rattle.fl_segments.specs.Stages.{closes_before, file_in, file_out, files_read, files_written, gives_output, goes_on, ins_of, ins_read, is_none, is_reader, is_shell_input, is_stage, is_stream, joins_before, read_of, reads_stream, words_at, words_by}
-use Rattle.fl_segments.specs.Inner.Drawing.{Step, step, behind}
-use Rattle.fl_segments.specs.Inner.Steps.{begins, chain_steps, comes_behind, comes_on, does_steps, done_edge, done_next, done_steps, drain_steps, earlier_steps, first_steps, front_edges, front_steps, in_edges, in_steps, input_steps, is_joined, is_leading_cat, join_steps, joined_edges, kind_first, kind_in, main_edge, main_next, main_steps, on_steps, out_steps, piped_steps, read_edges, read_steps, stream_steps, util_steps}
-use Rattle.fl_segments.specs.declared.inputs.Coming.{Coming}
-use Rattle.fl_segments.specs.declared.inputs.Coming.TheVariants as coming
+use Rattle.fl_segments.specs.Stages.{closes_before, file_in, file_out, files_read, files_written, gives_output, goes_on, ins_of, ins_read, is_none, is_reader, is_shell_input, is_spread, is_stage, is_stream, joins_before, read_of, reads_stream, words_at, words_by}
+use Rattle.fl_segments.specs.Inner.Drawing.{Step, step, split_step, behind}
+use Rattle.fl_segments.specs.Inner.Steps.{begins, chain_steps, comes_behind, comes_on, does_steps, done_parts, done_steps, drain_steps, each_ended, earlier_steps, end_edge, end_next, first_steps, front_edges, front_next, front_steps, goes_steps, hands_on, in_edges, in_steps, input_edges, input_steps, is_joined, is_leading_cat, is_next, join_steps, joined_edges, kind_first, kind_in, last_steps, main_parts, main_steps, map_steps, on_steps, out_steps, piped_steps, read_edges, read_steps, split_edges, split_steps, spread_steps, stands, stream_steps, takes_parts, util_steps, whole_steps}
+use Rattle.fl_segments.specs.declared.parts.Coming.{Coming}
+use Rattle.fl_segments.specs.declared.parts.Coming.TheVariants as coming
+use Rattle.fl_segments.specs.declared.parts.Parts.{Parts}
 use Rattle.fl_segments.specs.declared.stages.Does.{Does}
 use Rattle.fl_segments.specs.declared.stages.Does.TheVariants as does
 use Rattle.fl_segments.specs.declared.stages.First.{First}
@@ -35,34 +35,69 @@ use Rattle.fl_segments.specs.declared.stages.In.TheVariants as inlet
 use Rattle.fl_segments.specs.declared.stages.Out.{Out}
 use Rattle.fl_segments.specs.declared.stages.Out.TheVariants as out
 use Rattle.fl_segments.specs.declared.stages.Stage.{Stage}
+use Rattle.fl_segments.proofs.ComingLemmas.{IsSingle, IsTaken, MayBegin, MayCome, goes-may, lone-edges, same-util, taken-of}
 use Rattle.fl_segments.proofs.FitLemmas.{Fits, few-streams, no-tees, parts-of}
+use Rattle.fl_segments.proofs.StageLemmas.{split-count, spread-one, spread-wide}
 
 -- HOW MANY EDGES A UTILITY TAKES
-pub edges-count : (number : ℕ) (comes : Coming) (ins : List In) (next : ℕ) → length (in_edges number comes ins next) ≡ length ins
-edges-count number comes [] next = refl
-edges-count number comes (it ∷ ins) next = ap (λ (size : ℕ). suc size) (edges-count number comes ins (behind next (input_steps number (kind_in comes it))))
+input-count : (comes : Coming) (it : In) (next : ℕ) → IsSingle comes → length (input_edges comes it next) ≡ 1
+input-count (coming.Begins begin) inlet.Stream next single = refl
+input-count (coming.On parts) inlet.Stream next single = single
+input-count coming.Nothing inlet.Stream next single = refl
+input-count comes (inlet.File path closed) next single = refl
+input-count comes inlet.Empty next single = refl
 
-joined-count : (inv : Inv) (edges : List ℕ) (next : ℕ) → length (joined_edges inv edges next) ≡ read_of inv (length edges)
-joined-count inv edges next = by_test (joins_before inv) edges
+pub edges-count : (number : ℕ) (comes : Coming) (ins : List In) (next : ℕ) → IsSingle comes → length (in_edges number comes ins next) ≡ length ins
+edges-count number comes [] next single = refl
+edges-count number comes (it ∷ ins) next single =
+    let here = input-count comes it next single in
+    let rest = edges-count number comes ins (behind next (input_steps number (kind_in comes it))) single in
+    let all = length-append (input_edges comes it next) (in_edges number comes ins (behind next (input_steps number (kind_in comes it)))) in
+    omega (arith, here, rest, all)
+
+joined-count : (leads : Bool) (inv : Inv) (ins : List In) (edges : List ℕ) (next : ℕ) → is_leading_cat leads inv ≡ false → length edges ≡ length ins
+    → length (joined_edges leads inv ins edges next) ≡ read_of inv (length ins)
+joined-count leads inv ins edges next cat same =
+    ap (λ (cat : Bool). length (if (joins_before inv && (not cat && nat_lt 1 (length ins))) then next ∷ [] else edges)) cat ∙ by_test (joins_before inv) ins same
   where
-    by_test : (joins : Bool) (edges : List ℕ) → length (if (joins && nat_lt 1 (length edges)) then next ∷ [] else edges) ≡ (if joins then (if length edges == 0 then 0 else 1) else length edges)
-    by_test false edges = refl
-    by_test true [] = refl
-    by_test true (edge ∷ []) = refl
-    by_test true (edge ∷ other ∷ edges) =
-        let many : nat_lt 1 (length (edge ∷ other ∷ edges)) ≡ true = lt-ltb 1 (length (edge ∷ other ∷ edges)) (omega arith) in
-        let some : (length (edge ∷ other ∷ edges) == 0) ≡ false = ne_eqb (length (edge ∷ other ∷ edges)) 0 (λ same. omega (arith, same)) in
-        ap (λ (joined : Bool). length (if joined then next ∷ [] else edge ∷ other ∷ edges)) many ∙ sym (ap (λ (none : Bool). if none then 0 else 1) some)
+    by_test : (joins : Bool) (ins : List In) → length edges ≡ length ins → length (if (joins && nat_lt 1 (length ins)) then next ∷ [] else edges) ≡ (if joins then (if length ins == 0 then 0 else 1) else length ins)
+    by_test false ins same = same
+    by_test true [] same = same
+    by_test true (it ∷ []) same = same
+    by_test true (it ∷ other ∷ ins) same =
+        let many : nat_lt 1 (length (it ∷ other ∷ ins)) ≡ true = lt-ltb 1 (length (it ∷ other ∷ ins)) (omega arith) in
+        let some : (length (it ∷ other ∷ ins) == 0) ≡ false = ne_eqb (length (it ∷ other ∷ ins)) 0 (λ same. omega (arith, same)) in
+        ap (λ (joined : Bool). length (if joined then next ∷ [] else edges)) many ∙ sym (ap (λ (none : Bool). if none then 0 else 1) some)
 
 -- so many texts a stage reads
 abbrev pub read_count : Does → ℕ → ℕ
 read_count does.Skip count = 0
 read_count (does.Util inv) count = read_of inv count
 
-pub front-count : (number : ℕ) (comes : Coming) (it : Does) (ins : List In) (next : ℕ) → length (read_edges number comes it ins next) ≡ read_count it (length ins)
-front-count number comes does.Skip ins next = refl
-front-count number comes (does.Util inv) ins next =
-    joined-count inv (in_edges number comes ins next) (behind next (in_steps number comes ins)) ∙ ap (read_of inv) (edges-count number comes ins next)
+-- a utility takes so many edges, or as many as the width
+abbrev pub TakesSo : ℕ → Bool → Inv → ℕ → List ℕ → Type 0
+TakesSo width leads inv count edges = is_leading_cat leads inv ≡ false → (length edges ≡ count) ⊎ ((is_spread width inv ≡ true) × (length edges ≡ width))
+
+pub front-takes-so : (width number : ℕ) (comes : Coming) (stage : Stage) (next : ℕ) (inv : Inv) → stage.does ≡ does.Util inv → MayCome width comes stage
+    → TakesSo width (begins comes) inv (read_of inv (length stage.ins)) (front_edges number comes stage next)
+front-takes-so width number comes stage next inv same may cat = by_comes comes refl may
+  where
+    single_so : IsSingle comes → length (front_edges number comes stage next) ≡ read_of inv (length stage.ins)
+    single_so single =
+        ap (λ (it : Does). length (read_edges number comes it stage.ins next)) same
+        ∙ joined-count (begins comes) inv stage.ins (in_edges number comes stage.ins next) (behind next (in_steps number comes stage.ins)) cat (edges-count number comes stage.ins next single)
+
+    taken_so : (parts : Parts) → comes ≡ coming.On parts → (it : IsTaken width parts stage) → (is_spread width inv ≡ true) × (length (front_edges number comes stage next) ≡ width)
+    taken_so parts is it = (
+      ap (is_spread width) (sym (same-util it.inv inv (sym it.runs ∙ same))) ∙ it.spread,
+      ap (λ (it : Coming). length (front_edges number it stage next)) is ∙ ap length (lone-edges number parts stage next it.inv it.runs it.lone) ∙ it.count,
+    )
+
+    by_comes : (it : Coming) → comes ≡ it → MayCome width it stage → (length (front_edges number comes stage next) ≡ read_of inv (length stage.ins)) ⊎ ((is_spread width inv ≡ true) × (length (front_edges number comes stage next) ≡ width))
+    by_comes (coming.Begins begin) is may = inl (single_so (subst IsSingle (sym is) tt))
+    by_comes (coming.On parts) is (inl one) = inl (single_so (subst IsSingle (sym is) one))
+    by_comes (coming.On parts) is (inr takes) = inr (taken_so parts is (taken-of width parts stage takes))
+    by_comes coming.Nothing is may = inl (single_so (subst IsSingle (sym is) tt))
 
 -- a later stage isn't the first
 begins-none : (it : Out) (reads : Bool) (edge next : ℕ) → begins (comes_on it reads edge next) ≡ false
@@ -72,34 +107,48 @@ begins-none (out.File path mode) false edge next = refl
 begins-none out.Null true edge next = refl
 begins-none out.Null false edge next = refl
 
+pub begins-behind : (width number : ℕ) (comes : Coming) (stage : Stage) (next : ℕ) (following : Stage) → begins (comes_behind width number comes stage next following) ≡ false
+begins-behind width number comes stage next following = by_test (hands_on width stage.out following (main_parts width number comes stage next))
+  where
+    by_test : (hands : Bool)
+        → begins (if hands then coming.On (main_parts width number comes stage next) else comes_on stage.out (is_reader following) (end_edge width number comes stage next) (end_next width number comes stage next)) ≡ false
+    by_test true = refl
+    by_test false = begins-none stage.out (is_reader following) (end_edge width number comes stage next) (end_next width number comes stage next)
+
 -- WHAT IS GATHERED
-module _ {Found : Type 0} (none : Found) (both : Found → Found → Found) (value : NodeKind → ℕ → Found) where
+module _ {Found : Type 0} (width : ℕ) (none : Found) (both : Found → Found → Found) (value : NodeKind → ℕ → ℕ → Found) where
   abbrev pub gathered : List Step → Found
   gathered [] = none
-  gathered (it ∷ steps) = both (value it.kind (length it.ins)) (gathered steps)
+  gathered (it ∷ steps) = both (value it.kind (length it.ins) it.outs) (gathered steps)
 
-  -- texts, what joins them and what lets them go add nothing
+  -- texts, what joins or splits them and what lets them go add nothing
   pub record Gathers : Type 0 where
     pub left : (it : Found) → both none it ≡ it
     pub right : (it : Found) → both it none ≡ it
     pub assoc : (one two three : Found) → both (both one two) three ≡ both one (both two three)
-    pub of_text : (text : List ℕ) → value (kind.Text text) 0 ≡ none
-    pub of_cat : (close : Bool) (count : ℕ) → 1 ≤ count → value (kind.Cat close) count ≡ none
-    pub of_drain : value kind.Drain 1 ≡ none
+    pub of_text : (text : List ℕ) → value (kind.Text text) 0 1 ≡ none
+    pub of_cat : (close : Bool) (count : ℕ) → 1 ≤ count → value (kind.Cat close) count 1 ≡ none
+    pub of_drain : value kind.Drain 1 0 ≡ none
+    pub of_split : 2 ≤ width → value kind.Split 1 width ≡ none
+
+  -- so many times
+  abbrev pub repeated : ℕ → Found → Found
+  repeated zero it = none
+  repeated (suc count) it = both it (repeated count it)
 
   -- what a segment adds, stage by stage, where the first one's stream adds this
   abbrev pub first_value : First → Found
-  first_value first.Input = value (kind.Source from.Input) 0
+  first_value first.Input = value (kind.Source from.Input) 0 1
   first_value (first.Text text) = none
 
   abbrev pub stream_value : Coming → Found
   stream_value (coming.Begins begin) = first_value begin.now
-  stream_value (coming.On edge) = none
+  stream_value (coming.On parts) = none
   stream_value coming.Nothing = none
 
   abbrev pub in_value : Found → In → Found
   in_value stream inlet.Stream = stream
-  in_value stream (inlet.File path closed) = value (kind.Source (from.File path)) 0
+  in_value stream (inlet.File path closed) = value (kind.Source (from.File path)) 0 1
   in_value stream inlet.Empty = none
 
   abbrev pub ins_value : Found → List In → Found
@@ -108,15 +157,16 @@ module _ {Found : Type 0} (none : Found) (both : Found → Found → Found) (val
 
   abbrev pub util_value : Bool → Does → ℕ → Found
   util_value leads does.Skip count = none
-  util_value leads (does.Util inv) count = if is_leading_cat leads inv then none else value (kind.Whole inv) count
+  util_value leads (does.Util inv) count =
+      if is_leading_cat leads inv then none else if is_spread width inv then repeated width (value (kind.Map inv) 1 1) else value (kind.Whole inv) count 1
 
   abbrev pub file_value : Out → Found
   file_value out.Next = none
-  file_value (out.File path mode) = value (kind.Sink (to.File path mode)) 1
+  file_value (out.File path mode) = value (kind.Sink (to.File path mode)) 1 0
   file_value out.Null = none
 
   abbrev pub goes_value : Out → List ℕ → Found
-  goes_value it piped = if goes_on it piped then value (kind.Sink to.Output) 1 else none
+  goes_value it piped = if goes_on it piped then value (kind.Sink to.Output) 1 0 else none
 
   abbrev pub main_value : Found → Bool → Stage → Found
   main_value stream leads stage = both (ins_value stream (ins_of stage)) (util_value leads stage.does (read_count stage.does (length stage.ins)))
@@ -130,29 +180,33 @@ module _ {Found : Type 0} (none : Found) (both : Found → Found → Found) (val
     gathered-append : (front back : List Step) → gathered (front ++ back) ≡ both (gathered front) (gathered back)
     gathered-append [] back = sym (gathers.left (gathered back))
     gathered-append (it ∷ front) back =
-        ap (both (value it.kind (length it.ins))) (gathered-append front back) ∙ sym (gathers.assoc (value it.kind (length it.ins)) (gathered front) (gathered back))
+        ap (both (value it.kind (length it.ins) it.outs)) (gathered-append front back) ∙ sym (gathers.assoc (value it.kind (length it.ins) it.outs) (gathered front) (gathered back))
 
     text-gathered : (text : List ℕ) (number : ℕ) → gathered (step (kind.Text text) [] number ∷ []) ≡ none
-    text-gathered text number = gathers.right (value (kind.Text text) 0) ∙ gathers.of_text text
+    text-gathered text number = gathers.right (value (kind.Text text) 0 1) ∙ gathers.of_text text
 
     cat-gathered : (close : Bool) (edges : List ℕ) (number : ℕ) → 1 ≤ length edges → gathered (step (kind.Cat close) edges number ∷ []) ≡ none
-    cat-gathered close edges number some = gathers.right (value (kind.Cat close) (length edges)) ∙ gathers.of_cat close (length edges) some
+    cat-gathered close edges number some = gathers.right (value (kind.Cat close) (length edges) 1) ∙ gathers.of_cat close (length edges) some
+
+    ends-gathered : (number : ℕ) (edges : List ℕ) → gathered (each_ended number edges) ≡ none
+    ends-gathered number [] = refl
+    ends-gathered number (edge ∷ edges) = ap (λ (here : Found). both here (gathered (each_ended number edges))) gathers.of_drain ∙ gathers.left (gathered (each_ended number edges)) ∙ ends-gathered number edges
 
     drain-gathered : (number : ℕ) (comes : Coming) (reads : Bool) → gathered (drain_steps number comes reads) ≡ none
     drain-gathered number comes true = refl
     drain-gathered number (coming.Begins begin) false = refl
-    drain-gathered number (coming.On edge) false = gathers.right (value kind.Drain 1) ∙ gathers.of_drain
+    drain-gathered number (coming.On parts) false = ends-gathered number parts.edges
     drain-gathered number coming.Nothing false = refl
 
     input-gathered : (number : ℕ) (comes : Coming) (it : In) → gathered (input_steps number (kind_in comes it)) ≡ in_value (stream_value comes) it
     input-gathered number (coming.Begins begin) inlet.Stream = by_first begin.now
       where
         by_first : (begin : First) → gathered (input_steps number (Some (kind_first begin))) ≡ first_value begin
-        by_first first.Input = gathers.right (value (kind.Source from.Input) 0)
+        by_first first.Input = gathers.right (value (kind.Source from.Input) 0 1)
         by_first (first.Text text) = text-gathered text number
-    input-gathered number (coming.On edge) inlet.Stream = refl
+    input-gathered number (coming.On parts) inlet.Stream = refl
     input-gathered number coming.Nothing inlet.Stream = text-gathered [] number
-    input-gathered number comes (inlet.File path closed) = gathers.right (value (kind.Source (from.File path)) 0)
+    input-gathered number comes (inlet.File path closed) = gathers.right (value (kind.Source (from.File path)) 0 1)
     input-gathered number comes inlet.Empty = text-gathered [] number
 
     in-gathered : (number : ℕ) (comes : Coming) (ins : List In) → gathered (in_steps number comes ins) ≡ ins_value (stream_value comes) ins
@@ -162,66 +216,129 @@ module _ {Found : Type 0} (none : Found) (both : Found → Found → Found) (val
         ∙ ap (λ (here : Found). both here (gathered (in_steps number comes ins))) (input-gathered number comes it)
         ∙ ap (both (in_value (stream_value comes) it)) (in-gathered number comes ins)
 
-    join-gathered : (number : ℕ) (inv : Inv) (edges : List ℕ) → gathered (join_steps number inv edges) ≡ none
-    join-gathered number inv edges = by_test (is_joined inv edges) refl
+    join-gathered : (number : ℕ) (leads : Bool) (inv : Inv) (ins : List In) (edges : List ℕ) → (2 ≤ length ins → 1 ≤ length edges) → gathered (join_steps number leads inv ins edges) ≡ none
+    join-gathered number leads inv ins edges some = by_test (is_joined leads inv ins) refl
       where
-        by_test : (joined : Bool) → is_joined inv edges ≡ joined → gathered (if joined then step (kind.Cat (closes_before inv)) edges number ∷ [] else []) ≡ none
+        by_test : (joined : Bool) → is_joined leads inv ins ≡ joined → gathered (if joined then step (kind.Cat (closes_before inv)) edges number ∷ [] else []) ≡ none
         by_test true is =
-            cat-gathered (closes_before inv) edges number (let many = ltb-true 1 (length edges) (and_parts (joins_before inv) (nat_lt 1 (length edges)) is).1 in omega (arith, many))
+            let many = ltb-true 1 (length ins) (and_parts (not (is_leading_cat leads inv)) (nat_lt 1 (length ins)) (and_parts (joins_before inv) (not (is_leading_cat leads inv) && nat_lt 1 (length ins)) is).1).1 in
+            cat-gathered (closes_before inv) edges number (some (omega (arith, many)))
         by_test false is = refl
 
-    read-gathered : (number : ℕ) (comes : Coming) (it : Does) (ins : List In) (next : ℕ) → gathered (read_steps number comes it ins next) ≡ ins_value (stream_value comes) (ins_read it ins)
-    read-gathered number comes does.Skip ins next = refl
-    read-gathered number comes (does.Util inv) ins next =
+    -- inputs that are joined are on one edge at least
+    joins-some : (number : ℕ) (comes : Coming) (stage : Stage) (next : ℕ) → MayCome width comes stage → 2 ≤ length stage.ins → 1 ≤ length (in_edges number comes stage.ins next)
+    joins-some number comes stage next may many = by_comes comes refl may
+      where
+        single_so : IsSingle comes → 1 ≤ length (in_edges number comes stage.ins next)
+        single_so single = let count = edges-count number comes stage.ins next single in omega (arith, count, many)
+
+        by_comes : (it : Coming) → comes ≡ it → MayCome width it stage → 1 ≤ length (in_edges number comes stage.ins next)
+        by_comes (coming.Begins begin) is may = single_so (subst IsSingle (sym is) tt)
+        by_comes (coming.On parts) is (inl one) = single_so (subst IsSingle (sym is) one)
+        by_comes (coming.On parts) is (inr takes) =
+            let it : IsTaken width parts stage = taken-of width parts stage takes in
+            let one : length stage.ins ≡ 1 = ap length it.lone in
+            absurd (omega (arith, one, many))
+        by_comes coming.Nothing is may = single_so (subst IsSingle (sym is) tt)
+
+    read-gathered : (number : ℕ) (comes : Coming) (it : Does) (ins : List In) (next : ℕ) → (2 ≤ length ins → 1 ≤ length (in_edges number comes ins next))
+        → gathered (read_steps number comes it ins next) ≡ ins_value (stream_value comes) (ins_read it ins)
+    read-gathered number comes does.Skip ins next some = refl
+    read-gathered number comes (does.Util inv) ins next some =
         let edges : List ℕ = in_edges number comes ins next in
-        gathered-append (in_steps number comes ins) (join_steps number inv edges)
-        ∙ ap (both (gathered (in_steps number comes ins))) (join-gathered number inv edges)
+        gathered-append (in_steps number comes ins) (join_steps number (begins comes) inv ins edges)
+        ∙ ap (both (gathered (in_steps number comes ins))) (join-gathered number (begins comes) inv ins edges some)
         ∙ gathers.right (gathered (in_steps number comes ins)) ∙ in-gathered number comes ins
 
-    front-gathered : (number : ℕ) (comes : Coming) (stage : Stage) (next : ℕ) → gathered (front_steps number comes stage next) ≡ ins_value (stream_value comes) (ins_of stage)
-    front-gathered number comes stage next =
+    front-gathered : (number : ℕ) (comes : Coming) (stage : Stage) (next : ℕ) → MayCome width comes stage → gathered (front_steps number comes stage next) ≡ ins_value (stream_value comes) (ins_of stage)
+    front-gathered number comes stage next may =
         let read : List Step = read_steps number comes stage.does stage.ins next in
         gathered-append (drain_steps number comes (is_reader stage)) read
         ∙ ap (λ (drain : Found). both drain (gathered read)) (drain-gathered number comes (is_reader stage))
-        ∙ gathers.left (gathered read) ∙ read-gathered number comes stage.does stage.ins next
+        ∙ gathers.left (gathered read) ∙ read-gathered number comes stage.does stage.ins next (joins-some number comes stage next may)
 
-    util-gathered : (number : ℕ) (leads : Bool) (inv : Inv) (edges : List ℕ) → gathered (util_steps number leads inv edges) ≡ util_value leads (does.Util inv) (length edges)
-    util-gathered number leads inv edges = by_test (is_leading_cat leads inv)
+    whole-gathered : (number : ℕ) (edges : List ℕ) → gathered (whole_steps number edges) ≡ none
+    whole-gathered number edges = by_test (nat_lt 1 (length edges)) refl
+      where
+        by_test : (many : Bool) → nat_lt 1 (length edges) ≡ many → gathered (if many then step (kind.Cat false) edges number ∷ [] else []) ≡ none
+        by_test true is = cat-gathered false edges number (let many = ltb-true 1 (length edges) is in omega (arith, many))
+        by_test false is = refl
+
+    split-gathered : (number : ℕ) (edges : List ℕ) → 2 ≤ width → (stands width edges ≡ false → length edges ≡ 1) → gathered (split_steps width number edges) ≡ none
+    split-gathered number edges some one = by_test (stands width edges) refl
+      where
+        by_test : (stand : Bool) → stands width edges ≡ stand → gathered (if stand then [] else split_step edges width number ∷ []) ≡ none
+        by_test true is = refl
+        by_test false is = gathers.right (value kind.Split (length edges) width) ∙ ap (λ (count : ℕ). value kind.Split count width) (one is) ∙ gathers.of_split some
+
+    maps-gathered : (number : ℕ) (inv : Inv) (edges : List ℕ) → gathered (map_steps number inv edges) ≡ repeated (length edges) (value (kind.Map inv) 1 1)
+    maps-gathered number inv [] = refl
+    maps-gathered number inv (edge ∷ edges) = ap (both (value (kind.Map inv) 1 1)) (maps-gathered number inv edges)
+
+    util-gathered : (number : ℕ) (leads : Bool) (inv : Inv) (edges : List ℕ) (next count : ℕ) → TakesSo width leads inv count edges → (is_spread width inv ≡ true → count ≡ 1)
+        → gathered (util_steps width number leads inv edges next) ≡ util_value leads (does.Util inv) count
+    util-gathered number leads inv edges next count takes one = by_test (is_leading_cat leads inv) refl (is_spread width inv) refl
       where
         by_none : (empty : Bool) → gathered (if empty then step (kind.Text []) [] number ∷ [] else []) ≡ none
         by_none true = text-gathered [] number
         by_none false = refl
 
-        by_test : (cat : Bool) → gathered (if cat then (if is_none edges then step (kind.Text []) [] number ∷ [] else []) else step (kind.Whole inv) edges number ∷ [])
-            ≡ (if cat then none else value (kind.Whole inv) (length edges))
-        by_test true = by_none (is_none edges)
-        by_test false = gathers.right (value (kind.Whole inv) (length edges))
+        single : is_spread width inv ≡ true → (length edges ≡ count) ⊎ ((is_spread width inv ≡ true) × (length edges ≡ width)) → stands width edges ≡ false → length edges ≡ 1
+        single spread (inl same) other = same ∙ one spread
+        single spread (inr all) other = absurd (true≢false (sym (eq-eqb (length edges) width all.1) ∙ other))
 
-    does-gathered : (number : ℕ) (leads : Bool) (it : Does) (text edges : List ℕ) → gathered (does_steps number leads it text edges) ≡ util_value leads it (length edges)
-    does-gathered number leads does.Skip text edges = text-gathered text number
-    does-gathered number leads (does.Util inv) text edges = util-gathered number leads inv edges
+        whole : is_spread width inv ≡ false → (length edges ≡ count) ⊎ ((is_spread width inv ≡ true) × (length edges ≡ width)) → value (kind.Whole inv) (length edges) 1 ≡ value (kind.Whole inv) count 1
+        whole other (inl same) = ap (λ (count : ℕ). value (kind.Whole inv) count 1) same
+        whole other (inr all) = absurd (true≢false (sym all.0 ∙ other))
 
-    first-gathered : (number : ℕ) (it : Does) (text : List ℕ) (edge next : ℕ) → gathered (first_steps number it text edge next) ≡ none
-    first-gathered number does.Skip text edge next = refl
-    first-gathered number (does.Util inv) text edge next = by_test (is_empty text)
+        by_test : (cat : Bool) → is_leading_cat leads inv ≡ cat → (spread : Bool) → is_spread width inv ≡ spread
+            → gathered (if cat then (if is_none edges then step (kind.Text []) [] number ∷ [] else []) else if spread then spread_steps width number inv edges next else step (kind.Whole inv) edges number ∷ [])
+            ≡ (if cat then none else if spread then repeated width (value (kind.Map inv) 1 1) else value (kind.Whole inv) count 1)
+        by_test true cat spread is = by_none (is_none edges)
+        by_test false cat true is =
+            let split : List Step = split_steps width number edges in
+            let maps : List Step = map_steps number inv (split_edges width edges next) in
+            let wide = leb-true 2 width (spread-wide width inv is) in
+            gathered-append split maps
+            ∙ ap (λ (here : Found). both here (gathered maps)) (split-gathered number edges wide (single is (takes cat)))
+            ∙ gathers.left (gathered maps) ∙ maps-gathered number inv (split_edges width edges next)
+            ∙ ap (λ (count : ℕ). repeated count (value (kind.Map inv) 1 1)) (split-count width edges next)
+        by_test false cat false is = gathers.right (value (kind.Whole inv) (length edges) 1) ∙ whole is (takes cat)
+
+    does-gathered : (number : ℕ) (comes : Coming) (stage : Stage) (next : ℕ) → is_stage stage ≡ true → MayCome width comes stage
+        → gathered (done_steps width number comes stage next) ≡ util_value (begins comes) stage.does (read_count stage.does (length stage.ins))
+    does-gathered number comes stage next is may = by_does stage.does refl
       where
-        by_test : (empty : Bool) → gathered (if empty then [] else step (kind.Text text) [] number ∷ step (kind.Cat false) (next ∷ edge ∷ []) number ∷ []) ≡ none
+        by_does : (it : Does) → stage.does ≡ it
+            → gathered (does_steps width number (begins comes) it stage.first (front_edges number comes stage next) (front_next number comes stage next)) ≡ util_value (begins comes) it (read_count it (length stage.ins))
+        by_does does.Skip same = text-gathered stage.first number
+        by_does (does.Util inv) same =
+            let fits : Fits inv stage = (parts-of stage is inv same).0 in
+            util-gathered number (begins comes) inv (front_edges number comes stage next) (front_next number comes stage next) (read_of inv (length stage.ins))
+            (front-takes-so width number comes stage next inv same may) (λ spread. sym fits.inputs ∙ spread-one width inv spread)
+
+    first-gathered : (number : ℕ) (it : Does) (text edges : List ℕ) → gathered (first_steps number it text edges) ≡ none
+    first-gathered number does.Skip text edges = refl
+    first-gathered number (does.Util inv) text edges = by_test (is_empty text)
+      where
+        by_test : (empty : Bool) → gathered (if empty then [] else whole_steps number edges ++ step (kind.Text text) [] number ∷ []) ≡ none
         by_test true = refl
         by_test false =
-            ap (λ (here : Found). both here (gathered (step (kind.Cat false) (next ∷ edge ∷ []) number ∷ []))) (gathers.of_text text)
-            ∙ gathers.left (gathered (step (kind.Cat false) (next ∷ edge ∷ []) number ∷ [])) ∙ cat-gathered false (next ∷ edge ∷ []) number (omega arith)
+            gathered-append (whole_steps number edges) (step (kind.Text text) [] number ∷ [])
+            ∙ ap (λ (here : Found). both here (gathered (step (kind.Text text) [] number ∷ []))) (whole-gathered number edges)
+            ∙ gathers.left (gathered (step (kind.Text text) [] number ∷ [])) ∙ text-gathered text number
 
-    pub main-gathered : (number : ℕ) (comes : Coming) (stage : Stage) (next : ℕ) → gathered (main_steps number comes stage next) ≡ main_value (stream_value comes) (begins comes) stage
-    main-gathered number comes stage next =
+    pub main-gathered : (number : ℕ) (comes : Coming) (stage : Stage) (next : ℕ) → is_stage stage ≡ true → MayCome width comes stage
+        → gathered (main_steps width number comes stage next) ≡ main_value (stream_value comes) (begins comes) stage
+    main-gathered number comes stage next is may =
         let front : List Step = front_steps number comes stage next in
-        let done : List Step = done_steps number comes stage next in
-        let firsts : List Step = first_steps number stage.does stage.first (done_edge number comes stage next) (done_next number comes stage next) in
+        let done : List Step = done_steps width number comes stage next in
+        let firsts : List Step = first_steps number stage.does stage.first (done_parts width number comes stage next).edges in
         gathered-append front (done ++ firsts)
-        ∙ ap (λ (read : Found). both read (gathered (done ++ firsts))) (front-gathered number comes stage next)
+        ∙ ap (λ (read : Found). both read (gathered (done ++ firsts))) (front-gathered number comes stage next may)
         ∙ ap (both (ins_value (stream_value comes) (ins_of stage)))
-        (gathered-append done firsts ∙ ap (both (gathered done)) (first-gathered number stage.does stage.first (done_edge number comes stage next) (done_next number comes stage next))
-        ∙ gathers.right (gathered done) ∙ does-gathered number (begins comes) stage.does stage.first (front_edges number comes stage next)
-        ∙ ap (util_value (begins comes) stage.does) (front-count number comes stage.does stage.ins next))
+        (gathered-append done firsts ∙ ap (both (gathered done)) (first-gathered number stage.does stage.first (done_parts width number comes stage next).edges)
+        ∙ gathers.right (gathered done) ∙ does-gathered number comes stage next is may)
 
     stream-gathered : (number : ℕ) (piped : List ℕ) (reads : Bool) → gathered (stream_steps number piped reads) ≡ none
     stream-gathered number piped true = text-gathered piped number
@@ -230,22 +347,39 @@ module _ {Found : Type 0} (none : Found) (both : Found → Found → Found) (val
     on-gathered : (number : ℕ) (it : Out) (piped : List ℕ) (reads : Bool) (edge : ℕ) → gathered (on_steps number it piped reads edge) ≡ file_value it
     on-gathered number out.Next piped reads edge = refl
     on-gathered number (out.File path mode) piped reads edge =
-        ap (both (value (kind.Sink (to.File path mode)) 1)) (stream-gathered number piped reads) ∙ gathers.right (value (kind.Sink (to.File path mode)) 1)
+        ap (both (value (kind.Sink (to.File path mode)) 1 0)) (stream-gathered number piped reads) ∙ gathers.right (value (kind.Sink (to.File path mode)) 1 0)
     on-gathered number out.Null piped reads edge =
-        ap (both (value kind.Drain 1)) (stream-gathered number piped reads) ∙ gathers.right (value kind.Drain 1) ∙ gathers.of_drain
+        ap (both (value kind.Drain 1 0)) (stream-gathered number piped reads) ∙ gathers.right (value kind.Drain 1 0) ∙ gathers.of_drain
 
-    piped-gathered : (number : ℕ) (piped : List ℕ) (next : ℕ) → gathered (piped_steps number piped next) ≡ (if not (is_empty piped) then value (kind.Sink to.Output) 1 else none)
+    next-value : (it : Out) → is_next it ≡ true → none ≡ file_value it
+    next-value out.Next is = refl
+    next-value (out.File path mode) is = absurd (true≢false (sym is))
+    next-value out.Null is = absurd (true≢false (sym is))
+
+    goes-gathered : (number : ℕ) (comes : Coming) (stage following : Stage) (next : ℕ) → gathered (goes_steps width number comes stage next following) ≡ file_value stage.out
+    goes-gathered number comes stage following next = by_test (hands_on width stage.out following (main_parts width number comes stage next)) refl
+      where
+        by_test : (hands : Bool) → hands_on width stage.out following (main_parts width number comes stage next) ≡ hands
+            → gathered (if hands then [] else whole_steps number (main_parts width number comes stage next).edges ++ on_steps number stage.out stage.piped (is_reader following) (end_edge width number comes stage next)) ≡ file_value stage.out
+        by_test true so = next-value stage.out (and_parts (is_next stage.out) (takes_parts width following (main_parts width number comes stage next)) so).0
+        by_test false so =
+            let ons : List Step = on_steps number stage.out stage.piped (is_reader following) (end_edge width number comes stage next) in
+            gathered-append (whole_steps number (main_parts width number comes stage next).edges) ons
+            ∙ ap (λ (here : Found). both here (gathered ons)) (whole-gathered number (main_parts width number comes stage next).edges)
+            ∙ gathers.left (gathered ons) ∙ on-gathered number stage.out stage.piped (is_reader following) (end_edge width number comes stage next)
+
+    piped-gathered : (number : ℕ) (piped : List ℕ) (next : ℕ) → gathered (piped_steps number piped next) ≡ (if not (is_empty piped) then value (kind.Sink to.Output) 1 0 else none)
     piped-gathered number piped next = by_test (is_empty piped)
       where
-        by_test : (empty : Bool) → gathered (if empty then [] else step (kind.Text piped) [] number ∷ step (kind.Sink to.Output) (next ∷ []) number ∷ []) ≡ (if not empty then value (kind.Sink to.Output) 1 else none)
+        by_test : (empty : Bool) → gathered (if empty then [] else step (kind.Text piped) [] number ∷ step (kind.Sink to.Output) (next ∷ []) number ∷ []) ≡ (if not empty then value (kind.Sink to.Output) 1 0 else none)
         by_test true = refl
         by_test false =
             ap (λ (here : Found). both here (gathered (step (kind.Sink to.Output) (next ∷ []) number ∷ []))) (gathers.of_text piped)
-            ∙ gathers.left (gathered (step (kind.Sink to.Output) (next ∷ []) number ∷ [])) ∙ gathers.right (value (kind.Sink to.Output) 1)
+            ∙ gathers.left (gathered (step (kind.Sink to.Output) (next ∷ []) number ∷ [])) ∙ gathers.right (value (kind.Sink to.Output) 1 0)
 
     out-gathered : (number : ℕ) (it : Out) (piped : List ℕ) (edge next : ℕ) → gathered (out_steps number it piped edge next) ≡ both (file_value it) (goes_value it piped)
-    out-gathered number out.Next piped edge next = gathers.right (value (kind.Sink to.Output) 1) ∙ sym (gathers.left (value (kind.Sink to.Output) 1))
-    out-gathered number (out.File path mode) piped edge next = ap (both (value (kind.Sink (to.File path mode)) 1)) (piped-gathered number piped next)
+    out-gathered number out.Next piped edge next = gathers.right (value (kind.Sink to.Output) 1 0) ∙ sym (gathers.left (value (kind.Sink to.Output) 1 0))
+    out-gathered number (out.File path mode) piped edge next = ap (both (value (kind.Sink (to.File path mode)) 1 0)) (piped-gathered number piped next)
     out-gathered number out.Null piped edge next =
         ap (λ (here : Found). both here (gathered (piped_steps number piped next))) gathers.of_drain ∙ ap (both none) (piped-gathered number piped next)
 
@@ -256,641 +390,728 @@ module _ {Found : Type 0} (none : Found) (both : Found → Found → Found) (val
     stream-none out.Null true edge next = refl
     stream-none out.Null false edge next = refl
 
-    pub chain-gathered : (number : ℕ) (comes : Coming) (stages : List Stage) (next : ℕ) → gathered (chain_steps number comes stages next) ≡ chain_value (stream_value comes) (begins comes) stages
-    chain-gathered number comes [] next = refl
-    chain-gathered number comes (stage ∷ []) next =
-        let outs : List Step = out_steps number stage.out stage.piped (main_edge number comes stage next) (main_next number comes stage next) in
-        gathered-append (main_steps number comes stage next) outs
-        ∙ ap (λ (main : Found). both main (gathered outs)) (main-gathered number comes stage next)
-        ∙ ap (both (main_value (stream_value comes) (begins comes) stage)) (out-gathered number stage.out stage.piped (main_edge number comes stage next) (main_next number comes stage next))
-    chain-gathered number comes (stage ∷ following ∷ stages) next =
-        let reads : Bool = is_reader following in
-        let here : List Step = earlier_steps number comes stage next reads in
-        let on : Coming = comes_behind number comes stage next reads in
-        let ons : List Step = on_steps number stage.out stage.piped reads (main_edge number comes stage next) in
-        let rest : List Step = chain_steps (number + 1) on (following ∷ stages) (behind next here) in
+    behind-none : (number : ℕ) (comes : Coming) (stage following : Stage) (next : ℕ) → stream_value (comes_behind width number comes stage next following) ≡ none
+    behind-none number comes stage following next = by_test (hands_on width stage.out following (main_parts width number comes stage next))
+      where
+        by_test : (hands : Bool)
+            → stream_value (if hands then coming.On (main_parts width number comes stage next) else comes_on stage.out (is_reader following) (end_edge width number comes stage next) (end_next width number comes stage next)) ≡ none
+        by_test true = refl
+        by_test false = stream-none stage.out (is_reader following) (end_edge width number comes stage next) (end_next width number comes stage next)
+
+    pub last-gathered : (number : ℕ) (comes : Coming) (stage : Stage) (next : ℕ) → is_stage stage ≡ true → MayCome width comes stage
+        → gathered (last_steps width number comes stage next) ≡ both (main_value (stream_value comes) (begins comes) stage) (both (file_value stage.out) (goes_value stage.out stage.piped))
+    last-gathered number comes stage next is may =
+        let edges : List ℕ = (main_parts width number comes stage next).edges in
+        let outs : List Step = out_steps number stage.out stage.piped (end_edge width number comes stage next) (end_next width number comes stage next) in
+        gathered-append (main_steps width number comes stage next) (whole_steps number edges ++ outs)
+        ∙ ap (λ (main : Found). both main (gathered (whole_steps number edges ++ outs))) (main-gathered number comes stage next is may)
+        ∙ ap (both (main_value (stream_value comes) (begins comes) stage))
+        (gathered-append (whole_steps number edges) outs ∙ ap (λ (here : Found). both here (gathered outs)) (whole-gathered number edges) ∙ gathers.left (gathered outs)
+        ∙ out-gathered number stage.out stage.piped (end_edge width number comes stage next) (end_next width number comes stage next))
+
+    pub earlier-gathered : (number : ℕ) (comes : Coming) (stage following : Stage) (next : ℕ) → is_stage stage ≡ true → MayCome width comes stage
+        → gathered (earlier_steps width number comes stage next following) ≡ both (main_value (stream_value comes) (begins comes) stage) (file_value stage.out)
+    earlier-gathered number comes stage following next is may =
+        let goes : List Step = goes_steps width number comes stage next following in
+        gathered-append (main_steps width number comes stage next) goes
+        ∙ ap (λ (main : Found). both main (gathered goes)) (main-gathered number comes stage next is may)
+        ∙ ap (both (main_value (stream_value comes) (begins comes) stage)) (goes-gathered number comes stage following next)
+
+    pub chain-gathered : (number : ℕ) (comes : Coming) (stages : List Stage) (next : ℕ) → list_all is_stage stages ≡ true → MayBegin width comes stages
+        → gathered (chain_steps width number comes stages next) ≡ chain_value (stream_value comes) (begins comes) stages
+    chain-gathered number comes [] next all may = refl
+    chain-gathered number comes (stage ∷ []) next all may = last-gathered number comes stage next (and_parts (is_stage stage) true all).0 may
+    chain-gathered number comes (stage ∷ following ∷ stages) next all may =
+        let parts = and_parts (is_stage stage) (list_all is_stage (following ∷ stages)) all in
+        let here : List Step = earlier_steps width number comes stage next following in
+        let on : Coming = comes_behind width number comes stage next following in
+        let rest : List Step = chain_steps width (number + 1) on (following ∷ stages) (behind next here) in
         gathered-append here rest
-        ∙ ap (λ (front : Found). both front (gathered rest))
-        (gathered-append (main_steps number comes stage next) ons
-        ∙ ap (λ (main : Found). both main (gathered ons)) (main-gathered number comes stage next)
-        ∙ ap (both (main_value (stream_value comes) (begins comes) stage)) (on-gathered number stage.out stage.piped reads (main_edge number comes stage next)))
+        ∙ ap (λ (front : Found). both front (gathered rest)) (earlier-gathered number comes stage following next parts.0 may)
         ∙ ap (both (both (main_value (stream_value comes) (begins comes) stage) (file_value stage.out)))
-        (chain-gathered (number + 1) on (following ∷ stages) (behind next here)
-        ∙ ap (λ (stream : Found). chain_value stream (begins on) (following ∷ stages)) (stream-none stage.out reads (main_edge number comes stage next) (main_next number comes stage next))
-        ∙ ap (λ (leads : Bool). chain_value none leads (following ∷ stages)) (begins-none stage.out reads (main_edge number comes stage next) (main_next number comes stage next)))
+        (chain-gathered (number + 1) on (following ∷ stages) (behind next here) parts.1 (goes-may width number comes stage following next)
+        ∙ ap (λ (stream : Found). chain_value stream (begins on) (following ∷ stages)) (behind-none number comes stage following next)
+        ∙ ap (λ (leads : Bool). chain_value none leads (following ∷ stages)) (begins-behind width number comes stage next following))
 
--- ALL PASS A TEST
-abbrev both_pass : Bool → Bool → Bool
-both_pass one other = one && other
+-- WHAT IS GATHERED AT A WIDTH
+module _ (width : ℕ) where
+  -- ALL PASS A TEST
+  abbrev both_pass : Bool → Bool → Bool
+  both_pass one other = one && other
 
-module _ (value : NodeKind → ℕ → Bool) where
-  abbrev pub all_gathered : List Step → Bool
-  all_gathered steps = gathered true both_pass value steps
+  module _ (value : NodeKind → ℕ → ℕ → Bool) where
+    abbrev pub all_gathered : List Step → Bool
+    all_gathered steps = gathered width true both_pass value steps
 
-  pub all-found : (steps : List Step) → list_all (λ (it : Step). value it.kind (length it.ins)) steps ≡ all_gathered steps
-  all-found [] = refl
-  all-found (it ∷ steps) = ap (λ (rest : Bool). value it.kind (length it.ins) && rest) (all-found steps)
+    pub all-found : (steps : List Step) → list_all (λ (it : Step). value it.kind (length it.ins) it.outs) steps ≡ all_gathered steps
+    all-found [] = refl
+    all-found (it ∷ steps) = ap (λ (rest : Bool). value it.kind (length it.ins) it.outs && rest) (all-found steps)
 
-  -- each kind that a stage has up to where its output goes passes
-  pub record Pass : Type 0 where
-    pub text : (text : List ℕ) → value (kind.Text text) 0 ≡ true
-    pub cat : (close : Bool) (count : ℕ) → 1 ≤ count → value (kind.Cat close) count ≡ true
-    pub drain : value kind.Drain 1 ≡ true
-    pub source : (source : From) → value (kind.Source source) 0 ≡ true
-    pub whole : (inv : Inv) (count : ℕ) → is_built_of inv ≡ true → inputs_of inv ≡ count → value (kind.Whole inv) count ≡ true
+    -- each kind that a stage has up to where its output goes passes
+    pub record Pass : Type 0 where
+      pub text : (text : List ℕ) → value (kind.Text text) 0 1 ≡ true
+      pub cat : (close : Bool) (count : ℕ) → 1 ≤ count → value (kind.Cat close) count 1 ≡ true
+      pub drain : value kind.Drain 1 0 ≡ true
+      pub source : (source : From) → value (kind.Source source) 0 1 ≡ true
+      pub whole : (inv : Inv) (count : ℕ) → is_built_of inv ≡ true → inputs_of inv ≡ count → value (kind.Whole inv) count 1 ≡ true
+      pub split : 2 ≤ width → value kind.Split 1 width ≡ true
+      pub map : (inv : Inv) → is_built_of inv ≡ true → is_spread width inv ≡ true → value (kind.Map inv) 1 1 ≡ true
 
-  module _ (pass : Pass) where
-    and-assoc : (one two three : Bool) → ((one && two) && three) ≡ (one && (two && three))
-    and-assoc true two three = refl
-    and-assoc false two three = refl
+    module _ (pass : Pass) where
+      and-assoc : (one two three : Bool) → ((one && two) && three) ≡ (one && (two && three))
+      and-assoc true two three = refl
+      and-assoc false two three = refl
 
-    all-gathers : Gathers true both_pass value
-    all-gathers = record {
-      left = λ it. refl;
-      right = λ it. and-true it;
-      assoc = and-assoc;
-      of_text = pass.text;
-      of_cat = pass.cat;
-      of_drain = pass.drain;
-    }
+      all-gathers : Gathers width true both_pass value
+      all-gathers = record {
+        left = λ it. refl;
+        right = λ it. and-true it;
+        assoc = and-assoc;
+        of_text = pass.text;
+        of_cat = pass.cat;
+        of_drain = pass.drain;
+        of_split = pass.split;
+      }
 
-    ins-pass : (ins : List In) → ins_value true both_pass value true ins ≡ true
-    ins-pass [] = refl
-    ins-pass (inlet.Stream ∷ ins) = ins-pass ins
-    ins-pass (inlet.File path closed ∷ ins) = and_from (value (kind.Source (from.File path)) 0) (ins_value true both_pass value true ins) (pass.source (from.File path)) (ins-pass ins)
-    ins-pass (inlet.Empty ∷ ins) = ins-pass ins
+      ins-pass : (ins : List In) → ins_value width true both_pass value true ins ≡ true
+      ins-pass [] = refl
+      ins-pass (inlet.Stream ∷ ins) = ins-pass ins
+      ins-pass (inlet.File path closed ∷ ins) = and_from (value (kind.Source (from.File path)) 0 1) (ins_value width true both_pass value true ins) (pass.source (from.File path)) (ins-pass ins)
+      ins-pass (inlet.Empty ∷ ins) = ins-pass ins
 
-    util-pass : (leads : Bool) (stage : Stage) → is_stage stage ≡ true → (it : Does) → stage.does ≡ it → util_value true both_pass value leads it (read_count it (length stage.ins)) ≡ true
-    util-pass leads stage is does.Skip same = refl
-    util-pass leads stage is (does.Util inv) same = by_cat (is_leading_cat leads inv)
-      where
-        by_cat : (cat : Bool) → (if cat then true else value (kind.Whole inv) (read_of inv (length stage.ins))) ≡ true
-        by_cat true = refl
-        by_cat false = let fits : Fits inv stage = (parts-of stage is inv same).0 in pass.whole inv (read_of inv (length stage.ins)) fits.built fits.inputs
-
-    main-pass : (leads : Bool) (stage : Stage) → is_stage stage ≡ true → main_value true both_pass value true leads stage ≡ true
-    main-pass leads stage is =
-        and_from (ins_value true both_pass value true (ins_of stage)) (util_value true both_pass value leads stage.does (read_count stage.does (length stage.ins)))
-        (ins-pass (ins_of stage)) (util-pass leads stage is stage.does refl)
-
-    stream-pass : (comes : Coming) → stream_value true both_pass value comes ≡ true
-    stream-pass (coming.Begins begin) = by_first begin.now
-      where
-        by_first : (begin : First) → first_value true both_pass value begin ≡ true
-        by_first first.Input = pass.source from.Input
-        by_first (first.Text text) = refl
-    stream-pass (coming.On edge) = refl
-    stream-pass coming.Nothing = refl
-
-    pub main-all : (number : ℕ) (comes : Coming) (stage : Stage) (next : ℕ) → is_stage stage ≡ true
-        → list_all (λ (it : Step). value it.kind (length it.ins)) (main_steps number comes stage next) ≡ true
-    main-all number comes stage next is =
-        all-found (main_steps number comes stage next) ∙ main-gathered true both_pass value all-gathers number comes stage next
-        ∙ ap (λ (stream : Bool). main_value true both_pass value stream (begins comes) stage) (stream-pass comes) ∙ main-pass (begins comes) stage is
-
-    module _ (sink : (sink : To) → value (kind.Sink sink) 1 ≡ true) where
-      file-pass : (it : Out) → file_value true both_pass value it ≡ true
-      file-pass out.Next = refl
-      file-pass (out.File path mode) = sink (to.File path mode)
-      file-pass out.Null = refl
-
-      goes-pass : (it : Out) (piped : List ℕ) → goes_value true both_pass value it piped ≡ true
-      goes-pass it piped = by_test (goes_on it piped)
+      util-pass : (leads : Bool) (stage : Stage) → is_stage stage ≡ true → (it : Does) → stage.does ≡ it → util_value width true both_pass value leads it (read_count it (length stage.ins)) ≡ true
+      util-pass leads stage is does.Skip same = refl
+      util-pass leads stage is (does.Util inv) same = by_cat (is_leading_cat leads inv) (is_spread width inv) refl
         where
-          by_test : (goes : Bool) → (if goes then value (kind.Sink to.Output) 1 else true) ≡ true
-          by_test true = sink to.Output
-          by_test false = refl
+          fits : Fits inv stage
+          fits = (parts-of stage is inv same).0
 
-      chain-pass : (leads : Bool) (stages : List Stage) → list_all is_stage stages ≡ true → chain_value true both_pass value true leads stages ≡ true
-      chain-pass leads [] all = refl
-      chain-pass leads (stage ∷ []) all =
-          and_from (main_value true both_pass value true leads stage) (file_value true both_pass value stage.out && goes_value true both_pass value stage.out stage.piped)
-          (main-pass leads stage (and_parts (is_stage stage) true all).0)
-          (and_from (file_value true both_pass value stage.out) (goes_value true both_pass value stage.out stage.piped) (file-pass stage.out) (goes-pass stage.out stage.piped))
-      chain-pass leads (stage ∷ following ∷ stages) all =
-          let parts = and_parts (is_stage stage) (list_all is_stage (following ∷ stages)) all in
-          and_from (main_value true both_pass value true leads stage && file_value true both_pass value stage.out) (chain_value true both_pass value true false (following ∷ stages))
-          (and_from (main_value true both_pass value true leads stage) (file_value true both_pass value stage.out) (main-pass leads stage parts.0) (file-pass stage.out))
-          (chain-pass false (following ∷ stages) parts.1)
+          all-repeated : (count : ℕ) (it : Bool) → it ≡ true → repeated width true both_pass value count it ≡ true
+          all-repeated zero it pass = refl
+          all-repeated (suc count) it pass = and_from it (repeated width true both_pass value count it) pass (all-repeated count it pass)
 
-      pub chain-all : (number : ℕ) (comes : Coming) (stages : List Stage) (next : ℕ) → list_all is_stage stages ≡ true
-          → list_all (λ (it : Step). value it.kind (length it.ins)) (chain_steps number comes stages next) ≡ true
-      chain-all number comes stages next all =
-          all-found (chain_steps number comes stages next) ∙ chain-gathered true both_pass value all-gathers number comes stages next
-          ∙ ap (λ (stream : Bool). chain_value true both_pass value stream (begins comes) stages) (stream-pass comes) ∙ chain-pass (begins comes) stages all
+          by_cat : (cat spread : Bool) → is_spread width inv ≡ spread
+              → (if cat then true else if spread then repeated width true both_pass value width (value (kind.Map inv) 1 1) else value (kind.Whole inv) (read_of inv (length stage.ins)) 1) ≡ true
+          by_cat true spread is = refl
+          by_cat false true is = all-repeated width (value (kind.Map inv) 1 1) (pass.map inv fits.built is)
+          by_cat false false is = pass.whole inv (read_of inv (length stage.ins)) fits.built fits.inputs
 
--- a test of the kinds alone
-pub of-kinds : (test : NodeKind → Bool) → ((text : List ℕ) → test (kind.Text text) ≡ true) → ((close : Bool) → test (kind.Cat close) ≡ true) → test kind.Drain ≡ true
-    → ((source : From) → test (kind.Source source) ≡ true) → ((inv : Inv) → is_built_of inv ≡ true → test (kind.Whole inv) ≡ true)
-    → Pass (λ kind count. test kind)
-of-kinds test text cat drain source whole = record {
-  text = text;
-  cat = λ close count some. cat close;
-  drain = drain;
-  source = source;
-  whole = λ inv count built inputs. whole inv built;
-}
+      main-pass : (leads : Bool) (stage : Stage) → is_stage stage ≡ true → main_value width true both_pass value true leads stage ≡ true
+      main-pass leads stage is =
+          and_from (ins_value width true both_pass value true (ins_of stage)) (util_value width true both_pass value leads stage.does (read_count stage.does (length stage.ins)))
+          (ins-pass (ins_of stage)) (util-pass leads stage is stage.does refl)
 
--- WHAT IS LISTED
-abbrev joined_items : {Item : Type 0} → List Item → List Item → List Item
-joined_items one other = one ++ other
+      stream-pass : (comes : Coming) → stream_value width true both_pass value comes ≡ true
+      stream-pass (coming.Begins begin) = by_first begin.now
+        where
+          by_first : (begin : First) → first_value width true both_pass value begin ≡ true
+          by_first first.Input = pass.source from.Input
+          by_first (first.Text text) = refl
+      stream-pass (coming.On parts) = refl
+      stream-pass coming.Nothing = refl
 
-module _ {Item : Type 0} (find : NodeKind → ℕ → List Item) where
-  abbrev pub listed : List Step → List Item
-  listed steps = gathered [] joined_items find steps
+      pub main-all : (number : ℕ) (comes : Coming) (stage : Stage) (next : ℕ) → is_stage stage ≡ true → MayCome width comes stage
+          → list_all (λ (it : Step). value it.kind (length it.ins) it.outs) (main_steps width number comes stage next) ≡ true
+      main-all number comes stage next is may =
+          all-found (main_steps width number comes stage next) ∙ main-gathered width true both_pass value all-gathers number comes stage next is may
+          ∙ ap (λ (stream : Bool). main_value width true both_pass value stream (begins comes) stage) (stream-pass comes) ∙ main-pass (begins comes) stage is
 
-  pub listed-found : (steps : List Step) → flat_map (λ (it : Step). find it.kind (length it.ins)) steps ≡ listed steps
-  listed-found [] = refl
-  listed-found (it ∷ steps) = ap (λ (rest : List Item). find it.kind (length it.ins) ++ rest) (listed-found steps)
+      module _ (sink : (sink : To) → value (kind.Sink sink) 1 0 ≡ true) where
+        file-pass : (it : Out) → file_value width true both_pass value it ≡ true
+        file-pass out.Next = refl
+        file-pass (out.File path mode) = sink (to.File path mode)
+        file-pass out.Null = refl
 
-  pub list-gathers : ((text : List ℕ) → find (kind.Text text) 0 ≡ []) → ((close : Bool) (count : ℕ) → find (kind.Cat close) count ≡ []) → find kind.Drain 1 ≡ [] → Gathers [] joined_items find
-  list-gathers text cat drain = record {
-    left = λ it. refl;
-    right = λ it. append-nil it;
-    assoc = λ one two three. append_assoc one two three;
-    of_text = text;
-    of_cat = λ close count some. cat close count;
-    of_drain = drain;
+        goes-pass : (it : Out) (piped : List ℕ) → goes_value width true both_pass value it piped ≡ true
+        goes-pass it piped = by_test (goes_on it piped)
+          where
+            by_test : (goes : Bool) → (if goes then value (kind.Sink to.Output) 1 0 else true) ≡ true
+            by_test true = sink to.Output
+            by_test false = refl
+
+        chain-pass : (leads : Bool) (stages : List Stage) → list_all is_stage stages ≡ true → chain_value width true both_pass value true leads stages ≡ true
+        chain-pass leads [] all = refl
+        chain-pass leads (stage ∷ []) all =
+            and_from (main_value width true both_pass value true leads stage) (file_value width true both_pass value stage.out && goes_value width true both_pass value stage.out stage.piped)
+            (main-pass leads stage (and_parts (is_stage stage) true all).0)
+            (and_from (file_value width true both_pass value stage.out) (goes_value width true both_pass value stage.out stage.piped) (file-pass stage.out) (goes-pass stage.out stage.piped))
+        chain-pass leads (stage ∷ following ∷ stages) all =
+            let parts = and_parts (is_stage stage) (list_all is_stage (following ∷ stages)) all in
+            and_from (main_value width true both_pass value true leads stage && file_value width true both_pass value stage.out) (chain_value width true both_pass value true false (following ∷ stages))
+            (and_from (main_value width true both_pass value true leads stage) (file_value width true both_pass value stage.out) (main-pass leads stage parts.0) (file-pass stage.out))
+            (chain-pass false (following ∷ stages) parts.1)
+
+        pub chain-all : (number : ℕ) (comes : Coming) (stages : List Stage) (next : ℕ) → list_all is_stage stages ≡ true → MayBegin width comes stages
+            → list_all (λ (it : Step). value it.kind (length it.ins) it.outs) (chain_steps width number comes stages next) ≡ true
+        chain-all number comes stages next all may =
+            all-found (chain_steps width number comes stages next) ∙ chain-gathered width true both_pass value all-gathers number comes stages next all may
+            ∙ ap (λ (stream : Bool). chain_value width true both_pass value stream (begins comes) stages) (stream-pass comes) ∙ chain-pass (begins comes) stages all
+
+  -- a test of the kinds alone
+  pub of-kinds : (test : NodeKind → Bool) → ((text : List ℕ) → test (kind.Text text) ≡ true) → ((close : Bool) → test (kind.Cat close) ≡ true) → test kind.Drain ≡ true
+      → ((source : From) → test (kind.Source source) ≡ true) → ((inv : Inv) → is_built_of inv ≡ true → test (kind.Whole inv) ≡ true)
+      → test kind.Split ≡ true → ((inv : Inv) → is_built_of inv ≡ true → is_spread width inv ≡ true → test (kind.Map inv) ≡ true)
+      → Pass (λ kind ins outs. test kind)
+  of-kinds test text cat drain source whole split map = record {
+    text = text;
+    cat = λ close count some. cat close;
+    drain = drain;
+    source = source;
+    whole = λ inv count built inputs. whole inv built;
+    split = λ some. split;
+    map = map;
   }
 
-  abbrev pub chain_list : Bool → List Stage → List Item
-  chain_list leads stages = chain_value [] joined_items find [] leads stages
-
--- what is found of some of them
-abbrev pub option_items : {Item : Type 0} → Option Item → List Item
-option_items None = []
-option_items (Some item) = item ∷ []
-
-cons-items : {Item : Type 0} (it : Option Item) (rest : List Item) → cons_option it rest ≡ option_items it ++ rest
-cons-items None rest = refl
-cons-items (Some item) rest = refl
-
-pub found-listed : {Item : Type 0} (find : NodeKind → Option Item) (steps : List Step) → filter_map (λ (it : Step). find it.kind) steps ≡ listed (λ kind count. option_items (find kind)) steps
-found-listed find [] = refl
-found-listed {Item} find (it ∷ steps) =
-    ap (λ (rest : List Item). cons_option (find it.kind) rest) (found-listed find steps) ∙ cons-items (find it.kind) (listed (λ kind count. option_items (find kind)) steps)
-
--- the files that are read
-abbrev path_of_read : NodeKind → ℕ → List Components
-path_of_read kind count = option_items (path_read kind)
-
-abbrev joined_paths : List Components → List Components → List Components
-joined_paths one other = one ++ other
-
-ins-read : (ins : List In) → ins_value [] joined_paths path_of_read [] ins ≡ filter_map file_in ins
-ins-read [] = refl
-ins-read (inlet.Stream ∷ ins) = ins-read ins
-ins-read (inlet.File path closed ∷ ins) = ap (λ (rest : List Components). path ∷ rest) (ins-read ins)
-ins-read (inlet.Empty ∷ ins) = ins-read ins
-
-util-read : (leads : Bool) (it : Does) (count : ℕ) → util_value [] joined_paths path_of_read leads it count ≡ []
-util-read leads does.Skip count = refl
-util-read leads (does.Util inv) count = by_cat (is_leading_cat leads inv)
-  where
-    by_cat : (cat : Bool) → (if cat then [] else option_items (path_read (kind.Whole inv))) ≡ []
-    by_cat true = refl
-    by_cat false = refl
-
-file-read : (it : Out) → file_value [] joined_paths path_of_read it ≡ []
-file-read out.Next = refl
-file-read (out.File path mode) = refl
-file-read out.Null = refl
-
-goes-read : (it : Out) (piped : List ℕ) → goes_value [] joined_paths path_of_read it piped ≡ []
-goes-read it piped = by_test (goes_on it piped)
-  where
-    by_test : (goes : Bool) → (if goes then option_items (path_read (kind.Sink to.Output)) else []) ≡ []
-    by_test true = refl
-    by_test false = refl
-
-main-read : (leads : Bool) (stage : Stage) → main_value [] joined_paths path_of_read [] leads stage ≡ filter_map file_in (ins_of stage)
-main-read leads stage =
-    ap (λ (own : List Components). ins_value [] joined_paths path_of_read [] (ins_of stage) ++ own) (util-read leads stage.does (read_count stage.does (length stage.ins)))
-    ∙ append-nil (ins_value [] joined_paths path_of_read [] (ins_of stage)) ∙ ins-read (ins_of stage)
-
-all-read : (leads : Bool) (stages : List Stage) → chain_list path_of_read leads stages ≡ files_read stages
-all-read leads [] = refl
-all-read leads (stage ∷ []) =
-    ap (λ (main : List Components). main ++ (file_value [] joined_paths path_of_read stage.out ++ goes_value [] joined_paths path_of_read stage.out stage.piped)) (main-read leads stage)
-    ∙ ap (λ (file : List Components). filter_map file_in (ins_of stage) ++ (file ++ goes_value [] joined_paths path_of_read stage.out stage.piped)) (file-read stage.out)
-    ∙ ap (λ (goes : List Components). filter_map file_in (ins_of stage) ++ goes) (goes-read stage.out stage.piped)
-all-read leads (stage ∷ following ∷ stages) =
-    ap (λ (main : List Components). (main ++ file_value [] joined_paths path_of_read stage.out) ++ chain_list path_of_read false (following ∷ stages)) (main-read leads stage)
-    ∙ ap (λ (file : List Components). (filter_map file_in (ins_of stage) ++ file) ++ chain_list path_of_read false (following ∷ stages)) (file-read stage.out)
-    ∙ ap (λ (here : List Components). here ++ chain_list path_of_read false (following ∷ stages)) (append-nil (filter_map file_in (ins_of stage)))
-    ∙ ap (λ (rest : List Components). filter_map file_in (ins_of stage) ++ rest) (all-read false (following ∷ stages))
-
--- the stream of the first stage adds no path
-stream-paths : (find : NodeKind → ℕ → List Components) → find (kind.Source from.Input) 0 ≡ [] → (comes : Coming) → stream_value [] joined_paths find comes ≡ []
-stream-paths find none (coming.Begins begin) = by_first begin.now
-  where
-    by_first : (begin : First) → first_value [] joined_paths find begin ≡ []
-    by_first first.Input = none
-    by_first (first.Text text) = refl
-stream-paths find none (coming.On edge) = refl
-stream-paths find none coming.Nothing = refl
-
-pub chain-reads : (number : ℕ) (comes : Coming) (stages : List Stage) (next : ℕ) → filter_map (λ (it : Step). path_read it.kind) (chain_steps number comes stages next) ≡ files_read stages
-chain-reads number comes stages next =
-    found-listed path_read (chain_steps number comes stages next)
-    ∙ chain-gathered [] joined_paths path_of_read (list-gathers path_of_read (λ text. refl) (λ close count. refl) refl) number comes stages next
-    ∙ ap (λ (stream : List Components). chain_value [] joined_paths path_of_read stream (begins comes) stages) (stream-paths path_of_read refl comes) ∙ all-read (begins comes) stages
-
--- the files that are written
-abbrev path_of_written : NodeKind → ℕ → List Components
-path_of_written kind count = option_items (path_written kind)
-
-ins-written : (ins : List In) → ins_value [] joined_paths path_of_written [] ins ≡ []
-ins-written [] = refl
-ins-written (inlet.Stream ∷ ins) = ins-written ins
-ins-written (inlet.File path closed ∷ ins) = ins-written ins
-ins-written (inlet.Empty ∷ ins) = ins-written ins
-
-util-written : (leads : Bool) (it : Does) (count : ℕ) → util_value [] joined_paths path_of_written leads it count ≡ []
-util-written leads does.Skip count = refl
-util-written leads (does.Util inv) count = by_cat (is_leading_cat leads inv)
-  where
-    by_cat : (cat : Bool) → (if cat then [] else option_items (path_written (kind.Whole inv))) ≡ []
-    by_cat true = refl
-    by_cat false = refl
-
-main-written : (leads : Bool) (stage : Stage) → main_value [] joined_paths path_of_written [] leads stage ≡ []
-main-written leads stage =
-    ap (λ (own : List Components). ins_value [] joined_paths path_of_written [] (ins_of stage) ++ own) (util-written leads stage.does (read_count stage.does (length stage.ins)))
-    ∙ append-nil (ins_value [] joined_paths path_of_written [] (ins_of stage)) ∙ ins-written (ins_of stage)
-
-file-written : (it : Out) → file_value [] joined_paths path_of_written it ≡ file_out it
-file-written out.Next = refl
-file-written (out.File path mode) = refl
-file-written out.Null = refl
-
-goes-written : (it : Out) (piped : List ℕ) → goes_value [] joined_paths path_of_written it piped ≡ []
-goes-written it piped = by_test (goes_on it piped)
-  where
-    by_test : (goes : Bool) → (if goes then option_items (path_written (kind.Sink to.Output)) else []) ≡ []
-    by_test true = refl
-    by_test false = refl
-
-stage-written : (leads : Bool) (stage : Stage) → is_stage stage ≡ true → main_value [] joined_paths path_of_written [] leads stage ++ file_value [] joined_paths path_of_written stage.out ≡ stage.tees ++ file_out stage.out
-stage-written leads stage is =
-    ap (λ (main : List Components). main ++ file_value [] joined_paths path_of_written stage.out) (main-written leads stage) ∙ file-written stage.out
-    ∙ ap (λ (tees : List Components). tees ++ file_out stage.out) (sym (no-tees stage is))
-
-all-written : (leads : Bool) (stages : List Stage) → list_all is_stage stages ≡ true → chain_list path_of_written leads stages ≡ files_written stages
-all-written leads [] all = refl
-all-written leads (stage ∷ []) all =
-    let is : is_stage stage ≡ true = (and_parts (is_stage stage) true all).0 in
-    sym (append_assoc (main_value [] joined_paths path_of_written [] leads stage) (file_value [] joined_paths path_of_written stage.out) (goes_value [] joined_paths path_of_written stage.out stage.piped))
-    ∙ ap (λ (here : List Components). here ++ goes_value [] joined_paths path_of_written stage.out stage.piped) (stage-written leads stage is)
-    ∙ ap (λ (goes : List Components). (stage.tees ++ file_out stage.out) ++ goes) (goes-written stage.out stage.piped)
-all-written leads (stage ∷ following ∷ stages) all =
-    let parts = and_parts (is_stage stage) (list_all is_stage (following ∷ stages)) all in
-    ap (λ (here : List Components). here ++ chain_list path_of_written false (following ∷ stages)) (stage-written leads stage parts.0)
-    ∙ ap (λ (rest : List Components). (stage.tees ++ file_out stage.out) ++ rest) (all-written false (following ∷ stages) parts.1)
-
-pub chain-writes : (number : ℕ) (comes : Coming) (stages : List Stage) (next : ℕ) → list_all is_stage stages ≡ true
-    → filter_map (λ (it : Step). path_written it.kind) (chain_steps number comes stages next) ≡ files_written stages
-chain-writes number comes stages next all =
-    found-listed path_written (chain_steps number comes stages next)
-    ∙ chain-gathered [] joined_paths path_of_written (list-gathers path_of_written (λ text. refl) (λ close count. refl) refl) number comes stages next
-    ∙ ap (λ (stream : List Components). chain_value [] joined_paths path_of_written stream (begins comes) stages) (stream-paths path_of_written refl comes) ∙ all-written (begins comes) stages all
-
--- the words of utilities
-abbrev joined_words : List (List (List ℕ)) → List (List (List ℕ)) → List (List (List ℕ))
-joined_words one other = one ++ other
-
-ins-words : (ins : List In) → ins_value [] joined_words words_of_node [] ins ≡ []
-ins-words [] = refl
-ins-words (inlet.Stream ∷ ins) = ins-words ins
-ins-words (inlet.File path closed ∷ ins) = ins-words ins
-ins-words (inlet.Empty ∷ ins) = ins-words ins
-
--- at the width 1 each stands once
-once : (words : List (List (List ℕ))) (test : Bool) → flat_map (λ words. replicate (if test then 1 else 1) words) words ≡ words
-once [] test = refl
-once (word ∷ words) test = by_test test (once words test)
-  where
-    by_test : (test : Bool) → flat_map (λ words. replicate (if test then 1 else 1) words) words ≡ words → flat_map (λ words. replicate (if test then 1 else 1) words) (word ∷ words) ≡ word ∷ words
-    by_test true rest = ap (λ (others : List (List (List ℕ))). word ∷ others) rest
-    by_test false rest = ap (λ (others : List (List (List ℕ))). word ∷ others) rest
-
-util-words : (leads : Bool) (stage : Stage) → is_stage stage ≡ true → (it : Does) → stage.does ≡ it → util_value [] joined_words words_of_node leads it (read_count it (length stage.ins)) ≡ words_by 1 it
-util-words leads stage is does.Skip same = refl
-util-words leads stage is (does.Util inv) same =
-    by_cat (is_leading_cat leads inv) refl ∙ ap (words_with inv) (sym fits.inputs) ∙ sym (once (words_with inv (inputs_of inv)) (has_map (class_of inv) && (inputs_of inv == 1)))
-  where
-    fits : Fits inv stage
-    fits = (parts-of stage is inv same).0
-
-    by_cat : (leading : Bool) → is_leading_cat leads inv ≡ leading → (if leading then [] else words_with inv (read_of inv (length stage.ins))) ≡ words_with inv (read_of inv (length stage.ins))
-    by_cat true is = sym (ap (λ (test : Bool). if test || (read_of inv (length stage.ins) == 0) then [] else words_of inv ∷ []) (and_parts (is_cat inv) leads is).0)
-    by_cat false is = refl
-
-main-words : (leads : Bool) (stage : Stage) → is_stage stage ≡ true → main_value [] joined_words words_of_node [] leads stage ≡ words_by 1 stage.does
-main-words leads stage is =
-    ap (λ (ins : List (List (List ℕ))). ins ++ util_value [] joined_words words_of_node leads stage.does (read_count stage.does (length stage.ins))) (ins-words (ins_of stage))
-    ∙ util-words leads stage is stage.does refl
-
-file-words : (it : Out) → file_value [] joined_words words_of_node it ≡ []
-file-words out.Next = refl
-file-words (out.File path mode) = refl
-file-words out.Null = refl
-
-goes-words : (it : Out) (piped : List ℕ) → goes_value [] joined_words words_of_node it piped ≡ []
-goes-words it piped = by_test (goes_on it piped)
-  where
-    by_test : (goes : Bool) → (if goes then words_of_node (kind.Sink to.Output) 1 else []) ≡ []
-    by_test true = refl
-    by_test false = refl
-
-all-words : (leads : Bool) (stages : List Stage) → list_all is_stage stages ≡ true → chain_list words_of_node leads stages ≡ words_at 1 stages
-all-words leads [] all = refl
-all-words leads (stage ∷ []) all =
-    let is : is_stage stage ≡ true = (and_parts (is_stage stage) true all).0 in
-    ap (λ (main : List (List (List ℕ))). main ++ (file_value [] joined_words words_of_node stage.out ++ goes_value [] joined_words words_of_node stage.out stage.piped)) (main-words leads stage is)
-    ∙ ap (λ (file : List (List (List ℕ))). words_by 1 stage.does ++ (file ++ goes_value [] joined_words words_of_node stage.out stage.piped)) (file-words stage.out)
-    ∙ ap (λ (goes : List (List (List ℕ))). words_by 1 stage.does ++ goes) (goes-words stage.out stage.piped)
-all-words leads (stage ∷ following ∷ stages) all =
-    let parts = and_parts (is_stage stage) (list_all is_stage (following ∷ stages)) all in
-    ap (λ (main : List (List (List ℕ))). (main ++ file_value [] joined_words words_of_node stage.out) ++ chain_list words_of_node false (following ∷ stages)) (main-words leads stage parts.0)
-    ∙ ap (λ (file : List (List (List ℕ))). (words_by 1 stage.does ++ file) ++ chain_list words_of_node false (following ∷ stages)) (file-words stage.out)
-    ∙ ap (λ (here : List (List (List ℕ))). here ++ chain_list words_of_node false (following ∷ stages)) (append-nil (words_by 1 stage.does))
-    ∙ ap (λ (rest : List (List (List ℕ))). words_by 1 stage.does ++ rest) (all-words false (following ∷ stages) parts.1)
-
-stream-words : (comes : Coming) → stream_value [] joined_words words_of_node comes ≡ []
-stream-words (coming.Begins begin) = by_first begin.now
-  where
-    by_first : (begin : First) → first_value [] joined_words words_of_node begin ≡ []
-    by_first first.Input = refl
-    by_first (first.Text text) = refl
-stream-words (coming.On edge) = refl
-stream-words coming.Nothing = refl
-
-pub chain-words : (number : ℕ) (comes : Coming) (stages : List Stage) (next : ℕ) → list_all is_stage stages ≡ true
-    → flat_map (λ (it : Step). words_of_node it.kind (length it.ins)) (chain_steps number comes stages next) ≡ words_at 1 stages
-chain-words number comes stages next all =
-    listed-found words_of_node (chain_steps number comes stages next)
-    ∙ chain-gathered [] joined_words words_of_node (list-gathers words_of_node (λ text. refl) (λ close count. refl) refl) number comes stages next
-    ∙ ap (λ (stream : List (List (List ℕ))). chain_value [] joined_words words_of_node stream (begins comes) stages) (stream-words comes) ∙ all-words (begins comes) stages all
-
--- ONE IS THERE, AND HOW MANY
-abbrev either : Bool → Bool → Bool
-either one other = one || other
-
-abbrev any_value : (NodeKind → Bool) → NodeKind → ℕ → Bool
-any_value test kind count = test kind
-
-abbrev sum : ℕ → ℕ → ℕ
-sum one other = one + other
-
-abbrev number_value : (NodeKind → Bool) → NodeKind → ℕ → ℕ
-number_value test kind count = if test kind then 1 else 0
-
-any-found : (test : NodeKind → Bool) (steps : List Step) → list_any (λ (it : Step). test it.kind) steps ≡ gathered false either (any_value test) steps
-any-found test [] = refl
-any-found test (it ∷ steps) = ap (λ (rest : Bool). test it.kind || rest) (any-found test steps)
-
-number-found : (test : NodeKind → Bool) (steps : List Step) → count_by (λ (it : Step). test it.kind) steps ≡ gathered 0 sum (number_value test) steps
-number-found test [] = refl
-number-found test (it ∷ steps) =
-    sum_by-cons (λ (it : Step). if test it.kind then 1 else 0) it steps ∙ ap (λ (rest : ℕ). (if test it.kind then 1 else 0) + rest) (number-found test steps)
-
-or-assoc : (one two three : Bool) → ((one || two) || three) ≡ (one || (two || three))
-or-assoc true two three = refl
-or-assoc false two three = refl
-
-any-gathers : (test : NodeKind → Bool) → ((text : List ℕ) → test (kind.Text text) ≡ false) → ((close : Bool) → test (kind.Cat close) ≡ false) → test kind.Drain ≡ false → Gathers false either (any_value test)
-any-gathers test text cat drain = record {
-  left = λ it. refl;
-  right = λ it. or-none it;
-  assoc = or-assoc;
-  of_text = text;
-  of_cat = λ close count some. cat close;
-  of_drain = drain;
-}
-
-number-gathers : (test : NodeKind → Bool) → ((text : List ℕ) → test (kind.Text text) ≡ false) → ((close : Bool) → test (kind.Cat close) ≡ false) → test kind.Drain ≡ false → Gathers 0 sum (number_value test)
-number-gathers test text cat drain = record {
-  left = λ it. (omega arith);
-  right = λ it. (omega arith);
-  assoc = λ one two three. (omega arith);
-  of_text = λ it. ap (λ (is : Bool). if is then 1 else 0) (text it);
-  of_cat = λ close count some. ap (λ (is : Bool). if is then 1 else 0) (cat close);
-  of_drain = ap (λ (is : Bool). if is then 1 else 0) drain;
-}
-
--- the shell's input
-abbrev pub is_shell : Coming → Bool
-is_shell comes = stream_value false either (any_value is_input) comes
-
-pub shell-is : (begin : First) → first_value false either (any_value is_input) begin ≡ is_shell_input begin
-shell-is first.Input = refl
-shell-is (first.Text text) = refl
-
-util-input : (leads : Bool) (it : Does) (count : ℕ) → (util_value false either (any_value is_input) leads it count ≡ false) × (util_value 0 sum (number_value is_input) leads it count ≡ 0)
-util-input leads does.Skip count = (refl, refl)
-util-input leads (does.Util inv) count = by_cat (is_leading_cat leads inv)
-  where
-    by_cat : (cat : Bool) → ((if cat then false else false) ≡ false) × (◌≡◌ {A = ℕ} (if cat then 0 else 0) 0)
-    by_cat true = (refl, refl)
-    by_cat false = (refl, refl)
-
-file-input : (it : Out) → (file_value false either (any_value is_input) it ≡ false) × (file_value 0 sum (number_value is_input) it ≡ 0)
-file-input out.Next = (refl, refl)
-file-input (out.File path mode) = (refl, refl)
-file-input out.Null = (refl, refl)
-
-goes-input : (it : Out) (piped : List ℕ) → (goes_value false either (any_value is_input) it piped ≡ false) × (goes_value 0 sum (number_value is_input) it piped ≡ 0)
-goes-input it piped = by_test (goes_on it piped)
-  where
-    by_test : (goes : Bool) → ((if goes then false else false) ≡ false) × (◌≡◌ {A = ℕ} (if goes then 0 else 0) 0)
-    by_test true = (refl, refl)
-    by_test false = (refl, refl)
-
-ins-input : (stream : Bool) (ins : List In) → ins_value false either (any_value is_input) stream ins ≡ (stream && list_any is_stream ins)
-ins-input true [] = refl
-ins-input false [] = refl
-ins-input true (inlet.Stream ∷ ins) = refl
-ins-input false (inlet.Stream ∷ ins) = ins-input false ins
-ins-input stream (inlet.File path closed ∷ ins) = ins-input stream ins
-ins-input stream (inlet.Empty ∷ ins) = ins-input stream ins
-
-main-input : (stream leads : Bool) (stage : Stage) → main_value false either (any_value is_input) stream leads stage ≡ (stream && is_reader stage)
-main-input stream leads stage =
-    ap (λ (own : Bool). ins_value false either (any_value is_input) stream (ins_of stage) || own) (util-input leads stage.does (read_count stage.does (length stage.ins))).0
-    ∙ or-none (ins_value false either (any_value is_input) stream (ins_of stage)) ∙ ins-input stream (ins_of stage)
-
-chain-input-none : (leads : Bool) (stages : List Stage) → chain_value false either (any_value is_input) false leads stages ≡ false
-chain-input-none leads [] = refl
-chain-input-none leads (stage ∷ []) =
-    ap (λ (main : Bool). main || (file_value false either (any_value is_input) stage.out || goes_value false either (any_value is_input) stage.out stage.piped)) (main-input false leads stage)
-    ∙ ap (λ (file : Bool). file || goes_value false either (any_value is_input) stage.out stage.piped) (file-input stage.out).0 ∙ (goes-input stage.out stage.piped).0
-chain-input-none leads (stage ∷ following ∷ stages) =
-    ap (λ (main : Bool). (main || file_value false either (any_value is_input) stage.out) || chain_value false either (any_value is_input) false false (following ∷ stages)) (main-input false leads stage)
-    ∙ ap (λ (file : Bool). file || chain_value false either (any_value is_input) false false (following ∷ stages)) (file-input stage.out).0 ∙ chain-input-none false (following ∷ stages)
-
-any-input : (stream leads : Bool) (stages : List Stage) → chain_value false either (any_value is_input) stream leads stages ≡ (stream && reads_stream stages)
-any-input true leads [] = refl
-any-input false leads [] = refl
-any-input stream leads (stage ∷ []) =
-    ap (λ (main : Bool). main || (file_value false either (any_value is_input) stage.out || goes_value false either (any_value is_input) stage.out stage.piped)) (main-input stream leads stage)
-    ∙ ap (λ (file : Bool). (stream && is_reader stage) || (file || goes_value false either (any_value is_input) stage.out stage.piped)) (file-input stage.out).0
-    ∙ ap (λ (goes : Bool). (stream && is_reader stage) || goes) (goes-input stage.out stage.piped).0 ∙ or-none (stream && is_reader stage)
-any-input stream leads (stage ∷ following ∷ stages) =
-    ap (λ (main : Bool). (main || file_value false either (any_value is_input) stage.out) || chain_value false either (any_value is_input) false false (following ∷ stages)) (main-input stream leads stage)
-    ∙ ap (λ (file : Bool). ((stream && is_reader stage) || file) || chain_value false either (any_value is_input) false false (following ∷ stages)) (file-input stage.out).0
-    ∙ ap (λ (rest : Bool). ((stream && is_reader stage) || false) || rest) (chain-input-none false (following ∷ stages))
-    ∙ or-none ((stream && is_reader stage) || false) ∙ or-none (stream && is_reader stage)
-
-pub chain-input : (number : ℕ) (comes : Coming) (stages : List Stage) (next : ℕ) → list_any (λ (it : Step). is_input it.kind) (chain_steps number comes stages next) ≡ (is_shell comes && reads_stream stages)
-chain-input number comes stages next =
-    any-found is_input (chain_steps number comes stages next)
-    ∙ chain-gathered false either (any_value is_input) (any-gathers is_input (λ text. refl) (λ close. refl) refl) number comes stages next
-    ∙ any-input (is_shell comes) (begins comes) stages
-
--- it is taken once
-ins-inputs : (stream : ℕ) (ins : List In) → stream ≤ 1 → ins_value 0 sum (number_value is_input) stream ins ≤ count_by is_stream ins
-ins-inputs stream [] few = omega arith
-ins-inputs stream (inlet.Stream ∷ ins) few =
-    let all : count_by is_stream (inlet.Stream ∷ ins) ≡ 1 + count_by is_stream ins = sum_by-cons (λ it. if is_stream it then 1 else 0) inlet.Stream ins in
-    let rest = ins-inputs stream ins few in omega (arith, all, rest, few)
-ins-inputs stream (inlet.File path closed ∷ ins) few =
-    let all : count_by is_stream (inlet.File path closed ∷ ins) ≡ 0 + count_by is_stream ins = sum_by-cons (λ it. if is_stream it then 1 else 0) (inlet.File path closed) ins in
-    let rest = ins-inputs stream ins few in omega (arith, all, rest)
-ins-inputs stream (inlet.Empty ∷ ins) few =
-    let all : count_by is_stream (inlet.Empty ∷ ins) ≡ 0 + count_by is_stream ins = sum_by-cons (λ it. if is_stream it then 1 else 0) inlet.Empty ins in
-    let rest = ins-inputs stream ins few in omega (arith, all, rest)
-
-no-inputs : (ins : List In) → ins_value 0 sum (number_value is_input) 0 ins ≡ 0
-no-inputs [] = refl
-no-inputs (inlet.Stream ∷ ins) = let rest = no-inputs ins in omega (arith, rest)
-no-inputs (inlet.File path closed ∷ ins) = let rest = no-inputs ins in omega (arith, rest)
-no-inputs (inlet.Empty ∷ ins) = let rest = no-inputs ins in omega (arith, rest)
-
-chain-inputs-none : (leads : Bool) (stages : List Stage) → chain_value 0 sum (number_value is_input) 0 leads stages ≡ 0
-chain-inputs-none leads [] = refl
-chain-inputs-none leads (stage ∷ []) =
-    let ins = no-inputs (ins_of stage) in
-    let own = (util-input leads stage.does (read_count stage.does (length stage.ins))).1 in
-    let file = (file-input stage.out).1 in
-    let goes = (goes-input stage.out stage.piped).1 in
-    omega (arith, ins, own, file, goes)
-chain-inputs-none leads (stage ∷ following ∷ stages) =
-    let ins = no-inputs (ins_of stage) in
-    let own = (util-input leads stage.does (read_count stage.does (length stage.ins))).1 in
-    let file = (file-input stage.out).1 in
-    let rest = chain-inputs-none false (following ∷ stages) in
-    omega (arith, ins, own, file, rest)
-
-few-inputs : (stream : ℕ) (leads : Bool) (stages : List Stage) → stream ≤ 1 → list_all is_stage stages ≡ true → chain_value 0 sum (number_value is_input) stream leads stages ≤ 1
-few-inputs stream leads [] few all = omega arith
-few-inputs stream leads (stage ∷ []) few all =
-    let ins = ins-inputs stream (ins_of stage) few in
-    let streams = few-streams stage (and_parts (is_stage stage) true all).0 in
-    let own = (util-input leads stage.does (read_count stage.does (length stage.ins))).1 in
-    let file = (file-input stage.out).1 in
-    let goes = (goes-input stage.out stage.piped).1 in
-    omega (arith, ins, streams, own, file, goes)
-few-inputs stream leads (stage ∷ following ∷ stages) few all =
-    let ins = ins-inputs stream (ins_of stage) few in
-    let streams = few-streams stage (and_parts (is_stage stage) (list_all is_stage (following ∷ stages)) all).0 in
-    let own = (util-input leads stage.does (read_count stage.does (length stage.ins))).1 in
-    let file = (file-input stage.out).1 in
-    let rest = chain-inputs-none false (following ∷ stages) in
-    omega (arith, ins, streams, own, file, rest)
-
-stream-few : (comes : Coming) → stream_value 0 sum (number_value is_input) comes ≤ 1
-stream-few (coming.Begins begin) = by_first begin.now
-  where
-    by_first : (begin : First) → first_value 0 sum (number_value is_input) begin ≤ 1
-    by_first first.Input = omega arith
-    by_first (first.Text text) = omega arith
-stream-few (coming.On edge) = omega arith
-stream-few coming.Nothing = omega arith
-
-pub chain-inputs : (number : ℕ) (comes : Coming) (stages : List Stage) (next : ℕ) → list_all is_stage stages ≡ true → count_by (λ (it : Step). is_input it.kind) (chain_steps number comes stages next) ≤ 1
-chain-inputs number comes stages next all =
-    let count = number-found is_input (chain_steps number comes stages next) in
-    let whole = chain-gathered 0 sum (number_value is_input) (number-gathers is_input (λ text. refl) (λ close. refl) refl) number comes stages next in
-    let few = few-inputs (stream_value 0 sum (number_value is_input) comes) (begins comes) stages (stream-few comes) all in
-    omega (arith, count, whole, few)
-
--- the output
-ins-output : (ins : List In) → (ins_value false either (any_value is_output) false ins ≡ false) × (ins_value 0 sum (number_value is_output) 0 ins ≡ 0)
-ins-output [] = (refl, refl)
-ins-output (inlet.Stream ∷ ins) = let rest = ins-output ins in let none = rest.1 in (rest.0, omega (arith, none))
-ins-output (inlet.File path closed ∷ ins) = let rest = ins-output ins in let none = rest.1 in (rest.0, omega (arith, none))
-ins-output (inlet.Empty ∷ ins) = let rest = ins-output ins in let none = rest.1 in (rest.0, omega (arith, none))
-
-util-output : (leads : Bool) (it : Does) (count : ℕ) → (util_value false either (any_value is_output) leads it count ≡ false) × (util_value 0 sum (number_value is_output) leads it count ≡ 0)
-util-output leads does.Skip count = (refl, refl)
-util-output leads (does.Util inv) count = by_cat (is_leading_cat leads inv)
-  where
-    by_cat : (cat : Bool) → ((if cat then false else false) ≡ false) × (◌≡◌ {A = ℕ} (if cat then 0 else 0) 0)
-    by_cat true = (refl, refl)
-    by_cat false = (refl, refl)
-
-file-output : (it : Out) → (file_value false either (any_value is_output) it ≡ false) × (file_value 0 sum (number_value is_output) it ≡ 0)
-file-output out.Next = (refl, refl)
-file-output (out.File path mode) = (refl, refl)
-file-output out.Null = (refl, refl)
-
-goes-output : (it : Out) (piped : List ℕ) → (goes_value false either (any_value is_output) it piped ≡ goes_on it piped) × (goes_value 0 sum (number_value is_output) it piped ≤ 1)
-goes-output it piped = by_test (goes_on it piped)
-  where
-    by_test : (goes : Bool) → ((if goes then true else false) ≡ goes) × ((if goes then 1 else 0) ≤ 1)
-    by_test true = (refl, omega arith)
-    by_test false = (refl, omega arith)
-
-main-output : (leads : Bool) (stage : Stage) → main_value false either (any_value is_output) false leads stage ≡ false
-main-output leads stage =
-    ap (λ (ins : Bool). ins || util_value false either (any_value is_output) leads stage.does (read_count stage.does (length stage.ins))) (ins-output (ins_of stage)).0
-    ∙ (util-output leads stage.does (read_count stage.does (length stage.ins))).0
-
-any-output : (leads : Bool) (stages : List Stage) → chain_value false either (any_value is_output) false leads stages ≡ gives_output stages
-any-output leads [] = refl
-any-output leads (stage ∷ []) =
-    ap (λ (main : Bool). main || (file_value false either (any_value is_output) stage.out || goes_value false either (any_value is_output) stage.out stage.piped)) (main-output leads stage)
-    ∙ ap (λ (file : Bool). file || goes_value false either (any_value is_output) stage.out stage.piped) (file-output stage.out).0 ∙ (goes-output stage.out stage.piped).0
-any-output leads (stage ∷ following ∷ stages) =
-    ap (λ (main : Bool). (main || file_value false either (any_value is_output) stage.out) || chain_value false either (any_value is_output) false false (following ∷ stages)) (main-output leads stage)
-    ∙ ap (λ (file : Bool). file || chain_value false either (any_value is_output) false false (following ∷ stages)) (file-output stage.out).0 ∙ any-output false (following ∷ stages)
-
-few-outputs : (leads : Bool) (stages : List Stage) → chain_value 0 sum (number_value is_output) 0 leads stages ≤ 1
-few-outputs leads [] = omega arith
-few-outputs leads (stage ∷ []) =
-    let ins = (ins-output (ins_of stage)).1 in
-    let own = (util-output leads stage.does (read_count stage.does (length stage.ins))).1 in
-    let file = (file-output stage.out).1 in
-    let goes = (goes-output stage.out stage.piped).1 in
-    omega (arith, ins, own, file, goes)
-few-outputs leads (stage ∷ following ∷ stages) =
-    let ins = (ins-output (ins_of stage)).1 in
-    let own = (util-output leads stage.does (read_count stage.does (length stage.ins))).1 in
-    let file = (file-output stage.out).1 in
-    let rest = few-outputs false (following ∷ stages) in
-    omega (arith, ins, own, file, rest)
-
-stream-output : (comes : Coming) → (stream_value false either (any_value is_output) comes ≡ false) × (stream_value 0 sum (number_value is_output) comes ≡ 0)
-stream-output (coming.Begins begin) = by_first begin.now
-  where
-    by_first : (begin : First) → (first_value false either (any_value is_output) begin ≡ false) × (first_value 0 sum (number_value is_output) begin ≡ 0)
-    by_first first.Input = (refl, refl)
-    by_first (first.Text text) = (refl, refl)
-stream-output (coming.On edge) = (refl, refl)
-stream-output coming.Nothing = (refl, refl)
-
-pub chain-output : (number : ℕ) (comes : Coming) (stages : List Stage) (next : ℕ) → list_any (λ (it : Step). is_output it.kind) (chain_steps number comes stages next) ≡ gives_output stages
-chain-output number comes stages next =
-    any-found is_output (chain_steps number comes stages next)
-    ∙ chain-gathered false either (any_value is_output) (any-gathers is_output (λ text. refl) (λ close. refl) refl) number comes stages next
-    ∙ ap (λ (stream : Bool). chain_value false either (any_value is_output) stream (begins comes) stages) (stream-output comes).0 ∙ any-output (begins comes) stages
-
-pub chain-outputs : (number : ℕ) (comes : Coming) (stages : List Stage) (next : ℕ) → count_by (λ (it : Step). is_output it.kind) (chain_steps number comes stages next) ≤ 1
-chain-outputs number comes stages next =
-    let count = number-found is_output (chain_steps number comes stages next) in
-    let whole = chain-gathered 0 sum (number_value is_output) (number-gathers is_output (λ text. refl) (λ close. refl) refl) number comes stages next in
-    let stream : chain_value 0 sum (number_value is_output) (stream_value 0 sum (number_value is_output) comes) (begins comes) stages ≡ chain_value 0 sum (number_value is_output) 0 (begins comes) stages =
-    ap (λ (stream : ℕ). chain_value 0 sum (number_value is_output) stream (begins comes) stages) (stream-output comes).1 in
-    let few = few-outputs (begins comes) stages in
-    omega (arith, count, whole, stream, few)
+  -- WHAT IS LISTED
+  abbrev joined_items : {Item : Type 0} → List Item → List Item → List Item
+  joined_items one other = one ++ other
+
+  module _ {Item : Type 0} (find : NodeKind → ℕ → ℕ → List Item) where
+    abbrev pub listed : List Step → List Item
+    listed steps = gathered width [] joined_items find steps
+
+    pub listed-found : (steps : List Step) → flat_map (λ (it : Step). find it.kind (length it.ins) it.outs) steps ≡ listed steps
+    listed-found [] = refl
+    listed-found (it ∷ steps) = ap (λ (rest : List Item). find it.kind (length it.ins) it.outs ++ rest) (listed-found steps)
+
+    pub list-gathers : ((text : List ℕ) → find (kind.Text text) 0 1 ≡ []) → ((close : Bool) (count : ℕ) → find (kind.Cat close) count 1 ≡ []) → find kind.Drain 1 0 ≡ [] → find kind.Split 1 width ≡ [] → Gathers width [] joined_items find
+    list-gathers text cat drain split = record {
+      left = λ it. refl;
+      right = λ it. append-nil it;
+      assoc = λ one two three. append_assoc one two three;
+      of_text = text;
+      of_cat = λ close count some. cat close count;
+      of_drain = drain;
+      of_split = λ some. split;
+    }
+
+    abbrev pub chain_list : Bool → List Stage → List Item
+    chain_list leads stages = chain_value width [] joined_items find [] leads stages
+
+  -- what is found of some of them
+  abbrev pub option_items : {Item : Type 0} → Option Item → List Item
+  option_items None = []
+  option_items (Some item) = item ∷ []
+
+  cons-items : {Item : Type 0} (it : Option Item) (rest : List Item) → cons_option it rest ≡ option_items it ++ rest
+  cons-items None rest = refl
+  cons-items (Some item) rest = refl
+
+  pub found-listed : {Item : Type 0} (find : NodeKind → Option Item) (steps : List Step) → filter_map (λ (it : Step). find it.kind) steps ≡ listed (λ kind ins outs. option_items (find kind)) steps
+  found-listed find [] = refl
+  found-listed {Item} find (it ∷ steps) =
+      ap (λ (rest : List Item). cons_option (find it.kind) rest) (found-listed find steps) ∙ cons-items (find it.kind) (listed (λ kind ins outs. option_items (find kind)) steps)
+
+  -- the files that are read
+  abbrev path_of_read : NodeKind → ℕ → ℕ → List Components
+  path_of_read kind ins outs = option_items (path_read kind)
+
+  abbrev joined_paths : List Components → List Components → List Components
+  joined_paths one other = one ++ other
+
+  ins-read : (ins : List In) → ins_value width [] joined_paths path_of_read [] ins ≡ filter_map file_in ins
+  ins-read [] = refl
+  ins-read (inlet.Stream ∷ ins) = ins-read ins
+  ins-read (inlet.File path closed ∷ ins) = ap (λ (rest : List Components). path ∷ rest) (ins-read ins)
+  ins-read (inlet.Empty ∷ ins) = ins-read ins
+
+  util-read : (leads : Bool) (it : Does) (count : ℕ) → util_value width [] joined_paths path_of_read leads it count ≡ []
+  util-read leads does.Skip count = refl
+  util-read leads (does.Util inv) count = by_cat (is_leading_cat leads inv) (is_spread width inv)
+    where
+      none-repeated : (count : ℕ) → repeated width [] joined_paths path_of_read count [] ≡ []
+      none-repeated zero = refl
+      none-repeated (suc count) = none-repeated count
+
+      by_cat : (cat spread : Bool) → (if cat then [] else if spread then repeated width [] joined_paths path_of_read width [] else []) ≡ []
+      by_cat true spread = refl
+      by_cat false true = none-repeated width
+      by_cat false false = refl
+
+  file-read : (it : Out) → file_value width [] joined_paths path_of_read it ≡ []
+  file-read out.Next = refl
+  file-read (out.File path mode) = refl
+  file-read out.Null = refl
+
+  goes-read : (it : Out) (piped : List ℕ) → goes_value width [] joined_paths path_of_read it piped ≡ []
+  goes-read it piped = by_test (goes_on it piped)
+    where
+      by_test : (goes : Bool) → (if goes then option_items (path_read (kind.Sink to.Output)) else []) ≡ []
+      by_test true = refl
+      by_test false = refl
+
+  main-read : (leads : Bool) (stage : Stage) → main_value width [] joined_paths path_of_read [] leads stage ≡ filter_map file_in (ins_of stage)
+  main-read leads stage =
+      ap (λ (own : List Components). ins_value width [] joined_paths path_of_read [] (ins_of stage) ++ own) (util-read leads stage.does (read_count stage.does (length stage.ins)))
+      ∙ append-nil (ins_value width [] joined_paths path_of_read [] (ins_of stage)) ∙ ins-read (ins_of stage)
+
+  all-read : (leads : Bool) (stages : List Stage) → chain_list path_of_read leads stages ≡ files_read stages
+  all-read leads [] = refl
+  all-read leads (stage ∷ []) =
+      ap (λ (main : List Components). main ++ (file_value width [] joined_paths path_of_read stage.out ++ goes_value width [] joined_paths path_of_read stage.out stage.piped)) (main-read leads stage)
+      ∙ ap (λ (file : List Components). filter_map file_in (ins_of stage) ++ (file ++ goes_value width [] joined_paths path_of_read stage.out stage.piped)) (file-read stage.out)
+      ∙ ap (λ (goes : List Components). filter_map file_in (ins_of stage) ++ goes) (goes-read stage.out stage.piped)
+  all-read leads (stage ∷ following ∷ stages) =
+      ap (λ (main : List Components). (main ++ file_value width [] joined_paths path_of_read stage.out) ++ chain_list path_of_read false (following ∷ stages)) (main-read leads stage)
+      ∙ ap (λ (file : List Components). (filter_map file_in (ins_of stage) ++ file) ++ chain_list path_of_read false (following ∷ stages)) (file-read stage.out)
+      ∙ ap (λ (here : List Components). here ++ chain_list path_of_read false (following ∷ stages)) (append-nil (filter_map file_in (ins_of stage)))
+      ∙ ap (λ (rest : List Components). filter_map file_in (ins_of stage) ++ rest) (all-read false (following ∷ stages))
+
+  -- the stream of the first stage adds no path
+  stream-paths : (find : NodeKind → ℕ → ℕ → List Components) → find (kind.Source from.Input) 0 1 ≡ [] → (comes : Coming) → stream_value width [] joined_paths find comes ≡ []
+  stream-paths find none (coming.Begins begin) = by_first begin.now
+    where
+      by_first : (begin : First) → first_value width [] joined_paths find begin ≡ []
+      by_first first.Input = none
+      by_first (first.Text text) = refl
+  stream-paths find none (coming.On parts) = refl
+  stream-paths find none coming.Nothing = refl
+
+  pub chain-reads : (number : ℕ) (comes : Coming) (stages : List Stage) (next : ℕ) → list_all is_stage stages ≡ true → MayBegin width comes stages → filter_map (λ (it : Step). path_read it.kind) (chain_steps width number comes stages next) ≡ files_read stages
+  chain-reads number comes stages next all may =
+      found-listed path_read (chain_steps width number comes stages next)
+      ∙ chain-gathered width [] joined_paths path_of_read (list-gathers path_of_read (λ text. refl) (λ close count. refl) refl refl) number comes stages next all may
+      ∙ ap (λ (stream : List Components). chain_value width [] joined_paths path_of_read stream (begins comes) stages) (stream-paths path_of_read refl comes) ∙ all-read (begins comes) stages
+
+  -- the files that are written
+  abbrev path_of_written : NodeKind → ℕ → ℕ → List Components
+  path_of_written kind ins outs = option_items (path_written kind)
+
+  ins-written : (ins : List In) → ins_value width [] joined_paths path_of_written [] ins ≡ []
+  ins-written [] = refl
+  ins-written (inlet.Stream ∷ ins) = ins-written ins
+  ins-written (inlet.File path closed ∷ ins) = ins-written ins
+  ins-written (inlet.Empty ∷ ins) = ins-written ins
+
+  util-written : (leads : Bool) (it : Does) (count : ℕ) → util_value width [] joined_paths path_of_written leads it count ≡ []
+  util-written leads does.Skip count = refl
+  util-written leads (does.Util inv) count = by_cat (is_leading_cat leads inv) (is_spread width inv)
+    where
+      none-repeated : (count : ℕ) → repeated width [] joined_paths path_of_written count [] ≡ []
+      none-repeated zero = refl
+      none-repeated (suc count) = none-repeated count
+
+      by_cat : (cat spread : Bool) → (if cat then [] else if spread then repeated width [] joined_paths path_of_written width [] else []) ≡ []
+      by_cat true spread = refl
+      by_cat false true = none-repeated width
+      by_cat false false = refl
+
+  main-written : (leads : Bool) (stage : Stage) → main_value width [] joined_paths path_of_written [] leads stage ≡ []
+  main-written leads stage =
+      ap (λ (own : List Components). ins_value width [] joined_paths path_of_written [] (ins_of stage) ++ own) (util-written leads stage.does (read_count stage.does (length stage.ins)))
+      ∙ append-nil (ins_value width [] joined_paths path_of_written [] (ins_of stage)) ∙ ins-written (ins_of stage)
+
+  file-written : (it : Out) → file_value width [] joined_paths path_of_written it ≡ file_out it
+  file-written out.Next = refl
+  file-written (out.File path mode) = refl
+  file-written out.Null = refl
+
+  goes-written : (it : Out) (piped : List ℕ) → goes_value width [] joined_paths path_of_written it piped ≡ []
+  goes-written it piped = by_test (goes_on it piped)
+    where
+      by_test : (goes : Bool) → (if goes then option_items (path_written (kind.Sink to.Output)) else []) ≡ []
+      by_test true = refl
+      by_test false = refl
+
+  stage-written : (leads : Bool) (stage : Stage) → is_stage stage ≡ true → main_value width [] joined_paths path_of_written [] leads stage ++ file_value width [] joined_paths path_of_written stage.out ≡ stage.tees ++ file_out stage.out
+  stage-written leads stage is =
+      ap (λ (main : List Components). main ++ file_value width [] joined_paths path_of_written stage.out) (main-written leads stage) ∙ file-written stage.out
+      ∙ ap (λ (tees : List Components). tees ++ file_out stage.out) (sym (no-tees stage is))
+
+  all-written : (leads : Bool) (stages : List Stage) → list_all is_stage stages ≡ true → chain_list path_of_written leads stages ≡ files_written stages
+  all-written leads [] all = refl
+  all-written leads (stage ∷ []) all =
+      let is : is_stage stage ≡ true = (and_parts (is_stage stage) true all).0 in
+      sym (append_assoc (main_value width [] joined_paths path_of_written [] leads stage) (file_value width [] joined_paths path_of_written stage.out) (goes_value width [] joined_paths path_of_written stage.out stage.piped))
+      ∙ ap (λ (here : List Components). here ++ goes_value width [] joined_paths path_of_written stage.out stage.piped) (stage-written leads stage is)
+      ∙ ap (λ (goes : List Components). (stage.tees ++ file_out stage.out) ++ goes) (goes-written stage.out stage.piped)
+  all-written leads (stage ∷ following ∷ stages) all =
+      let parts = and_parts (is_stage stage) (list_all is_stage (following ∷ stages)) all in
+      ap (λ (here : List Components). here ++ chain_list path_of_written false (following ∷ stages)) (stage-written leads stage parts.0)
+      ∙ ap (λ (rest : List Components). (stage.tees ++ file_out stage.out) ++ rest) (all-written false (following ∷ stages) parts.1)
+
+  pub chain-writes : (number : ℕ) (comes : Coming) (stages : List Stage) (next : ℕ) → list_all is_stage stages ≡ true → MayBegin width comes stages
+      → filter_map (λ (it : Step). path_written it.kind) (chain_steps width number comes stages next) ≡ files_written stages
+  chain-writes number comes stages next all may =
+      found-listed path_written (chain_steps width number comes stages next)
+      ∙ chain-gathered width [] joined_paths path_of_written (list-gathers path_of_written (λ text. refl) (λ close count. refl) refl refl) number comes stages next all may
+      ∙ ap (λ (stream : List Components). chain_value width [] joined_paths path_of_written stream (begins comes) stages) (stream-paths path_of_written refl comes) ∙ all-written (begins comes) stages all
+
+  -- the words of utilities
+  abbrev pub words_value : NodeKind → ℕ → ℕ → List (List (List ℕ))
+  words_value kind ins outs = words_of_node kind ins
+
+  abbrev joined_words : List (List (List ℕ)) → List (List (List ℕ)) → List (List (List ℕ))
+  joined_words one other = one ++ other
+
+  ins-words : (ins : List In) → ins_value width [] joined_words words_value [] ins ≡ []
+  ins-words [] = refl
+  ins-words (inlet.Stream ∷ ins) = ins-words ins
+  ins-words (inlet.File path closed ∷ ins) = ins-words ins
+  ins-words (inlet.Empty ∷ ins) = ins-words ins
+
+  -- each stands as often as its utility runs
+  once : (words : List (List (List ℕ))) → flat_map (λ words. replicate 1 words) words ≡ words
+  once [] = refl
+  once (word ∷ words) = ap (λ (others : List (List (List ℕ))). word ∷ others) (once words)
+
+  often : (count : ℕ) (words : List (List ℕ)) → repeated width [] joined_words words_value count (words ∷ []) ≡ replicate count words
+  often zero words = refl
+  often (suc count) words = ap (λ (others : List (List (List ℕ))). words ∷ others) (often count words)
+
+  never : (count : ℕ) → repeated width [] joined_words words_value count [] ≡ []
+  never zero = refl
+  never (suc count) = never count
+
+  spread-words : (inv : Inv) → repeated width [] joined_words words_value width (words_with inv 1) ≡ flat_map (λ words. replicate width words) (words_with inv 1)
+  spread-words inv = by_test (is_cat inv || (1 == 0))
+    where
+      by_test : (test : Bool) → repeated width [] joined_words words_value width (if test then [] else words_of inv ∷ []) ≡ flat_map (λ words. replicate width words) (if test then [] else words_of inv ∷ [])
+      by_test true = never width
+      by_test false = often width (words_of inv) ∙ sym (append-nil (replicate width (words_of inv)))
+
+  util-words : (leads : Bool) (stage : Stage) → is_stage stage ≡ true → (it : Does) → stage.does ≡ it → util_value width [] joined_words words_value leads it (read_count it (length stage.ins)) ≡ words_by width it
+  util-words leads stage is does.Skip same = refl
+  util-words leads stage is (does.Util inv) same = by_cat (is_leading_cat leads inv) refl (is_spread width inv) refl
+    where
+      fits : Fits inv stage
+      fits = (parts-of stage is inv same).0
+
+      count : ℕ
+      count = read_of inv (length stage.ins)
+
+      by_cat : (leading : Bool) → is_leading_cat leads inv ≡ leading → (spread : Bool) → is_spread width inv ≡ spread
+          → (if leading then [] else if spread then repeated width [] joined_words words_value width (words_with inv 1) else words_with inv (read_of inv (length stage.ins)))
+          ≡ flat_map (λ words. replicate (if is_spread width inv then width else 1) words) (words_with inv (inputs_of inv))
+      by_cat true is spread so =
+          let none : words_with inv (inputs_of inv) ≡ [] = ap (λ (test : Bool). if test || (inputs_of inv == 0) then [] else words_of inv ∷ []) (and_parts (is_cat inv) leads is).0 in
+          sym (ap (λ (all : List (List (List ℕ))). flat_map (λ words. replicate (if is_spread width inv then width else 1) words) all) none)
+      by_cat false is true so =
+          spread-words inv ∙ ap (λ (inputs : ℕ). flat_map (λ words. replicate width words) (words_with inv inputs)) (sym (spread-one width inv so))
+          ∙ ap (λ (spread : Bool). flat_map (λ words. replicate (if spread then width else 1) words) (words_with inv (inputs_of inv))) (sym so)
+      by_cat false is false so =
+          ap (words_with inv) (sym fits.inputs) ∙ sym (once (words_with inv (inputs_of inv)))
+          ∙ ap (λ (spread : Bool). flat_map (λ words. replicate (if spread then width else 1) words) (words_with inv (inputs_of inv))) (sym so)
+
+  main-words : (leads : Bool) (stage : Stage) → is_stage stage ≡ true → main_value width [] joined_words words_value [] leads stage ≡ words_by width stage.does
+  main-words leads stage is =
+      ap (λ (ins : List (List (List ℕ))). ins ++ util_value width [] joined_words words_value leads stage.does (read_count stage.does (length stage.ins))) (ins-words (ins_of stage))
+      ∙ util-words leads stage is stage.does refl
+
+  file-words : (it : Out) → file_value width [] joined_words words_value it ≡ []
+  file-words out.Next = refl
+  file-words (out.File path mode) = refl
+  file-words out.Null = refl
+
+  goes-words : (it : Out) (piped : List ℕ) → goes_value width [] joined_words words_value it piped ≡ []
+  goes-words it piped = by_test (goes_on it piped)
+    where
+      by_test : (goes : Bool) → (if goes then words_value (kind.Sink to.Output) 1 0 else []) ≡ []
+      by_test true = refl
+      by_test false = refl
+
+  all-words : (leads : Bool) (stages : List Stage) → list_all is_stage stages ≡ true → chain_list words_value leads stages ≡ words_at width stages
+  all-words leads [] all = refl
+  all-words leads (stage ∷ []) all =
+      let is : is_stage stage ≡ true = (and_parts (is_stage stage) true all).0 in
+      ap (λ (main : List (List (List ℕ))). main ++ (file_value width [] joined_words words_value stage.out ++ goes_value width [] joined_words words_value stage.out stage.piped)) (main-words leads stage is)
+      ∙ ap (λ (file : List (List (List ℕ))). words_by width stage.does ++ (file ++ goes_value width [] joined_words words_value stage.out stage.piped)) (file-words stage.out)
+      ∙ ap (λ (goes : List (List (List ℕ))). words_by width stage.does ++ goes) (goes-words stage.out stage.piped)
+  all-words leads (stage ∷ following ∷ stages) all =
+      let parts = and_parts (is_stage stage) (list_all is_stage (following ∷ stages)) all in
+      ap (λ (main : List (List (List ℕ))). (main ++ file_value width [] joined_words words_value stage.out) ++ chain_list words_value false (following ∷ stages)) (main-words leads stage parts.0)
+      ∙ ap (λ (file : List (List (List ℕ))). (words_by width stage.does ++ file) ++ chain_list words_value false (following ∷ stages)) (file-words stage.out)
+      ∙ ap (λ (here : List (List (List ℕ))). here ++ chain_list words_value false (following ∷ stages)) (append-nil (words_by width stage.does))
+      ∙ ap (λ (rest : List (List (List ℕ))). words_by width stage.does ++ rest) (all-words false (following ∷ stages) parts.1)
+
+  stream-words : (comes : Coming) → stream_value width [] joined_words words_value comes ≡ []
+  stream-words (coming.Begins begin) = by_first begin.now
+    where
+      by_first : (begin : First) → first_value width [] joined_words words_value begin ≡ []
+      by_first first.Input = refl
+      by_first (first.Text text) = refl
+  stream-words (coming.On parts) = refl
+  stream-words coming.Nothing = refl
+
+  pub chain-words : (number : ℕ) (comes : Coming) (stages : List Stage) (next : ℕ) → list_all is_stage stages ≡ true → MayBegin width comes stages
+      → flat_map (λ (it : Step). words_of_node it.kind (length it.ins)) (chain_steps width number comes stages next) ≡ words_at width stages
+  chain-words number comes stages next all may =
+      listed-found words_value (chain_steps width number comes stages next)
+      ∙ chain-gathered width [] joined_words words_value (list-gathers words_value (λ text. refl) (λ close count. refl) refl refl) number comes stages next all may
+      ∙ ap (λ (stream : List (List (List ℕ))). chain_value width [] joined_words words_value stream (begins comes) stages) (stream-words comes) ∙ all-words (begins comes) stages all
+
+  -- ONE IS THERE, AND HOW MANY
+  abbrev pub either : Bool → Bool → Bool
+  either one other = one || other
+
+  abbrev pub any_value : (NodeKind → Bool) → NodeKind → ℕ → ℕ → Bool
+  any_value test kind ins outs = test kind
+
+  abbrev pub sum : ℕ → ℕ → ℕ
+  sum one other = one + other
+
+  abbrev pub number_value : (NodeKind → Bool) → NodeKind → ℕ → ℕ → ℕ
+  number_value test kind ins outs = if test kind then 1 else 0
+
+  pub any-found : (test : NodeKind → Bool) (steps : List Step) → list_any (λ (it : Step). test it.kind) steps ≡ gathered width false either (any_value test) steps
+  any-found test [] = refl
+  any-found test (it ∷ steps) = ap (λ (rest : Bool). test it.kind || rest) (any-found test steps)
+
+  pub number-found : (test : NodeKind → Bool) (steps : List Step) → count_by (λ (it : Step). test it.kind) steps ≡ gathered width 0 sum (number_value test) steps
+  number-found test [] = refl
+  number-found test (it ∷ steps) =
+      sum_by-cons (λ (it : Step). if test it.kind then 1 else 0) it steps ∙ ap (λ (rest : ℕ). (if test it.kind then 1 else 0) + rest) (number-found test steps)
+
+  or-assoc : (one two three : Bool) → ((one || two) || three) ≡ (one || (two || three))
+  or-assoc true two three = refl
+  or-assoc false two three = refl
+
+  any-gathers : (test : NodeKind → Bool) → ((text : List ℕ) → test (kind.Text text) ≡ false) → ((close : Bool) → test (kind.Cat close) ≡ false) → test kind.Drain ≡ false → test kind.Split ≡ false → Gathers width false either (any_value test)
+  any-gathers test text cat drain split = record {
+    left = λ it. refl;
+    right = λ it. or-none it;
+    assoc = or-assoc;
+    of_text = text;
+    of_cat = λ close count some. cat close;
+    of_drain = drain;
+    of_split = λ some. split;
+  }
+
+  pub number-gathers : (test : NodeKind → Bool) → ((text : List ℕ) → test (kind.Text text) ≡ false) → ((close : Bool) → test (kind.Cat close) ≡ false) → test kind.Drain ≡ false → test kind.Split ≡ false → Gathers width 0 sum (number_value test)
+  number-gathers test text cat drain split = record {
+    left = λ it. (omega arith);
+    right = λ it. (omega arith);
+    assoc = λ one two three. (omega arith);
+    of_text = λ it. ap (λ (is : Bool). if is then 1 else 0) (text it);
+    of_cat = λ close count some. ap (λ (is : Bool). if is then 1 else 0) (cat close);
+    of_drain = ap (λ (is : Bool). if is then 1 else 0) drain;
+    of_split = λ some. ap (λ (is : Bool). if is then 1 else 0) split;
+  }
+
+  -- the shell's input
+  abbrev pub is_shell : Coming → Bool
+  is_shell comes = stream_value width false either (any_value is_input) comes
+
+  pub shell-is : (begin : First) → first_value width false either (any_value is_input) begin ≡ is_shell_input begin
+  shell-is first.Input = refl
+  shell-is (first.Text text) = refl
+
+  util-input : (leads : Bool) (it : Does) (count : ℕ) → (util_value width false either (any_value is_input) leads it count ≡ false) × (util_value width 0 sum (number_value is_input) leads it count ≡ 0)
+  util-input leads does.Skip count = (refl, refl)
+  util-input leads (does.Util inv) count = by_cat (is_leading_cat leads inv) (is_spread width inv)
+    where
+      none-repeated : (count : ℕ) → (repeated width false either (any_value is_input) count false ≡ false) × (repeated width 0 sum (number_value is_input) count 0 ≡ 0)
+      none-repeated zero = (refl, refl)
+      none-repeated (suc count) = let rest = none-repeated count in let none = rest.1 in (rest.0, omega (arith, none))
+
+      by_cat : (cat spread : Bool) → ((if cat then false else if spread then repeated width false either (any_value is_input) width false else false) ≡ false)
+          × (◌≡◌ {A = ℕ} (if cat then 0 else if spread then repeated width 0 sum (number_value is_input) width 0 else 0) 0)
+      by_cat true spread = (refl, refl)
+      by_cat false true = none-repeated width
+      by_cat false false = (refl, refl)
+
+  file-input : (it : Out) → (file_value width false either (any_value is_input) it ≡ false) × (file_value width 0 sum (number_value is_input) it ≡ 0)
+  file-input out.Next = (refl, refl)
+  file-input (out.File path mode) = (refl, refl)
+  file-input out.Null = (refl, refl)
+
+  goes-input : (it : Out) (piped : List ℕ) → (goes_value width false either (any_value is_input) it piped ≡ false) × (goes_value width 0 sum (number_value is_input) it piped ≡ 0)
+  goes-input it piped = by_test (goes_on it piped)
+    where
+      by_test : (goes : Bool) → ((if goes then false else false) ≡ false) × (◌≡◌ {A = ℕ} (if goes then 0 else 0) 0)
+      by_test true = (refl, refl)
+      by_test false = (refl, refl)
+
+  ins-input : (stream : Bool) (ins : List In) → ins_value width false either (any_value is_input) stream ins ≡ (stream && list_any is_stream ins)
+  ins-input true [] = refl
+  ins-input false [] = refl
+  ins-input true (inlet.Stream ∷ ins) = refl
+  ins-input false (inlet.Stream ∷ ins) = ins-input false ins
+  ins-input stream (inlet.File path closed ∷ ins) = ins-input stream ins
+  ins-input stream (inlet.Empty ∷ ins) = ins-input stream ins
+
+  main-input : (stream leads : Bool) (stage : Stage) → main_value width false either (any_value is_input) stream leads stage ≡ (stream && is_reader stage)
+  main-input stream leads stage =
+      ap (λ (own : Bool). ins_value width false either (any_value is_input) stream (ins_of stage) || own) (util-input leads stage.does (read_count stage.does (length stage.ins))).0
+      ∙ or-none (ins_value width false either (any_value is_input) stream (ins_of stage)) ∙ ins-input stream (ins_of stage)
+
+  chain-input-none : (leads : Bool) (stages : List Stage) → chain_value width false either (any_value is_input) false leads stages ≡ false
+  chain-input-none leads [] = refl
+  chain-input-none leads (stage ∷ []) =
+      ap (λ (main : Bool). main || (file_value width false either (any_value is_input) stage.out || goes_value width false either (any_value is_input) stage.out stage.piped)) (main-input false leads stage)
+      ∙ ap (λ (file : Bool). file || goes_value width false either (any_value is_input) stage.out stage.piped) (file-input stage.out).0 ∙ (goes-input stage.out stage.piped).0
+  chain-input-none leads (stage ∷ following ∷ stages) =
+      ap (λ (main : Bool). (main || file_value width false either (any_value is_input) stage.out) || chain_value width false either (any_value is_input) false false (following ∷ stages)) (main-input false leads stage)
+      ∙ ap (λ (file : Bool). file || chain_value width false either (any_value is_input) false false (following ∷ stages)) (file-input stage.out).0 ∙ chain-input-none false (following ∷ stages)
+
+  any-input : (stream leads : Bool) (stages : List Stage) → chain_value width false either (any_value is_input) stream leads stages ≡ (stream && reads_stream stages)
+  any-input true leads [] = refl
+  any-input false leads [] = refl
+  any-input stream leads (stage ∷ []) =
+      ap (λ (main : Bool). main || (file_value width false either (any_value is_input) stage.out || goes_value width false either (any_value is_input) stage.out stage.piped)) (main-input stream leads stage)
+      ∙ ap (λ (file : Bool). (stream && is_reader stage) || (file || goes_value width false either (any_value is_input) stage.out stage.piped)) (file-input stage.out).0
+      ∙ ap (λ (goes : Bool). (stream && is_reader stage) || goes) (goes-input stage.out stage.piped).0 ∙ or-none (stream && is_reader stage)
+  any-input stream leads (stage ∷ following ∷ stages) =
+      ap (λ (main : Bool). (main || file_value width false either (any_value is_input) stage.out) || chain_value width false either (any_value is_input) false false (following ∷ stages)) (main-input stream leads stage)
+      ∙ ap (λ (file : Bool). ((stream && is_reader stage) || file) || chain_value width false either (any_value is_input) false false (following ∷ stages)) (file-input stage.out).0
+      ∙ ap (λ (rest : Bool). ((stream && is_reader stage) || false) || rest) (chain-input-none false (following ∷ stages))
+      ∙ or-none ((stream && is_reader stage) || false) ∙ or-none (stream && is_reader stage)
+
+  pub chain-input : (number : ℕ) (comes : Coming) (stages : List Stage) (next : ℕ) → list_all is_stage stages ≡ true → MayBegin width comes stages → list_any (λ (it : Step). is_input it.kind) (chain_steps width number comes stages next) ≡ (is_shell comes && reads_stream stages)
+  chain-input number comes stages next all may =
+      any-found is_input (chain_steps width number comes stages next)
+      ∙ chain-gathered width false either (any_value is_input) (any-gathers is_input (λ text. refl) (λ close. refl) refl refl) number comes stages next all may
+      ∙ any-input (is_shell comes) (begins comes) stages
+
+  -- it is taken once
+  ins-inputs : (stream : ℕ) (ins : List In) → stream ≤ 1 → ins_value width 0 sum (number_value is_input) stream ins ≤ count_by is_stream ins
+  ins-inputs stream [] few = omega arith
+  ins-inputs stream (inlet.Stream ∷ ins) few =
+      let all : count_by is_stream (inlet.Stream ∷ ins) ≡ 1 + count_by is_stream ins = sum_by-cons (λ it. if is_stream it then 1 else 0) inlet.Stream ins in
+      let rest = ins-inputs stream ins few in omega (arith, all, rest, few)
+  ins-inputs stream (inlet.File path closed ∷ ins) few =
+      let all : count_by is_stream (inlet.File path closed ∷ ins) ≡ 0 + count_by is_stream ins = sum_by-cons (λ it. if is_stream it then 1 else 0) (inlet.File path closed) ins in
+      let rest = ins-inputs stream ins few in omega (arith, all, rest)
+  ins-inputs stream (inlet.Empty ∷ ins) few =
+      let all : count_by is_stream (inlet.Empty ∷ ins) ≡ 0 + count_by is_stream ins = sum_by-cons (λ it. if is_stream it then 1 else 0) inlet.Empty ins in
+      let rest = ins-inputs stream ins few in omega (arith, all, rest)
+
+  no-inputs : (ins : List In) → ins_value width 0 sum (number_value is_input) 0 ins ≡ 0
+  no-inputs [] = refl
+  no-inputs (inlet.Stream ∷ ins) = let rest = no-inputs ins in omega (arith, rest)
+  no-inputs (inlet.File path closed ∷ ins) = let rest = no-inputs ins in omega (arith, rest)
+  no-inputs (inlet.Empty ∷ ins) = let rest = no-inputs ins in omega (arith, rest)
+
+  chain-inputs-none : (leads : Bool) (stages : List Stage) → chain_value width 0 sum (number_value is_input) 0 leads stages ≡ 0
+  chain-inputs-none leads [] = refl
+  chain-inputs-none leads (stage ∷ []) =
+      let ins = no-inputs (ins_of stage) in
+      let own = (util-input leads stage.does (read_count stage.does (length stage.ins))).1 in
+      let file = (file-input stage.out).1 in
+      let goes = (goes-input stage.out stage.piped).1 in
+      omega (arith, ins, own, file, goes)
+  chain-inputs-none leads (stage ∷ following ∷ stages) =
+      let ins = no-inputs (ins_of stage) in
+      let own = (util-input leads stage.does (read_count stage.does (length stage.ins))).1 in
+      let file = (file-input stage.out).1 in
+      let rest = chain-inputs-none false (following ∷ stages) in
+      omega (arith, ins, own, file, rest)
+
+  few-inputs : (stream : ℕ) (leads : Bool) (stages : List Stage) → stream ≤ 1 → list_all is_stage stages ≡ true → chain_value width 0 sum (number_value is_input) stream leads stages ≤ 1
+  few-inputs stream leads [] few all = omega arith
+  few-inputs stream leads (stage ∷ []) few all =
+      let ins = ins-inputs stream (ins_of stage) few in
+      let streams = few-streams stage (and_parts (is_stage stage) true all).0 in
+      let own = (util-input leads stage.does (read_count stage.does (length stage.ins))).1 in
+      let file = (file-input stage.out).1 in
+      let goes = (goes-input stage.out stage.piped).1 in
+      omega (arith, ins, streams, own, file, goes)
+  few-inputs stream leads (stage ∷ following ∷ stages) few all =
+      let ins = ins-inputs stream (ins_of stage) few in
+      let streams = few-streams stage (and_parts (is_stage stage) (list_all is_stage (following ∷ stages)) all).0 in
+      let own = (util-input leads stage.does (read_count stage.does (length stage.ins))).1 in
+      let file = (file-input stage.out).1 in
+      let rest = chain-inputs-none false (following ∷ stages) in
+      omega (arith, ins, streams, own, file, rest)
+
+  stream-few : (comes : Coming) → stream_value width 0 sum (number_value is_input) comes ≤ 1
+  stream-few (coming.Begins begin) = by_first begin.now
+    where
+      by_first : (begin : First) → first_value width 0 sum (number_value is_input) begin ≤ 1
+      by_first first.Input = omega arith
+      by_first (first.Text text) = omega arith
+  stream-few (coming.On parts) = omega arith
+  stream-few coming.Nothing = omega arith
+
+  pub chain-inputs : (number : ℕ) (comes : Coming) (stages : List Stage) (next : ℕ) → list_all is_stage stages ≡ true → MayBegin width comes stages → count_by (λ (it : Step). is_input it.kind) (chain_steps width number comes stages next) ≤ 1
+  chain-inputs number comes stages next all may =
+      let count = number-found is_input (chain_steps width number comes stages next) in
+      let whole = chain-gathered width 0 sum (number_value is_input) (number-gathers is_input (λ text. refl) (λ close. refl) refl refl) number comes stages next all may in
+      let few = few-inputs (stream_value width 0 sum (number_value is_input) comes) (begins comes) stages (stream-few comes) all in
+      omega (arith, count, whole, few)
+
+  -- the output
+  ins-output : (ins : List In) → (ins_value width false either (any_value is_output) false ins ≡ false) × (ins_value width 0 sum (number_value is_output) 0 ins ≡ 0)
+  ins-output [] = (refl, refl)
+  ins-output (inlet.Stream ∷ ins) = let rest = ins-output ins in let none = rest.1 in (rest.0, omega (arith, none))
+  ins-output (inlet.File path closed ∷ ins) = let rest = ins-output ins in let none = rest.1 in (rest.0, omega (arith, none))
+  ins-output (inlet.Empty ∷ ins) = let rest = ins-output ins in let none = rest.1 in (rest.0, omega (arith, none))
+
+  util-output : (leads : Bool) (it : Does) (count : ℕ) → (util_value width false either (any_value is_output) leads it count ≡ false) × (util_value width 0 sum (number_value is_output) leads it count ≡ 0)
+  util-output leads does.Skip count = (refl, refl)
+  util-output leads (does.Util inv) count = by_cat (is_leading_cat leads inv) (is_spread width inv)
+    where
+      none-repeated : (count : ℕ) → (repeated width false either (any_value is_output) count false ≡ false) × (repeated width 0 sum (number_value is_output) count 0 ≡ 0)
+      none-repeated zero = (refl, refl)
+      none-repeated (suc count) = let rest = none-repeated count in let none = rest.1 in (rest.0, omega (arith, none))
+
+      by_cat : (cat spread : Bool) → ((if cat then false else if spread then repeated width false either (any_value is_output) width false else false) ≡ false)
+          × (◌≡◌ {A = ℕ} (if cat then 0 else if spread then repeated width 0 sum (number_value is_output) width 0 else 0) 0)
+      by_cat true spread = (refl, refl)
+      by_cat false true = none-repeated width
+      by_cat false false = (refl, refl)
+
+  file-output : (it : Out) → (file_value width false either (any_value is_output) it ≡ false) × (file_value width 0 sum (number_value is_output) it ≡ 0)
+  file-output out.Next = (refl, refl)
+  file-output (out.File path mode) = (refl, refl)
+  file-output out.Null = (refl, refl)
+
+  goes-output : (it : Out) (piped : List ℕ) → (goes_value width false either (any_value is_output) it piped ≡ goes_on it piped) × (goes_value width 0 sum (number_value is_output) it piped ≤ 1)
+  goes-output it piped = by_test (goes_on it piped)
+    where
+      by_test : (goes : Bool) → ((if goes then true else false) ≡ goes) × ((if goes then 1 else 0) ≤ 1)
+      by_test true = (refl, omega arith)
+      by_test false = (refl, omega arith)
+
+  main-output : (leads : Bool) (stage : Stage) → main_value width false either (any_value is_output) false leads stage ≡ false
+  main-output leads stage =
+      ap (λ (ins : Bool). ins || util_value width false either (any_value is_output) leads stage.does (read_count stage.does (length stage.ins))) (ins-output (ins_of stage)).0
+      ∙ (util-output leads stage.does (read_count stage.does (length stage.ins))).0
+
+  any-output : (leads : Bool) (stages : List Stage) → chain_value width false either (any_value is_output) false leads stages ≡ gives_output stages
+  any-output leads [] = refl
+  any-output leads (stage ∷ []) =
+      ap (λ (main : Bool). main || (file_value width false either (any_value is_output) stage.out || goes_value width false either (any_value is_output) stage.out stage.piped)) (main-output leads stage)
+      ∙ ap (λ (file : Bool). file || goes_value width false either (any_value is_output) stage.out stage.piped) (file-output stage.out).0 ∙ (goes-output stage.out stage.piped).0
+  any-output leads (stage ∷ following ∷ stages) =
+      ap (λ (main : Bool). (main || file_value width false either (any_value is_output) stage.out) || chain_value width false either (any_value is_output) false false (following ∷ stages)) (main-output leads stage)
+      ∙ ap (λ (file : Bool). file || chain_value width false either (any_value is_output) false false (following ∷ stages)) (file-output stage.out).0 ∙ any-output false (following ∷ stages)
+
+  few-outputs : (leads : Bool) (stages : List Stage) → chain_value width 0 sum (number_value is_output) 0 leads stages ≤ 1
+  few-outputs leads [] = omega arith
+  few-outputs leads (stage ∷ []) =
+      let ins = (ins-output (ins_of stage)).1 in
+      let own = (util-output leads stage.does (read_count stage.does (length stage.ins))).1 in
+      let file = (file-output stage.out).1 in
+      let goes = (goes-output stage.out stage.piped).1 in
+      omega (arith, ins, own, file, goes)
+  few-outputs leads (stage ∷ following ∷ stages) =
+      let ins = (ins-output (ins_of stage)).1 in
+      let own = (util-output leads stage.does (read_count stage.does (length stage.ins))).1 in
+      let file = (file-output stage.out).1 in
+      let rest = few-outputs false (following ∷ stages) in
+      omega (arith, ins, own, file, rest)
+
+  stream-output : (comes : Coming) → (stream_value width false either (any_value is_output) comes ≡ false) × (stream_value width 0 sum (number_value is_output) comes ≡ 0)
+  stream-output (coming.Begins begin) = by_first begin.now
+    where
+      by_first : (begin : First) → (first_value width false either (any_value is_output) begin ≡ false) × (first_value width 0 sum (number_value is_output) begin ≡ 0)
+      by_first first.Input = (refl, refl)
+      by_first (first.Text text) = (refl, refl)
+  stream-output (coming.On parts) = (refl, refl)
+  stream-output coming.Nothing = (refl, refl)
+
+  pub chain-output : (number : ℕ) (comes : Coming) (stages : List Stage) (next : ℕ) → list_all is_stage stages ≡ true → MayBegin width comes stages → list_any (λ (it : Step). is_output it.kind) (chain_steps width number comes stages next) ≡ gives_output stages
+  chain-output number comes stages next all may =
+      any-found is_output (chain_steps width number comes stages next)
+      ∙ chain-gathered width false either (any_value is_output) (any-gathers is_output (λ text. refl) (λ close. refl) refl refl) number comes stages next all may
+      ∙ ap (λ (stream : Bool). chain_value width false either (any_value is_output) stream (begins comes) stages) (stream-output comes).0 ∙ any-output (begins comes) stages
+
+  pub chain-outputs : (number : ℕ) (comes : Coming) (stages : List Stage) (next : ℕ) → list_all is_stage stages ≡ true → MayBegin width comes stages → count_by (λ (it : Step). is_output it.kind) (chain_steps width number comes stages next) ≤ 1
+  chain-outputs number comes stages next all may =
+      let count = number-found is_output (chain_steps width number comes stages next) in
+      let whole = chain-gathered width 0 sum (number_value is_output) (number-gathers is_output (λ text. refl) (λ close. refl) refl refl) number comes stages next all may in
+      let stream : chain_value width 0 sum (number_value is_output) (stream_value width 0 sum (number_value is_output) comes) (begins comes) stages ≡ chain_value width 0 sum (number_value is_output) 0 (begins comes) stages =
+      ap (λ (stream : ℕ). chain_value width 0 sum (number_value is_output) stream (begins comes) stages) (stream-output comes).1 in
+      let few = few-outputs (begins comes) stages in
+      omega (arith, count, whole, stream, few)

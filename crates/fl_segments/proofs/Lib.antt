@@ -2,9 +2,12 @@ pub mod RowLemmas
 pub mod DrawingLemmas
 pub mod MeaningLemmas
 pub mod FitLemmas
+pub mod ComingLemmas
 pub mod StageLemmas
 pub mod FoundLemmas
+pub mod SpreadLemmas
 pub mod OutcomeLemmas
 pub mod StatusLemmas
 pub mod ChainLemmas
 pub mod AddLemmas
+pub mod NotedLemmas

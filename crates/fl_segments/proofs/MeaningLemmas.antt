@@ -1,9 +1,11 @@
--- What a graph that is made node by node leaves: each node's text is had from those before it.
-use Rattle.std.proofs.Common.{◌≡◌, ℕ, ◌+◌, ◌<◌, ◌==◌, List, [], ◌∷◌, ◌++◌, Bool, true, false, Option, Some, None, is_some, if◌then◌else◌, get_or, length, map, nat_lt, refl, ap, sym, subst, ◌∙◌, append-nil, append_assoc, length-append, arith, eq-eqb}
-use Rattle.std.specs.List.{list_all, cons_option}
-use Rattle.std.proofs.lemmas.Bool.{true≢false, and_parts, eqb-true, ltb-true}
+-- What a graph that is made node by node leaves: each node's texts are had from those before it.
+use Rattle.std.proofs.Common.{◌≡◌, ℕ, zero, suc, ◌+◌, ◌-◌, ◌<◌, ◌==◌, List, [], ◌∷◌, ◌++◌, Bool, true, false, ◌&&◌, Option, Some, None, is_some, if◌then◌else◌, get_or, length, map, nat_le, nat_lt, replicate, refl, ap, sym, subst, ◌∙◌, append-nil, append_assoc, length-append, arith, eq-eqb}
+use Rattle.std.specs.List.{list_all, cons_option, range_with_len}
+use Rattle.std.proofs.lemmas.Bool.{true≢false, and_parts, eqb-true, ltb-true, lt-ltb, ne_eqb}
+use Rattle.std.proofs.lemmas.List.FromFn.{length-range_with_len}
 use Rattle.ps_world.specs.Paths.{Components}
-use Rattle.fl_graph.specs.Net.{run, step, store}
+use Rattle.fl_graph.specs.Net.{run, step as node_step, store}
+use Rattle.fl_graph.specs.Kinds.{may_have}
 use Rattle.fl_graph.specs.declared.graphs.Cell.{Cell}
 use Rattle.fl_graph.specs.declared.kinds.NodeKind.{NodeKind}
 use Rattle.fl_graph.specs.declared.kinds.NodeKind.TheVariants as kind
@@ -12,9 +14,10 @@ use Rattle.fl_graph.proofs.ListLemmas.{holds-has}
 use Rattle.fl_graph.proofs.NetLemmas.{values-agree}
 use Rattle.fl_classes.specs.Flow.{Placed, equation, is_source, no_texts, only, placed_from, texts_given}
 use Rattle.fl_classes.specs.Sources.{source_texts, text_read}
-use Rattle.fl_segments.specs.Inner.Drawing.{Step, gives_one, outs_of, next_of, drawn}
-use Rattle.fl_segments.proofs.DrawingLemmas.{AreBelow}
-use Rattle.fl_segments.proofs.RowLemmas.{get-front, get-here}
+use Rattle.fl_classes.proofs.PartLemmas.{parts_of-count}
+use Rattle.fl_segments.specs.Inner.Drawing.{Step, behind, drawn, next_of, outs_of}
+use Rattle.fl_segments.proofs.DrawingLemmas.{AreBelow, fits_ports, next-is}
+use Rattle.fl_segments.proofs.RowLemmas.{get-behind, get-front}
 
 -- the text on an edge, where these are on the edges in order
 abbrev pub text_at : List (List ℕ) → ℕ → List ℕ
@@ -23,25 +26,88 @@ text_at texts edge = get_or texts edge []
 abbrev pub ins_texts : List (List ℕ) → Step → List (List ℕ)
 ins_texts texts it = map (text_at texts) it.ins
 
--- no split: each gives one text at most
-abbrev pub is_single : NodeKind → Bool
-is_single kind.Split = false
-is_single other = true
-
 abbrev pub option_texts : Option (List ℕ) → List (List ℕ)
 option_texts None = []
 option_texts (Some text) = text ∷ []
 
+-- so many texts: those that lack are empty
+abbrev pub fitted : ℕ → List (List ℕ) → List (List ℕ)
+fitted zero texts = []
+fitted (suc count) [] = [] ∷ fitted count []
+fitted (suc count) (text ∷ texts) = text ∷ fitted count texts
+
+-- texts behind others
+abbrev pub put_behind : List (List ℕ) → List (List ℕ) → List (List ℕ)
+put_behind texts [] = texts
+put_behind texts (text ∷ more) = texts ++ text ∷ more
+
+pub fitted-count : (count : ℕ) (texts : List (List ℕ)) → length (fitted count texts) ≡ count
+fitted-count zero texts = refl
+fitted-count (suc count) [] = ap suc (fitted-count count [])
+fitted-count (suc count) (text ∷ texts) = ap suc (fitted-count count texts)
+
+pub fitted-same : (count : ℕ) (texts : List (List ℕ)) → length texts ≡ count → fitted count texts ≡ texts
+fitted-same zero [] is = refl
+fitted-same zero (text ∷ texts) is = absurd (omega (arith, is))
+fitted-same (suc count) [] is = absurd (omega (arith, is))
+fitted-same (suc count) (text ∷ texts) is = ap (λ (rest : List (List ℕ)). text ∷ rest) (fitted-same count texts (omega (arith, is)))
+
+pub put-is : (texts more : List (List ℕ)) → put_behind texts more ≡ texts ++ more
+put-is texts [] = sym (append-nil texts)
+put-is texts (text ∷ more) = refl
+
+pub put-count : (texts more : List (List ℕ)) → length (put_behind texts more) ≡ length texts + length more
+put-count texts more = ap length (put-is texts more) ∙ length-append texts more
+
+pub put-front : (texts more : List (List ℕ)) (edge : ℕ) → edge < length texts → text_at (put_behind texts more) edge ≡ text_at texts edge
+put-front texts more edge below = ap (λ (all : List (List ℕ)). text_at all edge) (put-is texts more) ∙ get-front texts more edge [] below
+
+abbrev pub Agrees : (ℕ → List ℕ) → List (List ℕ) → Type 0
+Agrees values texts = (edge : ℕ) → edge < length texts → values edge ≡ text_at texts edge
+
+-- the texts of edges in a row are stored
+store-below : (start : ℕ) (new : List (List ℕ)) (values : ℕ → List ℕ) (edge : ℕ) → edge < start → store (range_with_len start (length new)) new values edge ≡ values edge
+store-below start [] values edge below = refl
+store-below start (text ∷ new) values edge below =
+    ap (λ (here : Bool). if here then text else store (range_with_len (start + 1) (length new)) new values edge) (ne_eqb start edge (λ same. omega (arith, below, same)))
+    ∙ store-below (start + 1) new values edge (omega (arith, below))
+
+store-at : (start : ℕ) (new : List (List ℕ)) (values : ℕ → List ℕ) (place : ℕ) → place < length new → store (range_with_len start (length new)) new values (start + place) ≡ text_at new place
+store-at start [] values place below = absurd (omega (arith, below))
+store-at start (text ∷ new) values zero below =
+    ap (λ (here : Bool). if here then text else store (range_with_len (start + 1) (length new)) new values (start + 0)) (eq-eqb start (start + 0) (omega arith))
+store-at start (text ∷ new) values (suc place) below =
+    let on : start + suc place ≡ (start + 1) + place = omega arith in
+    ap (λ (here : Bool). if here then text else store (range_with_len (start + 1) (length new)) new values (start + suc place)) (ne_eqb start (start + suc place) (λ same. omega (arith, same)))
+    ∙ ap (store (range_with_len (start + 1) (length new)) new values) on
+    ∙ store-at (start + 1) new values place (omega (arith, below))
+
+store-row : (texts new : List (List ℕ)) (values : ℕ → List ℕ) → Agrees values texts → Agrees (store (range_with_len (length texts) (length new)) new values) (put_behind texts new)
+store-row texts new values agrees edge within = by_test (nat_lt edge (length texts)) refl
+  where
+    by_test : (less : Bool) → nat_lt edge (length texts) ≡ less → store (range_with_len (length texts) (length new)) new values edge ≡ text_at (put_behind texts new) edge
+    by_test true less =
+        let below : edge < length texts = ltb-true edge (length texts) less in
+        store-below (length texts) new values edge below ∙ agrees edge below ∙ sym (put-front texts new edge below)
+    by_test false less =
+        let past : edge < length texts → ⊥ = λ below. true≢false (sym (lt-ltb edge (length texts) below) ∙ less) in
+        let size = put-count texts new in
+        let place : ℕ = edge - length texts in
+        let there : edge ≡ length texts + place = omega (arith, past) in
+        let below : place < length new = omega (arith, past, within, size) in
+        ap (store (range_with_len (length texts) (length new)) new values) there ∙ store-at (length texts) new values place below
+        ∙ sym (ap (text_at (put_behind texts new)) there ∙ ap (λ (all : List (List ℕ)). text_at all (length texts + place)) (put-is texts new) ∙ get-behind texts new place [])
+
 module _ (input : List ℕ) (files : Components → List ℕ) where
-  -- the text that a node gives
-  abbrev pub text_given : NodeKind → List (List ℕ) → List ℕ
-  text_given (kind.Source from.Input) ins = input
-  text_given (kind.Source (from.File path)) ins = files path
-  text_given other ins = only (texts_given [] 0 other 1 ins)
+  -- the texts that a node gives
+  abbrev pub given_texts : NodeKind → ℕ → List (List ℕ) → List (List ℕ)
+  given_texts (kind.Source from.Input) outs ins = input ∷ []
+  given_texts (kind.Source (from.File path)) outs ins = files path ∷ []
+  given_texts other outs ins = texts_given [] 0 other outs ins
 
   -- the texts behind a node, and behind all
   abbrev pub texts_on : List (List ℕ) → Step → List (List ℕ)
-  texts_on texts it = if gives_one it.kind then texts ++ text_given it.kind (ins_texts texts it) ∷ [] else texts
+  texts_on texts it = put_behind texts (fitted it.outs (given_texts it.kind it.outs (ins_texts texts it)))
 
   abbrev pub texts_behind : List (List ℕ) → List Step → List (List ℕ)
   texts_behind texts [] = texts
@@ -51,22 +117,25 @@ module _ (input : List ℕ) (files : Components → List ℕ) where
   texts-append texts [] back = refl
   texts-append texts (it ∷ front) back = texts-append (texts_on texts it) front back
 
+  on-count : (texts : List (List ℕ)) (it : Step) → length (texts_on texts it) ≡ next_of it.outs (length texts)
+  on-count texts it =
+      put-count texts (fitted it.outs (given_texts it.kind it.outs (ins_texts texts it)))
+      ∙ ap (λ (count : ℕ). length texts + count) (fitted-count it.outs (given_texts it.kind it.outs (ins_texts texts it)))
+      ∙ sym (next-is it.outs (length texts))
+
+  -- where each edge's text stands
+  pub texts-count : (texts : List (List ℕ)) (steps : List Step) → length (texts_behind texts steps) ≡ behind (length texts) steps
+  texts-count texts [] = refl
+  texts-count texts (it ∷ steps) = texts-count (texts_on texts it) steps ∙ ap (λ (from : ℕ). behind from steps) (on-count texts it)
+
   -- a text that is on an edge stays there
-  one-keeps : (texts : List (List ℕ)) (it : Step) (edge : ℕ) → edge < length texts → (edge < length (texts_on texts it)) × (text_at (texts_on texts it) edge ≡ text_at texts edge)
-  one-keeps texts it edge below = by_one (gives_one it.kind)
-    where
-      new : List ℕ
-      new = text_given it.kind (ins_texts texts it)
-
-      by_one : (one : Bool) → (edge < length (if one then texts ++ new ∷ [] else texts)) × (text_at (if one then texts ++ new ∷ [] else texts) edge ≡ text_at texts edge)
-      by_one true = (let size = length-append texts (new ∷ []) in omega (arith, below, size), get-front texts (new ∷ []) edge [] below)
-      by_one false = (below, refl)
-
   pub keeps-text : (texts : List (List ℕ)) (steps : List Step) (edge : ℕ) → edge < length texts → text_at (texts_behind texts steps) edge ≡ text_at texts edge
   keeps-text texts [] edge below = refl
   keeps-text texts (it ∷ steps) edge below =
-      let here = one-keeps texts it edge below in
-      keeps-text (texts_on texts it) steps edge here.0 ∙ here.1
+      let size = on-count texts it in
+      let more = next-is it.outs (length texts) in
+      keeps-text (texts_on texts it) steps edge (omega (arith, below, size, more))
+      ∙ put-front texts (fitted it.outs (given_texts it.kind it.outs (ins_texts texts it))) edge below
 
   reads-text : (it : NodeKind) → is_source it ≡ is_some (text_read input files it)
   reads-text (kind.Source (from.File path)) = refl
@@ -74,20 +143,41 @@ module _ (input : List ℕ) (files : Components → List ℕ) where
   reads-text other = refl
 
   -- the source's text is the one by its number
-  gives-text : (it : NodeKind) (front rest : List (List ℕ)) (ins : List (List ℕ)) → gives_one it ≡ true → is_single it ≡ true
-      → texts_given (front ++ cons_option (text_read input files it) rest) (length front) it 1 ins ≡ text_given it ins ∷ []
-  gives-text (kind.Source from.Input) front rest ins gives single = ap (λ (text : List ℕ). text ∷ []) (get-here front rest input [])
-  gives-text (kind.Source (from.File path)) front rest ins gives single = ap (λ (text : List ℕ). text ∷ []) (get-here front rest (files path) [])
-  gives-text kind.Split front rest ins gives single = absurd (true≢false (sym single))
-  gives-text kind.Drain front rest ins gives single = absurd (true≢false (sym gives))
-  gives-text (kind.Sink sink) front rest ins gives single = absurd (true≢false (sym gives))
-  gives-text (kind.Text text) front rest ins gives single = refl
-  gives-text (kind.Map inv) front rest ins gives single = refl
-  gives-text (kind.Whole inv) front rest ins gives single = refl
-  gives-text (kind.Cat close) front rest ins gives single = refl
-  gives-text (kind.Agg inv) front rest ins gives single = refl
-  gives-text (kind.Finish inv) front rest ins gives single = refl
-  gives-text (kind.TeeFile path mode) front rest ins gives single = refl
+  gives-texts : (it : NodeKind) (front rest : List (List ℕ)) (outs : ℕ) (ins : List (List ℕ))
+      → texts_given (front ++ cons_option (text_read input files it) rest) (length front) it outs ins ≡ given_texts it outs ins
+  gives-texts (kind.Source from.Input) front rest outs ins = ap (λ (text : List ℕ). text ∷ []) (get-here front rest input)
+    where
+      get-here : (front rest : List (List ℕ)) (text : List ℕ) → get_or (front ++ text ∷ rest) (length front) [] ≡ text
+      get-here [] rest text = refl
+      get-here (first ∷ front) rest text = get-here front rest text
+  gives-texts (kind.Source (from.File path)) front rest outs ins = ap (λ (text : List ℕ). text ∷ []) (get-here front rest (files path))
+    where
+      get-here : (front rest : List (List ℕ)) (text : List ℕ) → get_or (front ++ text ∷ rest) (length front) [] ≡ text
+      get-here [] rest text = refl
+      get-here (first ∷ front) rest text = get-here front rest text
+  gives-texts other front rest outs ins = refl
+
+  -- as many as its ports
+  one-text : (outs : ℕ) (text : List ℕ) (before : Bool) → (before && (outs == 1)) ≡ true → length (text ∷ []) ≡ outs
+  one-text outs text before is = sym (eqb-true outs 1 (and_parts before (outs == 1) is).1)
+
+  replicate-count : (count : ℕ) (text : List ℕ) → length (replicate count text) ≡ count
+  replicate-count zero text = refl
+  replicate-count (suc count) text = ap suc (replicate-count count text)
+
+  given-count : (it : NodeKind) (count outs : ℕ) (ins : List (List ℕ)) → may_have it count outs ≡ true → length (given_texts it outs ins) ≡ outs
+  given-count (kind.Source from.Input) count outs ins is = one-text outs input (count == 0) is
+  given-count (kind.Source (from.File path)) count outs ins is = one-text outs (files path) (count == 0) is
+  given-count (kind.Text text) count outs ins is = one-text outs text (count == 0) is
+  given-count kind.Split count outs ins is = parts_of-count (only ins) outs
+  given-count (kind.Map inv) count outs ins is = one-text outs [] (count == 1) is
+  given-count (kind.Whole inv) count outs ins is = one-text outs [] _ is
+  given-count (kind.Cat close) count outs ins is = one-text outs [] (nat_le 1 count) is
+  given-count (kind.Agg inv) count outs ins is = one-text outs [] (nat_le 2 count) is
+  given-count (kind.Finish inv) count outs ins is = one-text outs [] (count == 1) is
+  given-count (kind.TeeFile path mode) count outs ins is = replicate-count outs (only ins)
+  given-count kind.Drain count outs ins is = sym (eqb-true outs 0 (and_parts (count == 1) (outs == 0) is).1)
+  given-count (kind.Sink sink) count outs ins is = sym (eqb-true outs 0 (and_parts (count == 1) (outs == 0) is).1)
 
   -- what nodes tell of their ins
   module _ {Told : Type 0} (tell : NodeKind → List (List ℕ) → List Told) where
@@ -104,19 +194,34 @@ module _ (input : List ℕ) (files : Components → List ℕ) where
     abbrev tell_placed : Placed → List (List ℕ) → List Told
     tell_placed node ins = tell node.1 ins
 
-    abbrev pub Agrees : (ℕ → List ℕ) → List (List ℕ) → Type 0
-    Agrees values texts = (edge : ℕ) → edge < length texts → values edge ≡ text_at texts edge
-
     -- where the texts on the edges so far are known
-    told-drawn : (front texts : List (List ℕ)) (steps : List Step) (values : ℕ → List ℕ) → AreBelow (length texts) steps → list_all (λ (it : Step). is_single it.kind) steps ≡ true → Agrees values texts
+    told-drawn : (front texts : List (List ℕ)) (steps : List Step) (values : ℕ → List ℕ) → AreBelow (length texts) steps → list_all fits_ports steps ≡ true → Agrees values texts
         → run (equation (front ++ source_texts (drawn (length texts) steps) input files)) tell_placed (placed_from (length front) (drawn (length texts) steps)) values ≡ told_from texts steps
-    told-drawn front texts [] values below single agrees = refl
-    told-drawn front texts (it ∷ steps) values below single agrees =
-        by_one (gives_one it.kind) refl (λ front texts values. told-drawn front texts steps values)
+    told-drawn front texts [] values below fit agrees = refl
+    told-drawn front texts (it ∷ steps) values below fit agrees =
+        let parts = and_parts (fits_ports it) (list_all fits_ports steps) fit in
+        let given : List (List ℕ) = given_texts it.kind it.outs (ins_texts texts it) in
+        let new : List (List ℕ) = fitted it.outs given in
+        let all : List (List ℕ) = texts_on texts it in
+        let next : next_of it.outs (length texts) ≡ length all = sym (on-count texts it) in
+        let cells : List (Cell NodeKind) = drawn (next_of it.outs (length texts)) steps in
+        let sources : List (List ℕ) = front ++ cons_option (text_read input files it.kind) (source_texts cells input files) in
+        let row : List ℕ = outs_of it.outs (length texts) in
+        let stored : ℕ → List ℕ = node_step (equation sources) (record { kind = (length front, it.kind); ins = it.ins; outs = row; stage = it.stage }) values in
+        let put : (edge : ℕ) → stored edge ≡ store (range_with_len (length texts) (length new)) new values edge = λ edge.
+        ap (λ (count : ℕ). store row (texts_given sources (length front) it.kind count (map values it.ins)) values edge) (length-range_with_len (length texts) it.outs)
+        ∙ ap (λ (ins : List (List ℕ)). store row (texts_given sources (length front) it.kind it.outs ins) values edge) same_ins
+        ∙ ap (λ (texts : List (List ℕ)). store row texts values edge)
+        (gives-texts it.kind front (source_texts cells input files) it.outs (ins_texts texts it)
+        ∙ sym (fitted-same it.outs given (given-count it.kind (length it.ins) it.outs (ins_texts texts it) parts.0)))
+        ∙ ap (λ (count : ℕ). store (range_with_len (length texts) count) new values edge) (sym (fitted-count it.outs given)) in
+        let agree : Agrees stored all = λ edge within. put edge ∙ store-row texts new values agrees edge within in
+        ap (λ (ins : List (List ℕ)). tell it.kind ins ++ run (equation sources) tell_placed (placed_from (if is_source it.kind then length front + 1 else length front) cells) stored) same_ins
+        ∙ ap (λ (rest : List Told). tell it.kind (ins_texts texts it) ++ rest)
+        (behind_front cells stored (told_from (texts_on texts it) steps)
+        (ap (λ (from : ℕ). run (equation ((front ++ option_texts (text_read input files it.kind)) ++ source_texts (drawn from steps) input files)) tell_placed (placed_from (length (front ++ option_texts (text_read input files it.kind))) (drawn from steps)) stored) next
+        ∙ told-drawn (front ++ option_texts (text_read input files it.kind)) all steps stored (subst (λ (from : ℕ). AreBelow from steps) next below.1) parts.1 agree))
       where
-        single_parts : (is_single it.kind ≡ true) × (list_all (λ (it : Step). is_single it.kind) steps ≡ true)
-        single_parts = and_parts (is_single it.kind) (list_all (λ (it : Step). is_single it.kind) steps) single
-
         same_ins : map values it.ins ≡ ins_texts texts it
         same_ins = values-agree it.ins values (text_at texts) (λ edge there. agrees edge (ltb-true edge (length texts) (holds-has (λ edge. nat_lt edge (length texts)) edge it.ins below.0 there)))
 
@@ -138,60 +243,6 @@ module _ (input : List ℕ) (files : Components → List ℕ) where
                 ∙ ap (λ (number : ℕ). run (equation ((front ++ text ∷ []) ++ source_texts cells input files)) tell_placed (placed_from number cells) values) (sym (length-append front (text ∷ [])))
                 ∙ is
 
-        by_one : (one : Bool) → gives_one it.kind ≡ one
-            → ((front texts : List (List ℕ)) (values : ℕ → List ℕ) → AreBelow (length texts) steps → list_all (λ (it : Step). is_single it.kind) steps ≡ true → Agrees values texts
-            → run (equation (front ++ source_texts (drawn (length texts) steps) input files)) tell_placed (placed_from (length front) (drawn (length texts) steps)) values ≡ told_from texts steps)
-            → run (equation (front ++ source_texts (drawn (length texts) (it ∷ steps)) input files)) tell_placed (placed_from (length front) (drawn (length texts) (it ∷ steps))) values ≡ told_from texts (it ∷ steps)
-        by_one true one again =
-            let new : List ℕ = text_given it.kind (ins_texts texts it) in
-            let all : List (List ℕ) = texts ++ new ∷ [] in
-            let size : length all ≡ length texts + 1 = length-append texts (new ∷ []) in
-            let next : next_of it.kind (length texts) ≡ length all = ap (λ (gives : Bool). if gives then length texts + 1 else length texts) one ∙ sym size in
-            let outs : outs_of it.kind (length texts) ≡ length texts ∷ [] = ap (λ (gives : Bool). if gives then length texts ∷ [] else []) one in
-            let on : texts_on texts it ≡ all = ap (λ (gives : Bool). if gives then texts ++ new ∷ [] else texts) one in
-            let cells : List (Cell NodeKind) = drawn (next_of it.kind (length texts)) steps in
-            let sources : List (List ℕ) = front ++ cons_option (text_read input files it.kind) (source_texts cells input files) in
-            let stored : ℕ → List ℕ = step (equation sources) (record { kind = (length front, it.kind); ins = it.ins; outs = outs_of it.kind (length texts); stage = it.stage }) values in
-            let put : (edge : ℕ) → stored edge ≡ (if length texts == edge then new else values edge) = λ edge.
-            ap (λ (edges : List ℕ). store edges (texts_given sources (length front) it.kind (length edges) (map values it.ins)) values edge) outs
-            ∙ ap (λ (ins : List (List ℕ)). store (length texts ∷ []) (texts_given sources (length front) it.kind 1 ins) values edge) same_ins
-            ∙ ap (λ (given : List (List ℕ)). store (length texts ∷ []) given values edge) (gives-text it.kind front (source_texts cells input files) (ins_texts texts it) one single_parts.0) in
-            let agree : Agrees stored all = λ edge within. put edge ∙ at_edge texts new values agrees edge (omega (arith, within, size)) in
-            ap (λ (ins : List (List ℕ)). tell it.kind ins ++ run (equation sources) tell_placed (placed_from (if is_source it.kind then length front + 1 else length front) cells) stored) same_ins
-            ∙ ap (λ (rest : List Told). tell it.kind (ins_texts texts it) ++ rest)
-            (behind_front cells stored (told_from (texts_on texts it) steps)
-            (ap (λ (from : ℕ). run (equation ((front ++ option_texts (text_read input files it.kind)) ++ source_texts (drawn from steps) input files)) tell_placed (placed_from (length (front ++ option_texts (text_read input files it.kind))) (drawn from steps)) stored) next
-            ∙ again (front ++ option_texts (text_read input files it.kind)) all stored (subst (λ (from : ℕ). AreBelow from steps) next below.1) single_parts.1 agree
-            ∙ ap (λ (now : List (List ℕ)). told_from now steps) (sym on)))
-          where
-            at_edge : (texts : List (List ℕ)) (new : List ℕ) (values : ℕ → List ℕ) → Agrees values texts → (edge : ℕ) → edge < length texts + 1
-                → (if length texts == edge then new else values edge) ≡ text_at (texts ++ new ∷ []) edge
-            at_edge texts new values agrees edge within = by_last (length texts == edge) refl
-              where
-                by_last : (last : Bool) → (length texts == edge) ≡ last → (if last then new else values edge) ≡ text_at (texts ++ new ∷ []) edge
-                by_last true last =
-                    let same = eqb-true (length texts) edge last in
-                    sym (get-here texts [] new []) ∙ ap (text_at (texts ++ new ∷ [])) same
-                by_last false last =
-                    let other : length texts ≡ edge → ⊥ = λ same. true≢false (sym (eq-eqb (length texts) edge same) ∙ last) in
-                    let less : edge < length texts = omega (arith, within, other) in
-                    agrees edge less ∙ sym (get-front texts (new ∷ []) edge [] less)
-        by_one false one again =
-            let next : next_of it.kind (length texts) ≡ length texts = ap (λ (gives : Bool). if gives then length texts + 1 else length texts) one in
-            let outs : outs_of it.kind (length texts) ≡ [] = ap (λ (gives : Bool). if gives then length texts ∷ [] else []) one in
-            let on : texts_on texts it ≡ texts = ap (λ (gives : Bool). if gives then texts ++ text_given it.kind (ins_texts texts it) ∷ [] else texts) one in
-            let cells : List (Cell NodeKind) = drawn (next_of it.kind (length texts)) steps in
-            let sources : List (List ℕ) = front ++ cons_option (text_read input files it.kind) (source_texts cells input files) in
-            let stored : ℕ → List ℕ = step (equation sources) (record { kind = (length front, it.kind); ins = it.ins; outs = outs_of it.kind (length texts); stage = it.stage }) values in
-            let put : (edge : ℕ) → stored edge ≡ values edge = λ edge.
-            ap (λ (edges : List ℕ). store edges (texts_given sources (length front) it.kind (length edges) (map values it.ins)) values edge) outs in
-            ap (λ (ins : List (List ℕ)). tell it.kind ins ++ run (equation sources) tell_placed (placed_from (if is_source it.kind then length front + 1 else length front) cells) stored) same_ins
-            ∙ ap (λ (rest : List Told). tell it.kind (ins_texts texts it) ++ rest)
-            (behind_front cells stored (told_from (texts_on texts it) steps)
-            (ap (λ (from : ℕ). run (equation ((front ++ option_texts (text_read input files it.kind)) ++ source_texts (drawn from steps) input files)) tell_placed (placed_from (length (front ++ option_texts (text_read input files it.kind))) (drawn from steps)) stored) next
-            ∙ again (front ++ option_texts (text_read input files it.kind)) texts stored (subst (λ (from : ℕ). AreBelow from steps) next below.1) single_parts.1 (λ edge within. put edge ∙ agrees edge within)
-            ∙ ap (λ (now : List (List ℕ)). told_from now steps) (sym on)))
-
-    pub told-all : (steps : List Step) → AreBelow 0 steps → list_all (λ (it : Step). is_single it.kind) steps ≡ true
+    pub told-all : (steps : List Step) → AreBelow 0 steps → list_all fits_ports steps ≡ true
         → run (equation (source_texts (drawn 0 steps) input files)) tell_placed (placed_from 0 (drawn 0 steps)) no_texts ≡ told_from [] steps
-    told-all steps below single = told-drawn [] [] steps no_texts below single (λ edge within. absurd (omega (arith, within)))
+    told-all steps below fit = told-drawn [] [] steps no_texts below fit (λ edge within. absurd (omega (arith, within)))

@@ -1,5 +1,5 @@
 -- Numbers in a row.
-use Rattle.std.proofs.Common.{◌≡◌, ℕ, zero, suc, ◌+◌, ◌<◌, ◌≤◌, ◌==◌, List, [], ◌∷◌, ◌++◌, Bool, true, false, ◌||◌, if◌then◌else◌, get_or, length, refl, ap, sym, ◌∙◌, arith, eq-eqb}
+use Rattle.std.proofs.Common.{◌≡◌, ℕ, zero, suc, ◌+◌, ◌<◌, ◌≤◌, ◌==◌, List, [], ◌∷◌, ◌++◌, Bool, true, false, ◌||◌, if◌then◌else◌, get_or, length, map, refl, ap, sym, ◌∙◌, append_assoc, length-append, arith, eq-eqb}
 use Rattle.std.specs.List.{range_with_len}
 use Rattle.std.proofs.lemmas.Bool.{true≢false, eqb-true, ne_eqb}
 use Rattle.fl_graph.specs.Net.{has, count}
@@ -14,6 +14,28 @@ get-front [] rest place spare below = absurd (omega (arith, below))
 get-front (first ∷ front) rest zero spare below = refl
 get-front (first ∷ front) rest (suc place) spare below = get-front front rest place spare (omega (arith, below))
 
+pub get-behind : {Value : Type 0} (front rest : List Value) (place : ℕ) (spare : Value) → get_or (front ++ rest) (length front + place) spare ≡ get_or rest place spare
+get-behind [] rest place spare = let none : 0 + place ≡ place = omega arith in ap (λ (at : ℕ). get_or rest at spare) none
+get-behind (first ∷ front) rest place spare =
+    let on : suc (length front) + place ≡ suc (length front + place) = omega arith in
+    ap (λ (at : ℕ). get_or (first ∷ (front ++ rest)) at spare) on ∙ get-behind front rest place spare
+
+pub map-both : {One Other : Type 0} (f : One → Other) (front back : List One) → map f (front ++ back) ≡ map f front ++ map f back
+map-both f [] back = refl
+map-both f (first ∷ front) back = ap (λ rest. f first ∷ rest) (map-both f front back)
+
+-- the values of a row that stands behind others
+pub row-texts : {Value : Type 0} (front new : List Value) (spare : Value) → map (λ at. get_or (front ++ new) at spare) (range_with_len (length front) (length new)) ≡ new
+row-texts front [] spare = refl
+row-texts {Value} front (value ∷ new) spare =
+    let all : (front ++ value ∷ []) ++ new ≡ front ++ value ∷ new = append_assoc front (value ∷ []) new in
+    let size : length (front ++ value ∷ []) ≡ length front + 1 = length-append front (value ∷ []) in
+    ap (λ (first : Value). first ∷ map (λ at. get_or (front ++ value ∷ new) at spare) (range_with_len (length front + 1) (length new))) (get-here front new value spare)
+    ∙ ap (λ (rest : List Value). value ∷ rest)
+    (ap (λ (whole : List Value). map (λ at. get_or whole at spare) (range_with_len (length front + 1) (length new))) (sym all)
+    ∙ ap (λ (from : ℕ). map (λ at. get_or ((front ++ value ∷ []) ++ new) at spare) (range_with_len from (length new))) (sym size)
+    ∙ row-texts (front ++ value ∷ []) new spare)
+
 -- two rows, one behind the other, are one
 pub range-append : (start front back : ℕ) → range_with_len start front ++ range_with_len (start + front) back ≡ range_with_len start (front + back)
 range-append start zero back =
@@ -21,6 +43,11 @@ range-append start zero back =
 range-append start (suc front) back =
     let on : start + suc front ≡ (start + 1) + front = omega arith in let all : suc front + back ≡ suc (front + back) = omega arith in
     rw on (rw all (ap (λ rest. start ∷ rest) (range-append (start + 1) front back)))
+
+-- a row grows at its end
+pub row_more : (old new : List ℕ) (from done number : ℕ) → old ≡ range_with_len from done → number ≡ from + done → new ≡ old ++ number ∷ [] → new ≡ range_with_len from (done + 1)
+row_more old new from done number row next grown =
+    grown ∙ ap (λ (front : List ℕ). front ++ number ∷ []) row ∙ ap (λ (last : ℕ). range_with_len from done ++ last ∷ []) next ∙ range-append from done 1
 
 -- which numbers are in a row, and how often
 pub range-has : (start size edge : ℕ) → start ≤ edge → edge < start + size → has edge (range_with_len start size) ≡ true

@@ -1,24 +1,26 @@
 -- The nodes of stages: each takes edges that are given before, and each edge is taken once.
-use Rattle.std.proofs.Common.{◌≡◌, ℕ, ◌+◌, ◌<◌, ◌≤◌, List, [], ◌∷◌, ◌++◌, Bool, true, false, ◌&&◌, if◌then◌else◌, get_or, length, nat_lt, refl, ap, sym, subst, ◌∙◌, append-nil, arith}
+use Rattle.std.proofs.Common.{◌≡◌, ℕ, zero, suc, ◌+◌, ◌<◌, ◌≤◌, ◌==◌, List, [], ◌∷◌, ◌++◌, Bool, true, false, ◌&&◌, if◌then◌else◌, get_or, length, nat_le, nat_lt, refl, ap, sym, subst, ◌∙◌, append-nil, arith}
 use Rattle.std.specs.List.{count_by, flat_map, list_all, list_any, range_with_len}
-use Rattle.std.proofs.lemmas.Bool.{true≢false, and_from, and_parts, lt-ltb, ltb-true}
+use Rattle.std.proofs.lemmas.Bool.{true≢false, and_from, and_parts, eqb-true, leb-true, lt-ltb, ltb-true}
+use Rattle.std.proofs.lemmas.List.FromFn.{length-range_with_len}
 use Rattle.std.proofs.lemmas.Grind.{flat_map-append}
 use Rattle.std.proofs.lemmas.List.Folds.{list_all-append}
 use Rattle.std.proofs.lemmas.List.Sums.{sum_by-cons}
 use Rattle.ps_lines.specs.Lines.{is_empty}
+use Rattle.ut_args.specs.Classes.{class_of}
+use Rattle.ut_args.specs.Inputs.{inputs_of}
 use Rattle.ut_args.specs.declared.invocations.Inv.{Inv}
-use Rattle.ut_args.specs.declared.invocations.Inv.TheVariants as inv
 use Rattle.fl_graph.specs.Net.{count}
 use Rattle.fl_graph.specs.declared.kinds.NodeKind.TheVariants as kind
 use Rattle.fl_graph.specs.declared.kinds.From.TheVariants as from
 use Rattle.fl_graph.specs.declared.kinds.To.TheVariants as to
 use Rattle.fl_graph.proofs.ListLemmas.{count-append}
-use Rattle.fl_classes.specs.Used.{is_cat}
-use Rattle.fl_segments.specs.Stages.{closes_before, ins_of, ins_read, is_none, is_reader, is_stage, is_stream, joins_before}
-use Rattle.fl_segments.specs.Inner.Drawing.{Step, step, gives_one, behind}
-use Rattle.fl_segments.specs.Inner.Steps.{begins, chain_steps, comes_behind, comes_on, does_edge, does_steps, done_edge, done_next, done_steps, drain_steps, end_steps, earlier_steps, first_edge, first_steps, front_edges, front_next, front_steps, in_edge, in_edges, in_steps, input_steps, is_joined, is_leading_cat, join_steps, joined_edges, kind_first, kind_in, last_steps, main_edge, main_next, main_steps, on_steps, out_steps, piped_steps, read_edges, read_steps, stream_comes, stream_steps, util_edge, util_steps}
-use Rattle.fl_segments.specs.declared.inputs.Coming.{Coming}
-use Rattle.fl_segments.specs.declared.inputs.Coming.TheVariants as coming
+use Rattle.fl_segments.specs.Stages.{closes_before, ins_of, ins_read, is_none, is_reader, is_spread, is_stage, is_stream, may_spread}
+use Rattle.fl_segments.specs.Inner.Drawing.{Step, step, split_step, behind}
+use Rattle.fl_segments.specs.Inner.Steps.{begins, chain_steps, comes_behind, comes_cut, comes_on, does_parts, does_steps, done_next, done_parts, done_steps, drain_steps, each_ended, end_edge, end_next, end_steps, earlier_steps, first_parts, first_steps, front_edges, front_next, front_steps, goes_steps, hands_on, in_edges, in_steps, input_edges, input_steps, is_joined, is_leading_cat, join_steps, joined_edges, kind_first, kind_in, last_steps, main_next, main_parts, main_steps, map_steps, on_steps, out_steps, parts_on, piped_steps, read_edges, read_steps, split_edges, split_steps, spread_parts, spread_steps, stands, stream_comes, stream_steps, util_parts, util_steps, whole_edge, whole_steps}
+use Rattle.fl_segments.specs.declared.parts.Coming.{Coming}
+use Rattle.fl_segments.specs.declared.parts.Coming.TheVariants as coming
+use Rattle.fl_segments.specs.declared.parts.Parts.{Parts}
 use Rattle.fl_segments.specs.declared.stages.Does.{Does}
 use Rattle.fl_segments.specs.declared.stages.Does.TheVariants as does
 use Rattle.fl_segments.specs.declared.stages.First.{First}
@@ -28,7 +30,7 @@ use Rattle.fl_segments.specs.declared.stages.In.TheVariants as inlet
 use Rattle.fl_segments.specs.declared.stages.Out.{Out}
 use Rattle.fl_segments.specs.declared.stages.Out.TheVariants as out
 use Rattle.fl_segments.specs.declared.stages.Stage.{Stage}
-use Rattle.fl_segments.proofs.DrawingLemmas.{AreBelow, behind-append, behind-given, below-append, given, given-append, taken}
+use Rattle.fl_segments.proofs.DrawingLemmas.{AreBelow, behind-append, behind-given, below-append, given, given-append, next-is, taken}
 use Rattle.fl_segments.proofs.FitLemmas.{few-streams}
 use Rattle.fl_segments.proofs.RowLemmas.{range-append}
 
@@ -113,33 +115,34 @@ passes-none next edges = record { turns = λ edge. (omega arith); below = λ all
 pub below-one : (edge next : ℕ) → edge < next → AllBelow next (edge ∷ [])
 below-one edge next less = and_from (nat_lt edge next) true (lt-ltb edge next less) refl
 
-one-given : (it : Step) (one : Bool) → gives_one it.kind ≡ one → given (it ∷ []) ≡ (if one then 1 else 0)
-one-given it true is = ap (λ (gives : Bool). (if gives then 1 else 0) + 0) is
-one-given it false is = ap (λ (gives : Bool). (if gives then 1 else 0) + 0) is
+row-within : (start outs limit : ℕ) → start + outs ≤ limit → AllBelow limit (range_with_len start outs)
+row-within start zero limit within = refl
+row-within start (suc outs) limit within =
+    and_from (nat_lt start limit) (list_all (λ edge. nat_lt edge limit) (range_with_len (start + 1) outs)) (lt-ltb start limit (omega (arith, within)))
+    (row-within (start + 1) outs limit (omega (arith, within)))
 
-pub passes-gives : (next : ℕ) (it : Step) → gives_one it.kind ≡ true → Passes next (it ∷ []) it.ins (next ∷ [])
-passes-gives next it is = record {
+-- it takes its edges, and gives the next ones
+pub passes-step : (next : ℕ) (it : Step) → Passes next (it ∷ []) it.ins (range_with_len next it.outs)
+passes-step next it = record {
   turns = λ edge. (let takes : count edge (taken (it ∷ [])) ≡ count edge it.ins = ap (count edge) (append-nil it.ins) in
-      let gives : count edge (range_with_len next (given (it ∷ []))) ≡ count edge (next ∷ []) = ap (λ (size : ℕ). count edge (range_with_len next size)) (one-given it true is) in
+      let all : it.outs + 0 ≡ it.outs = omega arith in
+      let gives : count edge (range_with_len next (given (it ∷ []))) ≡ count edge (range_with_len next it.outs) = ap (λ (size : ℕ). count edge (range_with_len next size)) all in
       omega (arith, takes, gives));
   below = λ all. (all, tt);
-  within = λ all. subst (λ (gives : Bool). AllBelow (if gives then next + 1 else next) (next ∷ [])) (sym is) (below-one next (next + 1) (omega arith));
+  within = λ all. subst (λ (last : ℕ). AllBelow last (range_with_len next it.outs)) (sym (next-is it.outs next)) (row-within next it.outs (next + it.outs) (omega arith));
 }
 
-pub passes-ends : (next : ℕ) (it : Step) → gives_one it.kind ≡ false → Passes next (it ∷ []) it.ins []
-passes-ends next it is = record {
-  turns = λ edge. (let takes : count edge (taken (it ∷ [])) ≡ count edge it.ins = ap (count edge) (append-nil it.ins) in
-      let gives : count edge (range_with_len next (given (it ∷ []))) ≡ 0 = ap (λ (size : ℕ). count edge (range_with_len next size)) (one-given it false is) in
-      omega (arith, takes, gives));
-  below = λ all. (all, tt);
-  within = λ all. refl;
-}
+pub passes-gives : (next : ℕ) (it : Step) → it.outs ≡ 1 → Passes next (it ∷ []) it.ins (next ∷ [])
+passes-gives next it is = subst (λ (outs : ℕ). Passes next (it ∷ []) it.ins (range_with_len next outs)) is (passes-step next it)
+
+pub passes-ends : (next : ℕ) (it : Step) → it.outs ≡ 0 → Passes next (it ∷ []) it.ins []
+passes-ends next it is = subst (λ (outs : ℕ). Passes next (it ∷ []) it.ins (range_with_len next outs)) is (passes-step next it)
 
 -- THE INPUTS
--- the edge on which a stream comes
+-- the edges on which a stream comes
 abbrev pub open_coming : Coming → List ℕ
 open_coming (coming.Begins begin) = []
-open_coming (coming.On edge) = edge ∷ []
+open_coming (coming.On parts) = parts.edges
 open_coming coming.Nothing = []
 
 -- those that inputs take of it
@@ -151,13 +154,13 @@ open_in comes inlet.Empty = []
 abbrev pub open_ins : Coming → List In → List ℕ
 open_ins comes ins = flat_map (open_in comes) ins
 
-first-gives : (begin : First) → gives_one (kind_first begin) ≡ true
-first-gives first.Input = refl
-first-gives (first.Text text) = refl
-
-pub input-passes : (number : ℕ) (comes : Coming) (it : In) (next : ℕ) → Passes next (input_steps number (kind_in comes it)) (open_in comes it) (in_edge comes it next ∷ [])
-input-passes number (coming.Begins begin) inlet.Stream next = passes-gives next (step (kind_first begin.now) [] number) (first-gives begin.now)
-input-passes number (coming.On edge) inlet.Stream next = passes-none next (edge ∷ [])
+pub input-passes : (number : ℕ) (comes : Coming) (it : In) (next : ℕ) → Passes next (input_steps number (kind_in comes it)) (open_in comes it) (input_edges comes it next)
+input-passes number (coming.Begins begin) inlet.Stream next = by_first begin.now
+  where
+    by_first : (begin : First) → Passes next (step (kind_first begin) [] number ∷ []) [] (next ∷ [])
+    by_first first.Input = passes-gives next (step (kind.Source from.Input) [] number) refl
+    by_first (first.Text text) = passes-gives next (step (kind.Text text) [] number) refl
+input-passes number (coming.On parts) inlet.Stream next = passes-none next parts.edges
 input-passes number coming.Nothing inlet.Stream next = passes-gives next (step (kind.Text []) [] number) refl
 input-passes number comes (inlet.File path closed) next = passes-gives next (step (kind.Source (from.File path)) [] number) refl
 input-passes number comes inlet.Empty next = passes-gives next (step (kind.Text []) [] number) refl
@@ -166,7 +169,7 @@ in-passes : (number : ℕ) (comes : Coming) (ins : List In) (next : ℕ) → Pas
 in-passes number comes [] next = passes-none next []
 in-passes number comes (it ∷ ins) next =
     let here : List Step = input_steps number (kind_in comes it) in
-    passes-both next here (in_steps number comes ins) (open_in comes it) (in_edge comes it next ∷ []) (open_ins comes ins) (in_edges number comes ins (behind next here))
+    passes-both next here (in_steps number comes ins) (open_in comes it) (input_edges comes it next) (open_ins comes ins) (in_edges number comes ins (behind next here))
     (input-passes number comes it next) (in-passes number comes ins (behind next here))
 
 -- a stage that reads its stream does so once
@@ -199,12 +202,18 @@ one-opens comes (inlet.Empty ∷ ins) few some =
     let all : count_by is_stream (inlet.Empty ∷ ins) ≡ 0 + count_by is_stream ins = sum_by-cons (λ it. if is_stream it then 1 else 0) inlet.Empty ins in
     one-opens comes ins (omega (arith, all, few)) some
 
+each-ended-passes : (number : ℕ) (edges : List ℕ) (next : ℕ) → Passes next (each_ended number edges) edges []
+each-ended-passes number [] next = passes-none next []
+each-ended-passes number (edge ∷ edges) next =
+    passes-both next (step kind.Drain (edge ∷ []) number ∷ []) (each_ended number edges) (edge ∷ []) [] edges []
+    (passes-ends next (step kind.Drain (edge ∷ []) number) refl) (each-ended-passes number edges next)
+
 drain-passes : (number : ℕ) (comes : Coming) (ins : List In) (next : ℕ) → count_by is_stream ins ≤ 1 → Passes next (drain_steps number comes (list_any is_stream ins)) (open_coming comes) (open_ins comes ins)
 drain-passes number comes ins next few = by_test (list_any is_stream ins) refl
   where
     drained : (comes : Coming) → Passes next (end_steps number comes) (open_coming comes) []
     drained (coming.Begins begin) = passes-none next []
-    drained (coming.On edge) = passes-ends next (step kind.Drain (edge ∷ []) number) refl
+    drained (coming.On parts) = each-ended-passes number parts.edges next
     drained coming.Nothing = passes-none next []
 
     by_test : (reads : Bool) → list_any is_stream ins ≡ reads → Passes next (if reads then [] else end_steps number comes) (open_coming comes) (open_ins comes ins)
@@ -212,59 +221,121 @@ drain-passes number comes ins next few = by_test (list_any is_stream ins) refl
     by_test false is = subst (λ (after : List ℕ). Passes next (end_steps number comes) (open_coming comes) after) (sym (none-opens comes ins is)) (drained comes)
 
 -- WHAT JOINS THEM
-join-passes : (number : ℕ) (inv : Inv) (edges : List ℕ) (next : ℕ) → Passes next (join_steps number inv edges) edges (joined_edges inv edges next)
-join-passes number inv edges next = by_test (is_joined inv edges)
+join-passes : (number : ℕ) (leads : Bool) (inv : Inv) (ins : List In) (edges : List ℕ) (next : ℕ) → Passes next (join_steps number leads inv ins edges) edges (joined_edges leads inv ins edges next)
+join-passes number leads inv ins edges next = by_test (is_joined leads inv ins)
   where
     by_test : (joined : Bool) → Passes next (if joined then step (kind.Cat (closes_before inv)) edges number ∷ [] else []) edges (if joined then next ∷ [] else edges)
     by_test true = passes-gives next (step (kind.Cat (closes_before inv)) edges number) refl
     by_test false = passes-none next edges
 
--- cat takes one edge at most
-pub cat-joins : (inv : Inv) → is_cat inv ≡ true → joins_before inv ≡ true
-cat-joins (inv.Cat cat) is = refl
-cat-joins other is = absurd (true≢false (sym is))
+-- PARTS JOINED
+pub whole-passes : (number : ℕ) (edges : List ℕ) (next : ℕ) → 1 ≤ length edges → Passes next (whole_steps number edges) edges (whole_edge edges next ∷ [])
+whole-passes number [] next some = absurd (omega (arith, some))
+whole-passes number (edge ∷ []) next some = passes-none next (edge ∷ [])
+whole-passes number (edge ∷ other ∷ edges) next some =
+    let all : List ℕ = edge ∷ other ∷ edges in
+    subst (λ (many : Bool). Passes next (if many then step (kind.Cat false) all number ∷ [] else []) all ((if many then next else get_or all 0 next) ∷ []))
+    (sym (lt-ltb 1 (length all) (omega arith))) (passes-gives next (step (kind.Cat false) all number) refl)
 
-pub leads-cat : (leads : Bool) (inv : Inv) → is_leading_cat leads inv ≡ true → is_cat inv ≡ true
-leads-cat leads inv is = (and_parts (is_cat inv) leads is).0
-
-pub cat-one : (inv : Inv) (edges : List ℕ) (next : ℕ) → is_cat inv ≡ true → length (joined_edges inv edges next) ≤ 1
-cat-one inv edges next cat =
-    subst (λ (joins : Bool). length (if (joins && nat_lt 1 (length edges)) then next ∷ [] else edges) ≤ 1) (sym (cat-joins inv cat)) (by_length edges)
+-- A UTILITY THAT IS SPREAD
+pub split-passes : (width number : ℕ) (edges : List ℕ) (next : ℕ) → Passes next (split_steps width number edges) edges (split_edges width edges next)
+split-passes width number edges next = by_test (stands width edges)
   where
-    by_length : (edges : List ℕ) → length (if (nat_lt 1 (length edges)) then next ∷ [] else edges) ≤ 1
-    by_length [] = omega arith
-    by_length (edge ∷ []) = omega arith
-    by_length (edge ∷ other ∷ edges) =
-        let many : nat_lt 1 (length (edge ∷ other ∷ edges)) ≡ true = lt-ltb 1 (length (edge ∷ other ∷ edges)) (omega arith) in
-        subst (λ (joined : Bool). length (if joined then next ∷ [] else edge ∷ other ∷ edges) ≤ 1) (sym many) (omega arith)
+    by_test : (stand : Bool) → Passes next (if stand then [] else split_step edges width number ∷ []) edges (if stand then edges else range_with_len next width)
+    by_test true = passes-none next edges
+    by_test false = passes-step next (split_step edges width number)
+
+pub split-count : (width : ℕ) (edges : List ℕ) (next : ℕ) → length (split_edges width edges next) ≡ width
+split-count width edges next = by_test (stands width edges) refl
+  where
+    by_test : (stand : Bool) → stands width edges ≡ stand → length (if stand then edges else range_with_len next width) ≡ width
+    by_test true is = eqb-true (length edges) width is
+    by_test false is = length-range_with_len next width
+
+maps-passes : (number : ℕ) (inv : Inv) (edges : List ℕ) (next : ℕ) → Passes next (map_steps number inv edges) edges (range_with_len next (length edges))
+maps-passes number inv [] next = passes-none next []
+maps-passes number inv (edge ∷ edges) next =
+    passes-both next (step (kind.Map inv) (edge ∷ []) number ∷ []) (map_steps number inv edges) (edge ∷ []) (next ∷ []) edges (range_with_len (next + 1) (length edges))
+    (passes-gives next (step (kind.Map inv) (edge ∷ []) number) refl) (maps-passes number inv edges (next + 1))
+
+spread-passes : (width number : ℕ) (inv : Inv) (parts : Parts) (next : ℕ) → Passes next (spread_steps width number inv parts.edges next) parts.edges (spread_parts width number inv parts next).edges
+spread-passes width number inv parts next =
+    let split : List Step = split_steps width number parts.edges in
+    let edges : List ℕ = split_edges width parts.edges next in
+    let on : ℕ = behind next split in
+    passes-append next split (map_steps number inv edges) parts.edges edges (range_with_len on width) (split-passes width number parts.edges next)
+    (subst (λ (count : ℕ). Passes on (map_steps number inv edges) edges (range_with_len on count)) (split-count width parts.edges next) (maps-passes number inv edges on))
+
+-- a width of two at least, and one input
+pub spread-wide : (width : ℕ) (inv : Inv) → is_spread width inv ≡ true → nat_le 2 width ≡ true
+spread-wide width inv is = (and_parts (nat_le 2 width) ((inputs_of inv == 1) && may_spread (class_of inv)) is).0
+
+pub spread-one : (width : ℕ) (inv : Inv) → is_spread width inv ≡ true → inputs_of inv ≡ 1
+spread-one width inv is =
+    eqb-true (inputs_of inv) 1 (and_parts (inputs_of inv == 1) (may_spread (class_of inv)) (and_parts (nat_le 2 width) ((inputs_of inv == 1) && may_spread (class_of inv)) is).1).0
+
+pub spread-class : (width : ℕ) (inv : Inv) → is_spread width inv ≡ true → may_spread (class_of inv) ≡ true
+spread-class width inv is =
+    (and_parts (inputs_of inv == 1) (may_spread (class_of inv)) (and_parts (nat_le 2 width) ((inputs_of inv == 1) && may_spread (class_of inv)) is).1).1
 
 -- THE UTILITY
-util-passes : (number : ℕ) (leads : Bool) (inv : Inv) (edges : List ℕ) (next : ℕ) → (is_leading_cat leads inv ≡ true → length edges ≤ 1) → Passes next (util_steps number leads inv edges) edges (util_edge leads inv edges next ∷ [])
-util-passes number leads inv edges next few = by_test (is_leading_cat leads inv) few
+util-passes : (width number : ℕ) (leads : Bool) (inv : Inv) (parts : Parts) (next : ℕ) → Passes next (util_steps width number leads inv parts.edges next) parts.edges (util_parts width number leads inv parts next).edges
+util-passes width number leads inv parts next = by_test (is_leading_cat leads inv) (is_spread width inv)
   where
-    by_edges : (edges : List ℕ) → length edges ≤ 1 → Passes next (if is_none edges then step (kind.Text []) [] number ∷ [] else []) edges (get_or edges 0 next ∷ [])
-    by_edges [] few = passes-gives next (step (kind.Text []) [] number) refl
-    by_edges (edge ∷ []) few = passes-none next (edge ∷ [])
-    by_edges (edge ∷ other ∷ edges) few = absurd (omega (arith, few))
+    by_edges : (edges : List ℕ) → Passes next (if is_none edges then step (kind.Text []) [] number ∷ [] else []) edges (if is_none edges then next ∷ [] else edges)
+    by_edges [] = passes-gives next (step (kind.Text []) [] number) refl
+    by_edges (edge ∷ edges) = passes-none next (edge ∷ edges)
 
-    by_test : (cat : Bool) → (cat ≡ true → length edges ≤ 1)
-        → Passes next (if cat then (if is_none edges then step (kind.Text []) [] number ∷ [] else []) else step (kind.Whole inv) edges number ∷ []) edges ((if cat then get_or edges 0 next else next) ∷ [])
-    by_test true few = by_edges edges (few refl)
-    by_test false few = passes-gives next (step (kind.Whole inv) edges number) refl
+    by_test : (cat spread : Bool)
+        → Passes next (if cat then (if is_none parts.edges then step (kind.Text []) [] number ∷ [] else []) else if spread then spread_steps width number inv parts.edges next else step (kind.Whole inv) parts.edges number ∷ [])
+        parts.edges ((if cat then parts_on (if is_none parts.edges then next ∷ [] else parts.edges) false else if spread then spread_parts width number inv parts next else parts_on (next ∷ []) false).edges)
+    by_test true spread = by_edges parts.edges
+    by_test false true = spread-passes width number inv parts next
+    by_test false false = passes-gives next (step (kind.Whole inv) parts.edges number) refl
+
+-- it has a part
+util-some : (width number : ℕ) (leads : Bool) (inv : Inv) (parts : Parts) (next : ℕ) → 1 ≤ length (util_parts width number leads inv parts next).edges
+util-some width number leads inv parts next = by_test (is_leading_cat leads inv) (is_spread width inv) refl
+  where
+    by_edges : (edges : List ℕ) → 1 ≤ length (if is_none edges then next ∷ [] else edges)
+    by_edges [] = omega arith
+    by_edges (edge ∷ edges) = omega arith
+
+    by_test : (cat spread : Bool) → is_spread width inv ≡ spread
+        → 1 ≤ length ((if cat then parts_on (if is_none parts.edges then next ∷ [] else parts.edges) false else if spread then spread_parts width number inv parts next else parts_on (next ∷ []) false).edges)
+    by_test true spread is = by_edges parts.edges
+    by_test false true is =
+        let wide = leb-true 2 width (spread-wide width inv is) in
+        let size = length-range_with_len (behind next (split_steps width number parts.edges)) width in
+        omega (arith, wide, size)
+    by_test false false is = omega arith
 
 -- WHAT COMES FIRST
-first-passes : (number : ℕ) (it : Does) (text : List ℕ) (edge next : ℕ) → Passes next (first_steps number it text edge next) (edge ∷ []) (first_edge it text edge next ∷ [])
-first-passes number does.Skip text edge next = passes-none next (edge ∷ [])
-first-passes number (does.Util inv) text edge next = by_test (is_empty text)
+first-passes : (number : ℕ) (it : Does) (text : List ℕ) (parts : Parts) (next : ℕ) → 1 ≤ length parts.edges
+    → Passes next (first_steps number it text parts.edges) parts.edges (first_parts number it text parts next).edges
+first-passes number does.Skip text parts next some = passes-none next parts.edges
+first-passes number (does.Util inv) text parts next some = by_test (is_empty text)
   where
+    wholes : List Step
+    wholes = whole_steps number parts.edges
+
     by_test : (none : Bool)
-        → Passes next (if none then [] else step (kind.Text text) [] number ∷ step (kind.Cat false) (next ∷ edge ∷ []) number ∷ []) (edge ∷ []) ((if none then edge else next + 1) ∷ [])
-    by_test true = passes-none next (edge ∷ [])
-    by_test false = record {
-      turns = λ other. (omega arith);
-      below = λ all. (refl, (and_from (nat_lt next (next + 1)) (nat_lt edge (next + 1) && true) (lt-ltb next (next + 1) (omega arith)) (all-more next (next + 1) (omega arith) (edge ∷ []) all), tt));
-      within = λ all. below-one (next + 1) (next + 1 + 1) (omega arith);
-    }
+        → Passes next (if none then [] else whole_steps number parts.edges ++ step (kind.Text text) [] number ∷ []) parts.edges
+        ((if none then parts else parts_on (behind next (whole_steps number parts.edges) ∷ whole_edge parts.edges next ∷ []) false).edges)
+    by_test true = passes-none next parts.edges
+    by_test false =
+        let edge : ℕ = whole_edge parts.edges next in
+        let on : ℕ = behind next (whole_steps number parts.edges) in
+        passes-append next (whole_steps number parts.edges) (step (kind.Text text) [] number ∷ []) parts.edges (edge ∷ []) (on ∷ edge ∷ []) (whole-passes number parts.edges next some)
+        (passes-both on (step (kind.Text text) [] number ∷ []) [] [] (on ∷ []) (edge ∷ []) (edge ∷ []) (passes-gives on (step (kind.Text text) [] number) refl) (passes-none (on + 1) (edge ∷ [])))
+
+first-some : (number : ℕ) (it : Does) (text : List ℕ) (parts : Parts) (next : ℕ) → 1 ≤ length parts.edges → 1 ≤ length (first_parts number it text parts next).edges
+first-some number does.Skip text parts next some = some
+first-some number (does.Util inv) text parts next some = by_test (is_empty text)
+  where
+    by_test : (none : Bool) → 1 ≤ length ((if none then parts else parts_on (behind next (whole_steps number parts.edges) ∷ whole_edge parts.edges next ∷ []) false).edges)
+    by_test true = some
+    by_test false = omega arith
 
 -- WHERE THE OUTPUT GOES
 piped-passes : (number : ℕ) (piped : List ℕ) (next : ℕ) → Passes next (piped_steps number piped next) [] []
@@ -303,17 +374,21 @@ on-passes number out.Null piped reads edge next =
 pub drain-behind : (number : ℕ) (comes : Coming) (reads : Bool) (next : ℕ) → behind next (drain_steps number comes reads) ≡ next
 drain-behind number comes true next = refl
 drain-behind number (coming.Begins begin) false next = refl
-drain-behind number (coming.On edge) false next = refl
+drain-behind number (coming.On parts) false next = each-behind parts.edges
+  where
+    each-behind : (edges : List ℕ) → behind next (each_ended number edges) ≡ next
+    each-behind [] = refl
+    each-behind (edge ∷ edges) = each-behind edges
 drain-behind number coming.Nothing false next = refl
 
-module _ (number : ℕ) (comes : Coming) (stage : Stage) (next : ℕ) (few : count_by is_stream (ins_of stage) ≤ 1) where
+module _ (width number : ℕ) (comes : Coming) (stage : Stage) (next : ℕ) (few : count_by is_stream (ins_of stage) ≤ 1) where
   read-passes : (from : ℕ) (it : Does) (ins : List In) → Passes from (read_steps number comes it ins from) (open_ins comes (ins_read it ins)) (read_edges number comes it ins from)
   read-passes from does.Skip ins = passes-none from []
   read-passes from (does.Util inv) ins =
       let edges : List ℕ = in_edges number comes ins from in
       let inputs : List Step = in_steps number comes ins in
-      passes-append from inputs (join_steps number inv edges) (open_ins comes ins) edges (joined_edges inv edges (behind from inputs))
-      (in-passes number comes ins from) (join-passes number inv edges (behind from inputs))
+      passes-append from inputs (join_steps number (begins comes) inv ins edges) (open_ins comes ins) edges (joined_edges (begins comes) inv ins edges (behind from inputs))
+      (in-passes number comes ins from) (join-passes number (begins comes) inv ins edges (behind from inputs))
 
   pub front-passes : Passes next (front_steps number comes stage next) (open_coming comes) (front_edges number comes stage next)
   front-passes =
@@ -323,46 +398,80 @@ module _ (number : ℕ) (comes : Coming) (stage : Stage) (next : ℕ) (few : cou
       (subst (λ (from : ℕ). Passes from (read_steps number comes stage.does stage.ins next) (open_ins comes (ins_of stage)) (front_edges number comes stage next)) (sym (drain-behind number comes (is_reader stage) next))
       (read-passes next stage.does stage.ins))
 
-  pub does-passes : Passes (front_next number comes stage next) (done_steps number comes stage next) (front_edges number comes stage next) (done_edge number comes stage next ∷ [])
+  abbrev taken_parts : Parts
+  taken_parts = parts_on (front_edges number comes stage next) (comes_cut comes)
+
+  pub does-some : 1 ≤ length (done_parts width number comes stage next).edges
+  does-some = by_does stage.does
+    where
+      by_does : (it : Does) → 1 ≤ length (does_parts width number (begins comes) it taken_parts (front_next number comes stage next)).edges
+      by_does does.Skip = omega arith
+      by_does (does.Util inv) = util-some width number (begins comes) inv taken_parts (front_next number comes stage next)
+
+  pub main-some : 1 ≤ length (main_parts width number comes stage next).edges
+  main-some = first-some number stage.does stage.first (done_parts width number comes stage next) (done_next width number comes stage next) does-some
+
+  pub does-passes : Passes (front_next number comes stage next) (done_steps width number comes stage next) (front_edges number comes stage next) (done_parts width number comes stage next).edges
   does-passes = by_does stage.does
     where
+      from : ℕ
+      from = front_next number comes stage next
+
       by_does : (it : Does)
-          → Passes (front_next number comes stage next) (does_steps number (begins comes) it stage.first (read_edges number comes it stage.ins next)) (read_edges number comes it stage.ins next)
-          (does_edge (begins comes) it (read_edges number comes it stage.ins next) (front_next number comes stage next) ∷ [])
+          → Passes (front_next number comes stage next) (does_steps width number (begins comes) it stage.first (read_edges number comes it stage.ins next) (front_next number comes stage next)) (read_edges number comes it stage.ins next)
+          (does_parts width number (begins comes) it (parts_on (read_edges number comes it stage.ins next) (comes_cut comes)) (front_next number comes stage next)).edges
       by_does does.Skip = passes-gives (front_next number comes stage next) (step (kind.Text stage.first) [] number) refl
       by_does (does.Util inv) =
-          util-passes number (begins comes) inv (read_edges number comes (does.Util inv) stage.ins next) (front_next number comes stage next)
-          (λ cat. cat-one inv (in_edges number comes stage.ins next) (behind next (in_steps number comes stage.ins)) (leads-cat (begins comes) inv cat))
+          util-passes width number (begins comes) inv (parts_on (read_edges number comes (does.Util inv) stage.ins next) (comes_cut comes)) (front_next number comes stage next)
 
-  pub main-passes : Passes next (main_steps number comes stage next) (open_coming comes) (main_edge number comes stage next ∷ [])
+  pub main-passes : Passes next (main_steps width number comes stage next) (open_coming comes) (main_parts width number comes stage next).edges
   main-passes =
       let front : List Step = front_steps number comes stage next in
-      let done : List Step = done_steps number comes stage next in
-      let edge : ℕ = done_edge number comes stage next in
-      let firsts : List Step = first_steps number stage.does stage.first edge (done_next number comes stage next) in
-      passes-append next front (done ++ firsts) (open_coming comes) (front_edges number comes stage next) (main_edge number comes stage next ∷ []) front-passes
-      (passes-append (front_next number comes stage next) done firsts (front_edges number comes stage next) (edge ∷ []) (main_edge number comes stage next ∷ []) does-passes
-      (first-passes number stage.does stage.first edge (done_next number comes stage next)))
+      let done : List Step = done_steps width number comes stage next in
+      let parts : Parts = done_parts width number comes stage next in
+      let firsts : List Step = first_steps number stage.does stage.first parts.edges in
+      passes-append next front (done ++ firsts) (open_coming comes) (front_edges number comes stage next) (main_parts width number comes stage next).edges front-passes
+      (passes-append (front_next number comes stage next) done firsts (front_edges number comes stage next) parts.edges (main_parts width number comes stage next).edges does-passes
+      (first-passes number stage.does stage.first parts (done_next width number comes stage next) does-some))
 
-  pub last-passes : Passes next (last_steps number comes stage next) (open_coming comes) []
+  -- its output on one edge
+  pub end-passes : Passes (main_next width number comes stage next) (whole_steps number (main_parts width number comes stage next).edges) (main_parts width number comes stage next).edges (end_edge width number comes stage next ∷ [])
+  end-passes = whole-passes number (main_parts width number comes stage next).edges (main_next width number comes stage next) main-some
+
+  pub last-passes : Passes next (last_steps width number comes stage next) (open_coming comes) []
   last-passes =
-      passes-append next (main_steps number comes stage next) (out_steps number stage.out stage.piped (main_edge number comes stage next) (main_next number comes stage next))
-      (open_coming comes) (main_edge number comes stage next ∷ []) [] main-passes
-      (out-passes number stage.out stage.piped (main_edge number comes stage next) (main_next number comes stage next))
+      let edges : List ℕ = (main_parts width number comes stage next).edges in
+      let edge : ℕ = end_edge width number comes stage next in
+      let outs : List Step = out_steps number stage.out stage.piped edge (end_next width number comes stage next) in
+      passes-append next (main_steps width number comes stage next) (whole_steps number edges ++ outs) (open_coming comes) edges [] main-passes
+      (passes-append (main_next width number comes stage next) (whole_steps number edges) outs edges (edge ∷ []) [] end-passes
+      (out-passes number stage.out stage.piped edge (end_next width number comes stage next)))
 
-  pub earlier-passes : (reads : Bool) → Passes next (earlier_steps number comes stage next reads) (open_coming comes) (open_coming (comes_behind number comes stage next reads))
-  earlier-passes reads =
-      passes-append next (main_steps number comes stage next) (on_steps number stage.out stage.piped reads (main_edge number comes stage next))
-      (open_coming comes) (main_edge number comes stage next ∷ []) (open_coming (comes_behind number comes stage next reads)) main-passes
-      (on-passes number stage.out stage.piped reads (main_edge number comes stage next) (main_next number comes stage next))
+  pub earlier-passes : (following : Stage) → Passes next (earlier_steps width number comes stage next following) (open_coming comes) (open_coming (comes_behind width number comes stage next following))
+  earlier-passes following =
+      passes-append next (main_steps width number comes stage next) (goes_steps width number comes stage next following) (open_coming comes) (main_parts width number comes stage next).edges
+      (open_coming (comes_behind width number comes stage next following)) main-passes (by_test (hands_on width stage.out following (main_parts width number comes stage next)))
+    where
+      by_test : (hands : Bool)
+          → Passes (main_next width number comes stage next)
+          (if hands then [] else whole_steps number (main_parts width number comes stage next).edges ++ on_steps number stage.out stage.piped (is_reader following) (end_edge width number comes stage next))
+          (main_parts width number comes stage next).edges
+          (open_coming (if hands then coming.On (main_parts width number comes stage next) else comes_on stage.out (is_reader following) (end_edge width number comes stage next) (end_next width number comes stage next)))
+      by_test true = passes-none (main_next width number comes stage next) (main_parts width number comes stage next).edges
+      by_test false =
+          let edges : List ℕ = (main_parts width number comes stage next).edges in
+          let edge : ℕ = end_edge width number comes stage next in
+          passes-append (main_next width number comes stage next) (whole_steps number edges) (on_steps number stage.out stage.piped (is_reader following) edge) edges (edge ∷ [])
+          (open_coming (comes_on stage.out (is_reader following) edge (end_next width number comes stage next))) end-passes
+          (on-passes number stage.out stage.piped (is_reader following) edge (end_next width number comes stage next))
 
 -- ALL STAGES
-pub chain-passes : (number : ℕ) (comes : Coming) (stage : Stage) (stages : List Stage) (next : ℕ) → list_all is_stage (stage ∷ stages) ≡ true → Passes next (chain_steps number comes (stage ∷ stages) next) (open_coming comes) []
-chain-passes number comes stage [] next all = last-passes number comes stage next (few-streams stage (and_parts (is_stage stage) true all).0)
-chain-passes number comes stage (following ∷ stages) next all =
-    let reads : Bool = is_reader following in
-    let here : List Step = earlier_steps number comes stage next reads in
-    let on : Coming = comes_behind number comes stage next reads in
+pub chain-passes : (width number : ℕ) (comes : Coming) (stage : Stage) (stages : List Stage) (next : ℕ) → list_all is_stage (stage ∷ stages) ≡ true
+    → Passes next (chain_steps width number comes (stage ∷ stages) next) (open_coming comes) []
+chain-passes width number comes stage [] next all = last-passes width number comes stage next (few-streams stage (and_parts (is_stage stage) true all).0)
+chain-passes width number comes stage (following ∷ stages) next all =
+    let here : List Step = earlier_steps width number comes stage next following in
+    let on : Coming = comes_behind width number comes stage next following in
     let parts = and_parts (is_stage stage) (list_all is_stage (following ∷ stages)) all in
-    passes-append next here (chain_steps (number + 1) on (following ∷ stages) (behind next here)) (open_coming comes) (open_coming on) []
-    (earlier-passes number comes stage next (few-streams stage parts.0) reads) (chain-passes (number + 1) on following stages (behind next here) parts.1)
+    passes-append next here (chain_steps width (number + 1) on (following ∷ stages) (behind next here)) (open_coming comes) (open_coming on) []
+    (earlier-passes width number comes stage next (few-streams stage parts.0) following) (chain-passes width (number + 1) on following stages (behind next here) parts.1)

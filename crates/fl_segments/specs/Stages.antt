@@ -11,7 +11,8 @@ use Rattle.ut_args.specs.declared.commands.Command.{Command}
 use Rattle.ut_args.specs.declared.commands.Command.TheVariants as command
 use Rattle.ut_args.specs.declared.invocations.Inv.{Inv}
 use Rattle.ut_args.specs.declared.invocations.Inv.TheVariants as inv
-use Rattle.fl_graph.specs.Kinds.{has_map}
+use Rattle.ut_args.specs.declared.classes.Class.{Class}
+use Rattle.ut_args.specs.declared.classes.Class.TheVariants as class
 use Rattle.fl_classes.specs.Used.{words_with}
 use Rattle.fl_segments.specs.declared.stages.Does.{Does}
 use Rattle.fl_segments.specs.declared.stages.Does.TheVariants as does
@@ -120,9 +121,22 @@ gives_output [] = false
 gives_output (stage ∷ []) = goes_on stage.out stage.piped
 gives_output (stage ∷ next ∷ stages) = gives_output (next ∷ stages)
 
--- the words of the utilities that a segment runs at a width: one that may be split and reads one input runs so often
+-- a utility that reads one input is spread, at a width from 2 on, where its class lets its input be cut: it runs once for each part
+abbrev pub may_spread : Class → Bool
+may_spread (class.S seam) = true
+may_spread class.P = false
+may_spread class.N = false
+may_spread class.E = false
+
+abbrev pub spreads : Inv → Bool
+spreads inv = (inputs_of inv == 1) && may_spread (class_of inv)
+
+abbrev pub is_spread : ℕ → Inv → Bool
+is_spread width inv = nat_le 2 width && spreads inv
+
+-- the words of the utilities that a segment runs at a width
 abbrev pub times : ℕ → Inv → ℕ
-times width inv = if has_map (class_of inv) && (inputs_of inv == 1) then width else 1
+times width inv = if is_spread width inv then width else 1
 
 abbrev pub words_by : ℕ → Does → List (List (List ℕ))
 words_by width (does.Util inv) = flat_map (λ words. replicate (times width inv) words) (words_with inv (inputs_of inv))

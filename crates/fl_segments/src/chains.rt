@@ -10,14 +10,15 @@ ghost use Rattle.fl_classes.specs.Kinds.{are_run};
 ghost use Rattle.fl_classes.specs.Sources.{source_texts};
 ghost use Rattle.fl_classes.specs.Used.{words_used};
 ghost use Rattle.fl_segments.specs.Chains.{begins_with, chain_means, is_quiet as is_quiet_lem};
+ghost use Rattle.fl_segments.specs.Spread.{IsSpread};
 ghost use Rattle.fl_segments.specs.Stages.{files_read, files_written, gives_output, is_stage, reads_input, words_at};
 ghost use Rattle.fl_segments.specs.Inner.Drawing.{behind, drawn};
-ghost use Rattle.fl_segments.specs.Inner.Steps.{chain_node, chain_rule, chain_steps, comes_behind, earlier_steps, front_steps, grep_rule as grep_rule_lem, last_steps, rule_by};
+ghost use Rattle.fl_segments.specs.Inner.Steps.{chain_nodes, chain_rule, chain_steps, comes_behind, earlier_steps, grep_rule as grep_rule_lem, last_steps, main_nodes, rule_by};
 
-use crate::commands::add_main;
+use crate::commands::{Written, add_main};
 use crate::drawing::Drawing;
-use crate::inputs::{Coming, is_reader};
-use crate::outputs::{add_on, add_out};
+use crate::outputs::{add_end_of, add_goes};
+use crate::parts::Coming;
 use crate::stages::{Does, First, Stage};
 use fl_graph::{Graph, Seq, StatusRule};
 use ps_lines::Memory;
@@ -49,18 +50,47 @@ pub fn chain(alloc: Global, segment: &[Stage], from: &First) -> Result<Graph, Me
         outcome graph (source_texts graph.nodes input files) ≡ chain_means segment.now (begins_with from.now input) files) }
     ensures used { IfOk result (λ graph. words_used graph.nodes ≡ words_at 1 segment.now) }
 {
-    chain_graph(alloc, segment, from)
+    chain_graph(alloc, segment, from, 1)
 }
 
-/// The graph of stages.
-pub(crate) fn chain_graph(alloc: Global, segment: &[Stage], from: &First) -> Result<Graph, Memory>
+/// The graph of a segment at a width: a utility whose input may be cut is spread over so many parts of it.
+///
+/// It is as that of `chain`, but for the nodes of such utilities: a Split of the one input, unless it comes in as many parts as the width,
+/// cut as the utility wants it, and a Map of each part. A stream that is on several edges is joined by a Cat where no utility takes it so.
+/// At a width below 2 it is that of `chain`.
+pub fn compile(alloc: Global, segment: &[Stage], from: &First, width: u32) -> Result<Graph, Memory>
     requires some { 1 ≤ length segment.now }
     requires most { length segment.now ≤ MAX_STAGES }
-    ensures nodes { IfOk result (λ graph. graph.nodes ≡ drawn 0 (chain_steps 0 (Coming.Begins from.entry) segment.now 0)) }
-    ensures status { IfOk result (λ graph. graph.status ≡ chain_rule segment.now (chain_node 0 (Coming.Begins from.entry) segment.now 0)) }
+    requires stages { list_all is_stage segment.now ≡ true }
+    requires paths { ArePathsApart (files_read segment.now) (files_written segment.now) }
+    ensures valid { IfOk result (λ graph. Valid graph.nodes graph.status) }
+    ensures kinds { IfOk result (λ graph. are_run graph.nodes ≡ true) }
+    ensures reads { IfOk result (λ graph. paths_read graph.nodes ≡ files_read segment.now) }
+    ensures writes { IfOk result (λ graph. paths_written graph.nodes ≡ files_written segment.now) }
+    ensures input { IfOk result (λ graph. list_any (λ cell. is_input cell.kind) graph.nodes ≡ reads_input segment.now from.now) }
+    ensures output { IfOk result (λ graph. list_any (λ cell. is_output cell.kind) graph.nodes ≡ gives_output segment.now) }
+    ensures outcome { IfOk result (λ graph. (input : List ℕ) (files : Components → List ℕ) →
+        outcome graph (source_texts graph.nodes input files) ≡ chain_means segment.now (begins_with from.now input) files) }
+    ensures used { IfOk result (λ graph. words_used graph.nodes ≡ words_at width segment.now) }
+    ensures spread { IfOk result (λ graph. IsSpread width segment.now graph.nodes) }
+{
+    chain_graph(alloc, segment, from, width)
+}
+
+/// The graph of stages at a width.
+pub(crate) fn chain_graph(
+    alloc: Global,
+    segment: &[Stage],
+    from: &First,
+    width: u32,
+) -> Result<Graph, Memory>
+    requires some { 1 ≤ length segment.now }
+    requires most { length segment.now ≤ MAX_STAGES }
+    ensures nodes { IfOk result (λ graph. graph.nodes ≡ drawn 0 (chain_steps width 0 (Coming.Begins from.entry) segment.now 0)) }
+    ensures status { IfOk result (λ graph. graph.status ≡ chain_rule segment.now (chain_nodes width 0 (Coming.Begins from.entry) segment.now 0 0)) }
 {
     let mut drawing = Drawing::new(alloc);
-    let status = add_stages(alloc, &mut drawing, segment, Coming::Begins(from))?;
+    let status = add_stages(alloc, &mut drawing, width, segment, from)?;
     let Drawing { nodes, next: _next } = drawing;
     Ok(Graph {
         nodes: Seq::from_vec(nodes),
@@ -68,106 +98,113 @@ pub(crate) fn chain_graph(alloc: Global, segment: &[Stage], from: &First) -> Res
     })
 }
 
-/// Adds all stages, the first with what it begins with, and gives the status rule.
+/// Adds all stages, the first with what the segment begins with, and gives the status rule.
 fn add_stages(
     alloc: Global,
     drawing: &mut Drawing,
+    width: u32,
     segment: &[Stage],
-    begin: Coming<'_>,
+    from: &First,
 ) -> Result<StatusRule, Memory>
     requires some { 1 ≤ length segment.now }
     requires most { length segment.now ≤ MAX_STAGES }
-    ensures nodes { OnOk result (drawing.new.nodes.items ≡ drawing.old.nodes.items ++ drawn drawing.old.next (chain_steps 0 begin.entry segment.now drawing.old.next)) }
-    ensures status { IfOk result (λ status. status ≡ chain_rule segment.now (length drawing.old.nodes.items + chain_node 0 begin.entry segment.now drawing.old.next)) }
+    ensures nodes { OnOk result (drawing.new.nodes.items ≡ drawing.old.nodes.items ++ drawn drawing.old.next (chain_steps width 0 (Coming.Begins from.entry) segment.now drawing.old.next)) }
+    ensures status { IfOk result (λ status. status ≡ chain_rule segment.now (chain_nodes width 0 (Coming.Begins from.entry) segment.now drawing.old.next (length drawing.old.nodes.items))) }
 {
     let [first, rest @ ..] = segment else {
         unreachable!()
     };
     let mut number = 0;
-    let mut coming = begin;
+    let mut coming = Coming::Begins(from);
     let mut stage = first;
     let mut left = rest;
     while let [next, others @ ..] = left {
-        coming = add_earlier(alloc, drawing, number, stage, coming, is_reader(next))?;
+        coming = add_earlier(alloc, drawing, width, number, stage, &coming, next)?;
         number += 1;
         stage = next;
         left = others;
     }
-    let node = add_last(alloc, drawing, number, stage, coming)?;
-    rule(alloc, stage, node)
+    let nodes = add_last(alloc, drawing, width, number, stage, &coming)?;
+    Ok(rule(stage, nodes))
 }
 
-/// Adds a stage that isn't the last, and gives what comes to the next one, which reads its stream or doesn't.
+/// Adds a stage that isn't the last, and gives what comes to the next one.
 fn add_earlier<'from>(
     alloc: Global,
     drawing: &mut Drawing,
+    width: u32,
     number: u32,
     stage: &Stage,
-    coming: Coming<'from>,
-    is_read: bool,
+    coming: &Coming<'_>,
+    following: &Stage,
 ) -> Result<Coming<'from>, Memory>
-    ensures nodes { OnOk result (drawing.new.nodes.items ≡ drawing.old.nodes.items ++ drawn drawing.old.next (earlier_steps number coming.entry stage.now drawing.old.next is_read)) }
-    ensures next { OnOk result (drawing.new.next ≡ behind drawing.old.next (earlier_steps number coming.entry stage.now drawing.old.next is_read)) }
-    ensures coming { IfOk result (λ on. on ≡ comes_behind number coming.entry stage.now drawing.old.next is_read) }
+    ensures nodes { OnOk result (drawing.new.nodes.items ≡ drawing.old.nodes.items ++ drawn drawing.old.next (earlier_steps width number coming.now stage.now drawing.old.next following.now)) }
+    ensures next { OnOk result (drawing.new.next ≡ behind drawing.old.next (earlier_steps width number coming.now stage.now drawing.old.next following.now)) }
+    ensures coming { IfOk result (λ on. on ≡ comes_behind width number coming.now stage.now drawing.old.next following.now) }
 {
-    let written = add_main(alloc, drawing, number, stage, coming)?;
-    add_on(alloc, drawing, number, stage, is_read, written.edge)
+    let written = add_main(alloc, drawing, width, number, stage, coming)?;
+    let Written {
+        parts,
+        nodes: _nodes,
+    } = written;
+    add_goes(alloc, drawing, width, number, stage, following, parts)
 }
 
-/// Adds the last stage, and gives the number of the node of its utility.
+/// Adds the last stage, and gives the numbers of the nodes of its utility.
 fn add_last(
     alloc: Global,
     drawing: &mut Drawing,
+    width: u32,
     number: u32,
     stage: &Stage,
-    coming: Coming<'_>,
-) -> Result<u32, Memory>
-    ensures nodes { OnOk result (drawing.new.nodes.items ≡ drawing.old.nodes.items ++ drawn drawing.old.next (last_steps number coming.entry stage.now drawing.old.next)) }
-    ensures node { IfOk result (λ node. node ≡ length drawing.old.nodes.items + length (front_steps number coming.entry stage.now drawing.old.next)) }
+    coming: &Coming<'_>,
+) -> Result<Seq<u32>, Memory>
+    ensures nodes { OnOk result (drawing.new.nodes.items ≡ drawing.old.nodes.items ++ drawn drawing.old.next (last_steps width number coming.now stage.now drawing.old.next)) }
+    ensures named { IfOk result (λ nodes. nodes ≡ main_nodes width number coming.now stage.now drawing.old.next (length drawing.old.nodes.items)) }
 {
-    let written = add_main(alloc, drawing, number, stage, coming)?;
-    add_out(alloc, drawing, number, stage, written.edge)?;
-    Ok(written.node)
+    let written = add_main(alloc, drawing, width, number, stage, coming)?;
+    let Written { parts, nodes } = written;
+    add_end_of(alloc, drawing, number, stage, &parts)?;
+    Ok(nodes)
 }
 
-/// How the status comes about, where this is the number of the utility's node.
-fn rule(alloc: Global, stage: &Stage, node: u32) -> Result<StatusRule, Memory>
-    ensures { IfOk result (λ status. status ≡ rule_by stage.now.does stage.now.status node) }
+/// The status rule, by the last stage and the numbers of the nodes of its utility.
+fn rule(stage: &Stage, nodes: Seq<u32>) -> StatusRule
+    ensures { result ≡ rule_by stage.now.does stage.now.status nodes }
 {
     match &stage.does {
-        Does::Skip => Ok(StatusRule::Fixed(stage.status)),
+        Does::Skip => StatusRule::Fixed(stage.status),
         Does::Util(inv) => {
-            if !is_grep(inv) {
-                return Ok(StatusRule::Fixed(stage.status));
+            if is_grep(inv) {
+                return grep_rule(is_quiet(inv), stage.status, nodes);
             }
-            grep_rule(alloc, is_quiet(inv), stage.status, node)
+            StatusRule::Fixed(stage.status)
         }
     }
 }
 
-/// That of grep, which tells by it whether a line is selected: not where it has failed, unless it is quiet (XCU grep, EXIT STATUS).
-fn grep_rule(alloc: Global, is_quiet: bool, status: u8, node: u32) -> Result<StatusRule, Memory>
-    ensures { IfOk result (λ rule. rule ≡ grep_rule_lem is_quiet status node) }
+/// The status rule of grep, by the numbers of its nodes.
+fn grep_rule(is_quiet: bool, status: u8, nodes: Seq<u32>) -> StatusRule
+    ensures { result ≡ grep_rule_lem is_quiet status nodes }
 {
     if status == 0 {
-        return selected(alloc, node, 1);
+        return selected(nodes, 1);
     }
     if is_quiet {
-        return selected(alloc, node, status);
+        return selected(nodes, status);
     }
-    Ok(StatusRule::Fixed(status))
+    StatusRule::Fixed(status)
 }
 
-/// 0 where this node has selected a line, and else `none`.
-fn selected(alloc: Global, node: u32, none: u8) -> Result<StatusRule, Memory>
-    ensures { IfOk result (λ rule. rule ≡ StatusRule.Selected (node ∷ []) 0 none) }
+/// 0 where one of these nodes has selected a line, and else `none`.
+fn selected(nodes: Seq<u32>, none: u8) -> StatusRule
+    ensures { result ≡ StatusRule.Selected nodes 0 none }
 {
-    let nodes = Seq::from_vec(Vec::from_slice(alloc, &[node])?);
-    Ok(StatusRule::Selected {
+    StatusRule::Selected {
         nodes,
         some: 0,
         none,
-    })
+    }
 }
 
 /// Whether this is grep.

@@ -1,87 +1,134 @@
 //! What a stage does: its utility, and what comes before its output.
-ghost use Rattle.std.specs.Prelude.{◌≡◌, ◌+◌, ◌++◌, [], ◌∷◌, length, IfOk, OnOk};
+ghost use Rattle.std.specs.Prelude.{◌≡◌, ◌+◌, ◌++◌, [], ◌∷◌, false, if◌then◌else◌, length, IfOk, OnOk};
+ghost use Rattle.fl_segments.specs.Stages.{is_none};
 ghost use Rattle.fl_segments.specs.Inner.Drawing.{behind, drawn, step};
-ghost use Rattle.fl_segments.specs.Inner.Steps.{before_edge, before_steps, does_edge, does_steps, first_edge, first_steps, front_steps, is_leading_cat as is_leading_cat_lem, main_edge, main_steps, util_edge, util_steps};
+ghost use Rattle.fl_segments.specs.Inner.Steps.{before_parts, before_steps, does_nodes, does_parts, does_steps, first_parts, first_steps, main_nodes, main_parts, main_steps, util_nodes, util_parts, util_steps};
 
 use crate::drawing::Drawing;
-use crate::inputs::{Coming, add_front, begins};
-use crate::nodes::{add_nothing, add_text, is_empty};
+use crate::inputs::{add_front, begins, is_leading_cat};
+use crate::nodes::{add_nothing, add_text, add_whole_stream, is_empty, one_part};
+use crate::parts::{Coming, Parts, parts_on};
+use crate::spread::{add_spread, is_spread};
 use crate::stages::{Does, Stage};
-use fl_graph::NodeKind;
+use fl_graph::{NodeKind, Seq};
 use ps_lines::{Memory, Text};
 use std::alloc::Global;
 use ut_args::Inv;
 
 /// What a stage writes, before it is led anywhere.
-#[derive(Clone, Copy)]
+#[derive(Drop)]
 pub(crate) struct Written {
-    /// The edge that has it.
-    pub(crate) edge: u32,
-    /// The number of the node of the stage's utility.
-    pub(crate) node: u32,
+    /// The stream that it is.
+    pub(crate) parts: Parts,
+    /// The numbers of the nodes of the stage's utility: of its maps, or of its whole.
+    pub(crate) nodes: Seq<u32>,
 }
 
 /// Adds the nodes of a stage up to where its output goes.
 pub(crate) fn add_main(
     alloc: Global,
     drawing: &mut Drawing,
+    width: u32,
     number: u32,
     stage: &Stage,
-    coming: Coming<'_>,
+    coming: &Coming<'_>,
 ) -> Result<Written, Memory>
-    ensures nodes { OnOk result (drawing.new.nodes.items ≡ drawing.old.nodes.items ++ drawn drawing.old.next (main_steps number coming.entry stage.now drawing.old.next)) }
-    ensures next { OnOk result (drawing.new.next ≡ behind drawing.old.next (main_steps number coming.entry stage.now drawing.old.next)) }
-    ensures edge { IfOk result (λ written. written.edge ≡ main_edge number coming.entry stage.now drawing.old.next) }
-    ensures node { IfOk result (λ written. written.node ≡ length drawing.old.nodes.items + length (front_steps number coming.entry stage.now drawing.old.next)) }
+    ensures nodes { OnOk result (drawing.new.nodes.items ≡ drawing.old.nodes.items ++ drawn drawing.old.next (main_steps width number coming.now stage.now drawing.old.next)) }
+    ensures next { OnOk result (drawing.new.next ≡ behind drawing.old.next (main_steps width number coming.now stage.now drawing.old.next)) }
+    ensures parts { IfOk result (λ written. written.parts ≡ main_parts width number coming.now stage.now drawing.old.next) }
+    ensures named { IfOk result (λ written. written.nodes ≡ main_nodes width number coming.now stage.now drawing.old.next (length drawing.old.nodes.items)) }
 {
-    let edges = add_front(alloc, drawing, number, stage, coming)?;
-    let node = drawing.next_node()?;
-    let leads = begins(coming);
-    let done = add_done(alloc, drawing, number, leads, stage, edges.as_slice())?;
-    let edge = add_first(alloc, drawing, number, stage, done)?;
-    Ok(Written { edge, node })
+    let taken = add_front(alloc, drawing, number, stage, coming)?;
+    let done = add_done(alloc, drawing, width, number, begins(coming), stage, taken)?;
+    let Written { parts, nodes } = done;
+    let parts = add_first(alloc, drawing, number, stage, parts)?;
+    Ok(Written { parts, nodes })
 }
 
-/// Adds the node of what a stage does, which leads the segment or doesn't, and gives the edge with its output.
+/// Adds the nodes of what a stage does with these parts, which leads the segment or doesn't.
 fn add_done(
     alloc: Global,
     drawing: &mut Drawing,
+    width: u32,
     number: u32,
     leads: bool,
     stage: &Stage,
-    edges: &[u32],
-) -> Result<u32, Memory>
-    ensures nodes { OnOk result (drawing.new.nodes.items ≡ drawing.old.nodes.items ++ drawn drawing.old.next (does_steps number leads stage.now.does stage.now.first edges.now)) }
-    ensures next { OnOk result (drawing.new.next ≡ behind drawing.old.next (does_steps number leads stage.now.does stage.now.first edges.now)) }
-    ensures edge { IfOk result (λ edge. edge ≡ does_edge leads stage.now.does edges.now drawing.old.next) }
+    taken: Parts,
+) -> Result<Written, Memory>
+    ensures nodes { OnOk result (drawing.new.nodes.items ≡ drawing.old.nodes.items ++ drawn drawing.old.next (does_steps width number leads stage.now.does stage.now.first taken.edges drawing.old.next)) }
+    ensures next { OnOk result (drawing.new.next ≡ behind drawing.old.next (does_steps width number leads stage.now.does stage.now.first taken.edges drawing.old.next)) }
+    ensures parts { IfOk result (λ written. written.parts ≡ does_parts width number leads stage.now.does taken drawing.old.next) }
+    ensures named { IfOk result (λ written. written.nodes ≡ does_nodes width number leads stage.now.does taken.edges (length drawing.old.nodes.items)) }
 {
     match &stage.does {
-        Does::Skip => add_text(alloc, drawing, number, &stage.first),
-        Does::Util(inv) => add_util(alloc, drawing, number, leads, inv, edges),
+        Does::Skip => add_skip(alloc, drawing, number, &stage.first),
+        Does::Util(inv) => add_util(alloc, drawing, width, number, leads, inv, taken),
     }
 }
 
-/// Adds the node of a utility that takes these edges, and gives the edge with its output. A cat that leads the segment has none: its
-/// inputs joined are its output.
-fn add_util(
+/// Adds a text, in place of a utility that is kept from running.
+fn add_skip(
     alloc: Global,
     drawing: &mut Drawing,
     number: u32,
+    text: &Text,
+) -> Result<Written, Memory>
+    ensures nodes { OnOk result (drawing.new.nodes.items ≡ drawing.old.nodes.items ++ drawn drawing.old.next (step (NodeKind.Text text.now) [] number ∷ [])) }
+    ensures next { OnOk result (drawing.new.next ≡ drawing.old.next + 1) }
+    ensures parts { IfOk result (λ written. written.parts ≡ record { edges = drawing.old.next ∷ []; cut = false }) }
+    ensures named { IfOk result (λ written. written.nodes ≡ []) }
+{
+    let edge = add_text(alloc, drawing, number, text)?;
+    Ok(Written {
+        parts: one_part(alloc, edge)?,
+        nodes: Seq::from_vec(Vec::new(alloc)),
+    })
+}
+
+/// Adds the nodes of a utility that takes these parts. A cat that leads the segment has none: its inputs are its output.
+fn add_util(
+    alloc: Global,
+    drawing: &mut Drawing,
+    width: u32,
+    number: u32,
     leads: bool,
     inv: &Inv,
-    ins: &[u32],
-) -> Result<u32, Memory>
-    ensures nodes { OnOk result (drawing.new.nodes.items ≡ drawing.old.nodes.items ++ drawn drawing.old.next (util_steps number leads inv.now ins.now)) }
-    ensures next { OnOk result (drawing.new.next ≡ behind drawing.old.next (util_steps number leads inv.now ins.now)) }
-    ensures edge { IfOk result (λ edge. edge ≡ util_edge leads inv.now ins.now drawing.old.next) }
+    taken: Parts,
+) -> Result<Written, Memory>
+    ensures nodes { OnOk result (drawing.new.nodes.items ≡ drawing.old.nodes.items ++ drawn drawing.old.next (util_steps width number leads inv.now taken.edges drawing.old.next)) }
+    ensures next { OnOk result (drawing.new.next ≡ behind drawing.old.next (util_steps width number leads inv.now taken.edges drawing.old.next)) }
+    ensures parts { IfOk result (λ written. written.parts ≡ util_parts width number leads inv.now taken drawing.old.next) }
+    ensures named { IfOk result (λ written. written.nodes ≡ util_nodes width number leads inv.now taken.edges (length drawing.old.nodes.items)) }
 {
-    if !is_leading_cat(leads, inv) {
-        return add_whole(alloc, drawing, number, inv, ins);
+    if is_leading_cat(leads, inv) {
+        return add_sources(alloc, drawing, number, taken);
     }
-    match ins {
-        [] => add_nothing(alloc, drawing, number),
-        [edge, ..] => Ok(*edge),
+    if is_spread(width, inv) {
+        return add_spread(alloc, drawing, width, number, inv, taken);
     }
+    add_whole(alloc, drawing, number, inv, taken.edges.as_slice())
+}
+
+/// The output of a cat that leads the segment and has its inputs on these edges.
+fn add_sources(
+    alloc: Global,
+    drawing: &mut Drawing,
+    number: u32,
+    taken: Parts,
+) -> Result<Written, Memory>
+    ensures nodes { OnOk result (drawing.new.nodes.items ≡ drawing.old.nodes.items ++ drawn drawing.old.next (if is_none taken.edges then step (NodeKind.Text []) [] number ∷ [] else [])) }
+    ensures next { OnOk result (drawing.new.next ≡ behind drawing.old.next (if is_none taken.edges then step (NodeKind.Text []) [] number ∷ [] else [])) }
+    ensures parts { IfOk result (λ written. written.parts ≡ record { edges = if is_none taken.edges then drawing.old.next ∷ [] else taken.edges; cut = false }) }
+    ensures named { IfOk result (λ written. written.nodes ≡ []) }
+{
+    let nodes = Seq::from_vec(Vec::new(alloc));
+    if taken.edges.as_slice().is_empty() {
+        let edge = add_nothing(alloc, drawing, number)?;
+        let parts = one_part(alloc, edge)?;
+        return Ok(Written { parts, nodes });
+    }
+    let parts = parts_on(taken.edges.into_vec(), false);
+    Ok(Written { parts, nodes })
 }
 
 /// Adds the node of a utility that takes these edges, and gives the edge with its output.
@@ -91,61 +138,55 @@ fn add_whole(
     number: u32,
     inv: &Inv,
     ins: &[u32],
-) -> Result<u32, Memory>
+) -> Result<Written, Memory>
     ensures nodes { OnOk result (drawing.new.nodes.items ≡ drawing.old.nodes.items ++ drawn drawing.old.next (step (NodeKind.Whole inv.now) ins.now number ∷ [])) }
     ensures next { OnOk result (drawing.new.next ≡ drawing.old.next + 1) }
-    ensures edge { IfOk result (λ edge. edge ≡ drawing.old.next) }
+    ensures parts { IfOk result (λ written. written.parts ≡ record { edges = drawing.old.next ∷ []; cut = false }) }
+    ensures named { IfOk result (λ written. written.nodes ≡ length drawing.old.nodes.items ∷ []) }
 {
-    let edge = drawing.next;
+    let node = drawing.next_node()?;
+    let parts = one_part(alloc, drawing.next)?;
+    let nodes = Seq::from_vec(Vec::from_slice(alloc, &[node])?);
     let edges = drawing.giving(alloc, ins)?;
     let copy = inv.copy()?;
     drawing.add(NodeKind::Whole(copy), edges, number)?;
-    Ok(edge)
+    Ok(Written { parts, nodes })
 }
 
-/// Whether this is a cat that leads the segment.
-fn is_leading_cat(leads: bool, inv: &Inv) -> bool
-    ensures { result ≡ is_leading_cat_lem leads inv.now }
-{
-    matches!(inv, Inv::Cat(_)) && leads
-}
-
-/// Adds what comes first, joined with the output on this edge, and gives the edge with both.
+/// Adds what comes first, as a part before the output, and gives both.
 fn add_first(
     alloc: Global,
     drawing: &mut Drawing,
     number: u32,
     stage: &Stage,
-    edge: u32,
-) -> Result<u32, Memory>
-    ensures nodes { OnOk result (drawing.new.nodes.items ≡ drawing.old.nodes.items ++ drawn drawing.old.next (first_steps number stage.now.does stage.now.first edge drawing.old.next)) }
-    ensures next { OnOk result (drawing.new.next ≡ behind drawing.old.next (first_steps number stage.now.does stage.now.first edge drawing.old.next)) }
-    ensures edge { IfOk result (λ both. both ≡ first_edge stage.now.does stage.now.first edge drawing.old.next) }
+    parts: Parts,
+) -> Result<Parts, Memory>
+    ensures nodes { OnOk result (drawing.new.nodes.items ≡ drawing.old.nodes.items ++ drawn drawing.old.next (first_steps number stage.now.does stage.now.first parts.edges)) }
+    ensures next { OnOk result (drawing.new.next ≡ behind drawing.old.next (first_steps number stage.now.does stage.now.first parts.edges)) }
+    ensures parts { IfOk result (λ both. both ≡ first_parts number stage.now.does stage.now.first parts drawing.old.next) }
 {
     match &stage.does {
-        Does::Skip => Ok(edge),
-        Does::Util(_) => add_before(alloc, drawing, number, &stage.first, edge),
+        Does::Skip => Ok(parts),
+        Does::Util(_) => add_before(alloc, drawing, number, &stage.first, parts),
     }
 }
 
-/// Adds a text, joined with what is on this edge, if the text has a byte.
+/// Adds a text as a part before these, which are joined then, if the text has a byte.
 fn add_before(
     alloc: Global,
     drawing: &mut Drawing,
     number: u32,
     text: &Text,
-    edge: u32,
-) -> Result<u32, Memory>
-    ensures nodes { OnOk result (drawing.new.nodes.items ≡ drawing.old.nodes.items ++ drawn drawing.old.next (before_steps number text.now edge drawing.old.next)) }
-    ensures next { OnOk result (drawing.new.next ≡ behind drawing.old.next (before_steps number text.now edge drawing.old.next)) }
-    ensures edge { IfOk result (λ both. both ≡ before_edge text.now edge drawing.old.next) }
+    parts: Parts,
+) -> Result<Parts, Memory>
+    ensures nodes { OnOk result (drawing.new.nodes.items ≡ drawing.old.nodes.items ++ drawn drawing.old.next (before_steps number text.now parts.edges)) }
+    ensures next { OnOk result (drawing.new.next ≡ behind drawing.old.next (before_steps number text.now parts.edges)) }
+    ensures parts { IfOk result (λ both. both ≡ before_parts number text.now parts drawing.old.next) }
 {
     if is_empty(text) {
-        return Ok(edge);
+        return Ok(parts);
     }
+    let output = add_whole_stream(alloc, drawing, number, parts.edges.as_slice())?;
     let first = add_text(alloc, drawing, number, text)?;
-    let both = drawing.next;
-    let edges = drawing.giving(alloc, &[first, edge])?;
-    drawing.add(NodeKind::Cat { close: false }, edges, number)?;
-    Ok(both)
+    Ok(parts_on(Vec::from_slice(alloc, &[first, output])?, false))
 }

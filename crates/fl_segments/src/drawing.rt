@@ -1,5 +1,7 @@
 //! A graph that is being made, node by node.
 ghost use Rattle.std.specs.Prelude.{◌≡◌, ◌+◌, ◌++◌, [], ◌∷◌, length, IfOk, OnOk};
+ghost use Rattle.std.specs.List.{range_with_len};
+ghost use Rattle.fl_segments.specs.Inner.Drawing.{next_of};
 
 use fl_graph::{Node, NodeKind, Seq};
 use ps_lines::Memory;
@@ -58,6 +60,30 @@ impl Drawing {
         Ok(Edges { ins, outs, next })
     }
 
+    /// The edges of a node that takes these and gives so many.
+    #[tactic(auto, using(crate::proofs::DrawingLemmas::next_sum))]
+    pub(crate) fn giving_parts(
+        &self,
+        alloc: Global,
+        ins: &[u32],
+        count: u32,
+    ) -> Result<Edges, Memory>
+        ensures ins { IfOk result (λ edges. edges.ins ≡ ins.now) }
+        ensures outs { IfOk result (λ edges. edges.outs ≡ range_with_len self.now.next count) }
+        ensures next { IfOk result (λ edges. edges.next ≡ next_of count self.now.next) }
+    {
+        let ins = Seq::from_vec(Vec::from_slice(alloc, ins)?);
+        let outs = numbers_from(alloc, self.next, count)?;
+        let Some(next) = self.next.checked_add(count) else {
+            return Err(Memory);
+        };
+        Ok(Edges {
+            ins,
+            outs: Seq::from_vec(outs),
+            next,
+        })
+    }
+
     /// The edges of a node that takes these and gives none.
     pub(crate) fn ending(&self, alloc: Global, ins: &[u32]) -> Result<Edges, Memory>
         ensures ins { IfOk result (λ edges. edges.ins ≡ ins.now) }
@@ -88,4 +114,19 @@ impl Drawing {
         self.next = next;
         Ok(())
     }
+}
+
+/// So many numbers, from this one on. One that doesn't fit into 32 bits wants memory.
+#[tactic(auto, using(crate::proofs::RowLemmas::row_more))]
+pub(crate) fn numbers_from(alloc: Global, from: u32, count: u32) -> Result<Vec<u32>, Memory>
+    ensures { IfOk result (λ numbers. numbers.items ≡ range_with_len from count) }
+{
+    let mut numbers = Vec::new(alloc);
+    for done in 0..count {
+        let Some(number) = from.checked_add(done) else {
+            return Err(Memory);
+        };
+        numbers.push(number)?;
+    }
+    Ok(numbers)
 }

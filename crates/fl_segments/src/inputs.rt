@@ -3,10 +3,11 @@ ghost use Rattle.std.specs.Prelude.{◌≡◌, ◌+◌, ◌++◌, [], ◌∷◌,
 ghost use Rattle.std.specs.List.{list_any};
 ghost use Rattle.fl_segments.specs.Stages.{closes_before as closes_before_lem, is_reader as is_reader_lem, is_stream as is_stream_lem, joins_before as joins_before_lem};
 ghost use Rattle.fl_segments.specs.Inner.Drawing.{behind, drawn, step};
-ghost use Rattle.fl_segments.specs.Inner.Steps.{begins as begins_lem, drain_steps, front_edges, front_steps, in_edge, in_edges, in_steps, input_steps, is_joined as is_joined_lem, join_steps, joined_edges, kind_first as kind_first_lem, kind_in, kind_stream, read_edges, read_steps, stream_edge};
+ghost use Rattle.fl_segments.specs.Inner.Steps.{begins as begins_lem, comes_cut as comes_cut_lem, drain_steps, each_ended, front_edges, front_steps, in_edges, in_steps, input_edges, input_steps, is_joined as is_joined_lem, is_leading_cat as is_leading_cat_lem, join_steps, joined_edges, kind_first as kind_first_lem, kind_in, kind_stream, parts_on as parts_on_lem, read_edges, read_steps, stream_edges};
 
 use crate::drawing::Drawing;
-use crate::nodes::{add_end, add_nothing, add_text};
+use crate::nodes::{add_cat, add_end, add_nothing, add_text};
+use crate::parts::{Coming, Parts, parts_on};
 use crate::stages::{Does, First, In, Stage};
 use fl_graph::{From, NodeKind};
 use ps_lines::Memory;
@@ -14,22 +15,22 @@ use ps_world::Path;
 use std::alloc::Global;
 use ut_args::Inv;
 
-/// What comes to a stage.
-#[derive(Clone, Copy)]
-pub(crate) enum Coming<'from> {
-    /// What the segment begins with: the stage is its first.
-    Begins(&'from First),
-    /// The stream on this edge.
-    On(u32),
-    /// No stream: the output of the stage before goes elsewhere, and this stage reads none.
-    Nothing,
-}
-
 /// Whether the stage to which this comes is the segment's first.
-pub(crate) fn begins(coming: Coming<'_>) -> bool
-    ensures { result ≡ begins_lem coming.entry }
+pub(crate) fn begins(coming: &Coming<'_>) -> bool
+    ensures { result ≡ begins_lem coming.now }
 {
     matches!(coming, Coming::Begins(_))
+}
+
+/// Whether the stream that comes is a cut list.
+fn comes_cut(coming: &Coming<'_>) -> bool
+    ensures { result ≡ comes_cut_lem coming.now }
+{
+    match coming {
+        Coming::Begins(_) => false,
+        Coming::On(parts) => parts.cut,
+        Coming::Nothing => false,
+    }
 }
 
 /// Whether a stage reads the stream that comes to it.
@@ -50,26 +51,27 @@ fn reads_stream(ins: &[In]) -> bool
 }
 
 /// Whether this input is the stream.
-fn is_stream(it: &In) -> bool
+pub(crate) fn is_stream(it: &In) -> bool
     ensures { result ≡ is_stream_lem it.now }
 {
     matches!(it, In::Stream)
 }
 
-/// Adds the nodes of what a stage reads, and gives the edges that its utility takes. The stream is let go if the stage doesn't read it.
+/// Adds the nodes of what a stage reads, and gives the parts that its utility takes. The stream is let go if the stage doesn't read it.
 pub(crate) fn add_front(
     alloc: Global,
     drawing: &mut Drawing,
     number: u32,
     stage: &Stage,
-    coming: Coming<'_>,
-) -> Result<Vec<u32>, Memory>
-    ensures nodes { OnOk result (drawing.new.nodes.items ≡ drawing.old.nodes.items ++ drawn drawing.old.next (front_steps number coming.entry stage.now drawing.old.next)) }
-    ensures next { OnOk result (drawing.new.next ≡ behind drawing.old.next (front_steps number coming.entry stage.now drawing.old.next)) }
-    ensures edges { IfOk result (λ edges. edges.items ≡ front_edges number coming.entry stage.now drawing.old.next) }
+    coming: &Coming<'_>,
+) -> Result<Parts, Memory>
+    ensures nodes { OnOk result (drawing.new.nodes.items ≡ drawing.old.nodes.items ++ drawn drawing.old.next (front_steps number coming.now stage.now drawing.old.next)) }
+    ensures next { OnOk result (drawing.new.next ≡ behind drawing.old.next (front_steps number coming.now stage.now drawing.old.next)) }
+    ensures parts { IfOk result (λ parts. parts ≡ parts_on_lem (front_edges number coming.now stage.now drawing.old.next) (comes_cut_lem coming.now)) }
 {
     add_drain(alloc, drawing, number, coming, is_reader(stage))?;
-    add_read(alloc, drawing, number, stage, coming)
+    let edges = add_read(alloc, drawing, number, stage, coming)?;
+    Ok(parts_on(edges, comes_cut(coming)))
 }
 
 /// Adds the end of a stream that isn't read.
@@ -77,10 +79,10 @@ fn add_drain(
     alloc: Global,
     drawing: &mut Drawing,
     number: u32,
-    coming: Coming<'_>,
+    coming: &Coming<'_>,
     is_read: bool,
 ) -> Result<(), Memory>
-    ensures nodes { OnOk result (drawing.new.nodes.items ≡ drawing.old.nodes.items ++ drawn drawing.old.next (drain_steps number coming.entry is_read)) }
+    ensures nodes { OnOk result (drawing.new.nodes.items ≡ drawing.old.nodes.items ++ drawn drawing.old.next (drain_steps number coming.now is_read)) }
     ensures next { OnOk result (drawing.new.next ≡ drawing.old.next) }
 {
     if is_read {
@@ -88,9 +90,20 @@ fn add_drain(
     }
     match coming {
         Coming::Begins(_) => Ok(()),
-        Coming::On(edge) => add_end(alloc, drawing, number, edge),
+        Coming::On(parts) => add_ends(alloc, drawing, number, parts.edges.as_slice()),
         Coming::Nothing => Ok(()),
     }
+}
+
+/// Adds the end of what is on each of these edges.
+fn add_ends(alloc: Global, drawing: &mut Drawing, number: u32, edges: &[u32]) -> Result<(), Memory>
+    ensures nodes { OnOk result (drawing.new.nodes.items ≡ drawing.old.nodes.items ++ drawn drawing.old.next (each_ended number edges.now)) }
+    ensures next { OnOk result (drawing.new.next ≡ drawing.old.next) }
+{
+    for edge in edges {
+        add_end(alloc, drawing, number, *edge)?;
+    }
+    Ok(())
 }
 
 /// Adds the nodes of the inputs of a stage, and one that joins them if its utility reads them joined. A stage that is skipped reads nothing.
@@ -99,11 +112,11 @@ fn add_read(
     drawing: &mut Drawing,
     number: u32,
     stage: &Stage,
-    coming: Coming<'_>,
+    coming: &Coming<'_>,
 ) -> Result<Vec<u32>, Memory>
-    ensures nodes { OnOk result (drawing.new.nodes.items ≡ drawing.old.nodes.items ++ drawn drawing.old.next (read_steps number coming.entry stage.now.does stage.now.ins drawing.old.next)) }
-    ensures next { OnOk result (drawing.new.next ≡ behind drawing.old.next (read_steps number coming.entry stage.now.does stage.now.ins drawing.old.next)) }
-    ensures edges { IfOk result (λ edges. edges.items ≡ read_edges number coming.entry stage.now.does stage.now.ins drawing.old.next) }
+    ensures nodes { OnOk result (drawing.new.nodes.items ≡ drawing.old.nodes.items ++ drawn drawing.old.next (read_steps number coming.now stage.now.does stage.now.ins drawing.old.next)) }
+    ensures next { OnOk result (drawing.new.next ≡ behind drawing.old.next (read_steps number coming.now stage.now.does stage.now.ins drawing.old.next)) }
+    ensures edges { IfOk result (λ edges. edges.items ≡ read_edges number coming.now stage.now.does stage.now.ins drawing.old.next) }
 {
     match &stage.does {
         Does::Skip => Ok(Vec::new(alloc)),
@@ -125,14 +138,14 @@ fn add_util_inputs(
     number: u32,
     inv: &Inv,
     ins: &[In],
-    coming: Coming<'_>,
+    coming: &Coming<'_>,
 ) -> Result<Vec<u32>, Memory>
-    ensures nodes { OnOk result (drawing.new.nodes.items ≡ drawing.old.nodes.items ++ drawn drawing.old.next (read_steps number coming.entry (Does.Util inv.now) ins.now drawing.old.next)) }
-    ensures next { OnOk result (drawing.new.next ≡ behind drawing.old.next (read_steps number coming.entry (Does.Util inv.now) ins.now drawing.old.next)) }
-    ensures edges { IfOk result (λ edges. edges.items ≡ read_edges number coming.entry (Does.Util inv.now) ins.now drawing.old.next) }
+    ensures nodes { OnOk result (drawing.new.nodes.items ≡ drawing.old.nodes.items ++ drawn drawing.old.next (read_steps number coming.now (Does.Util inv.now) ins.now drawing.old.next)) }
+    ensures next { OnOk result (drawing.new.next ≡ behind drawing.old.next (read_steps number coming.now (Does.Util inv.now) ins.now drawing.old.next)) }
+    ensures edges { IfOk result (λ edges. edges.items ≡ read_edges number coming.now (Does.Util inv.now) ins.now drawing.old.next) }
 {
     let edges = add_inputs(alloc, drawing, number, ins, coming)?;
-    add_joined(alloc, drawing, number, inv, edges)
+    add_joined(alloc, drawing, number, begins(coming), inv, ins, edges)
 }
 
 /// Adds the nodes of inputs, and gives their edges.
@@ -141,54 +154,61 @@ fn add_inputs(
     drawing: &mut Drawing,
     number: u32,
     ins: &[In],
-    coming: Coming<'_>,
+    coming: &Coming<'_>,
 ) -> Result<Vec<u32>, Memory>
-    ensures nodes { OnOk result (drawing.new.nodes.items ≡ drawing.old.nodes.items ++ drawn drawing.old.next (in_steps number coming.entry ins.now)) }
-    ensures next { OnOk result (drawing.new.next ≡ behind drawing.old.next (in_steps number coming.entry ins.now)) }
-    ensures edges { IfOk result (λ edges. edges.items ≡ in_edges number coming.entry ins.now drawing.old.next) }
+    ensures nodes { OnOk result (drawing.new.nodes.items ≡ drawing.old.nodes.items ++ drawn drawing.old.next (in_steps number coming.now ins.now)) }
+    ensures next { OnOk result (drawing.new.next ≡ behind drawing.old.next (in_steps number coming.now ins.now)) }
+    ensures edges { IfOk result (λ edges. edges.items ≡ in_edges number coming.now ins.now drawing.old.next) }
 {
     let mut edges = Vec::new(alloc);
     for it in ins {
-        let edge = add_input(alloc, drawing, number, it, coming)?;
-        edges.push(edge)?;
+        let here = add_input(alloc, drawing, number, it, coming)?;
+        edges.extend_from_slice(here.as_slice())?;
     }
     Ok(edges)
 }
 
-/// Adds the node of an input, and gives its edge.
+/// Adds the node of an input, if it isn't on edges already, and gives its edges.
 fn add_input(
     alloc: Global,
     drawing: &mut Drawing,
     number: u32,
     it: &In,
-    coming: Coming<'_>,
-) -> Result<u32, Memory>
-    ensures nodes { OnOk result (drawing.new.nodes.items ≡ drawing.old.nodes.items ++ drawn drawing.old.next (input_steps number (kind_in coming.entry it.now))) }
-    ensures next { OnOk result (drawing.new.next ≡ behind drawing.old.next (input_steps number (kind_in coming.entry it.now))) }
-    ensures edge { IfOk result (λ edge. edge ≡ in_edge coming.entry it.now drawing.old.next) }
+    coming: &Coming<'_>,
+) -> Result<Vec<u32>, Memory>
+    ensures nodes { OnOk result (drawing.new.nodes.items ≡ drawing.old.nodes.items ++ drawn drawing.old.next (input_steps number (kind_in coming.now it.now))) }
+    ensures next { OnOk result (drawing.new.next ≡ behind drawing.old.next (input_steps number (kind_in coming.now it.now))) }
+    ensures edges { IfOk result (λ edges. edges.items ≡ input_edges coming.now it.now drawing.old.next) }
 {
     match it {
         In::Stream => add_stream(alloc, drawing, number, coming),
-        In::File(path, _) => add_file(alloc, drawing, number, path),
-        In::Empty => add_nothing(alloc, drawing, number),
+        In::File(path, _) => one_edge(alloc, add_file(alloc, drawing, number, path)?),
+        In::Empty => one_edge(alloc, add_nothing(alloc, drawing, number)?),
     }
 }
 
-/// Adds the node of the stream, if it isn't on an edge already, and gives its edge.
+/// This edge alone.
+fn one_edge(alloc: Global, edge: u32) -> Result<Vec<u32>, Memory>
+    ensures { IfOk result (λ edges. edges.items ≡ edge ∷ []) }
+{
+    Ok(Vec::from_slice(alloc, &[edge])?)
+}
+
+/// Adds the node of the stream, if it isn't on edges already, and gives its edges.
 fn add_stream(
     alloc: Global,
     drawing: &mut Drawing,
     number: u32,
-    coming: Coming<'_>,
-) -> Result<u32, Memory>
-    ensures nodes { OnOk result (drawing.new.nodes.items ≡ drawing.old.nodes.items ++ drawn drawing.old.next (input_steps number (kind_stream coming.entry))) }
-    ensures next { OnOk result (drawing.new.next ≡ behind drawing.old.next (input_steps number (kind_stream coming.entry))) }
-    ensures edge { IfOk result (λ edge. edge ≡ stream_edge coming.entry drawing.old.next) }
+    coming: &Coming<'_>,
+) -> Result<Vec<u32>, Memory>
+    ensures nodes { OnOk result (drawing.new.nodes.items ≡ drawing.old.nodes.items ++ drawn drawing.old.next (input_steps number (kind_stream coming.now))) }
+    ensures next { OnOk result (drawing.new.next ≡ behind drawing.old.next (input_steps number (kind_stream coming.now))) }
+    ensures edges { IfOk result (λ edges. edges.items ≡ stream_edges coming.now drawing.old.next) }
 {
     match coming {
-        Coming::Begins(from) => add_beginning(alloc, drawing, number, from),
-        Coming::On(edge) => Ok(edge),
-        Coming::Nothing => add_nothing(alloc, drawing, number),
+        Coming::Begins(from) => one_edge(alloc, add_beginning(alloc, drawing, number, from)?),
+        Coming::On(parts) => Ok(Vec::from_slice(alloc, parts.edges.as_slice())?),
+        Coming::Nothing => one_edge(alloc, add_nothing(alloc, drawing, number)?),
     }
 }
 
@@ -239,28 +259,34 @@ fn add_joined(
     alloc: Global,
     drawing: &mut Drawing,
     number: u32,
+    leads: bool,
     inv: &Inv,
+    ins: &[In],
     edges: Vec<u32>,
 ) -> Result<Vec<u32>, Memory>
-    ensures nodes { OnOk result (drawing.new.nodes.items ≡ drawing.old.nodes.items ++ drawn drawing.old.next (join_steps number inv.now edges.items)) }
-    ensures next { OnOk result (drawing.new.next ≡ behind drawing.old.next (join_steps number inv.now edges.items)) }
-    ensures edges { IfOk result (λ joined. joined.items ≡ joined_edges inv.now edges.items drawing.old.next) }
+    ensures nodes { OnOk result (drawing.new.nodes.items ≡ drawing.old.nodes.items ++ drawn drawing.old.next (join_steps number leads inv.now ins.now edges.items)) }
+    ensures next { OnOk result (drawing.new.next ≡ behind drawing.old.next (join_steps number leads inv.now ins.now edges.items)) }
+    ensures edges { IfOk result (λ joined. joined.items ≡ joined_edges leads inv.now ins.now edges.items drawing.old.next) }
 {
-    if !is_joined(inv, edges.as_slice()) {
+    if !is_joined(leads, inv, ins) {
         return Ok(edges);
     }
-    let joined = Vec::from_slice(alloc, &[drawing.next])?;
-    let close = closes_before(inv);
-    let edges = drawing.giving(alloc, edges.as_slice())?;
-    drawing.add(NodeKind::Cat { close }, edges, number)?;
-    Ok(joined)
+    let edge = add_cat(alloc, drawing, number, closes_before(inv), edges.as_slice())?;
+    one_edge(alloc, edge)
 }
 
-/// Whether the inputs on these edges are joined by a node of their own.
-fn is_joined(inv: &Inv, edges: &[u32]) -> bool
-    ensures { result ≡ is_joined_lem inv.now edges.now }
+/// Whether these inputs are joined by a node of their own.
+fn is_joined(leads: bool, inv: &Inv, ins: &[In]) -> bool
+    ensures { result ≡ is_joined_lem leads inv.now ins.now }
 {
-    joins_before(inv) && 1 < edges.len()
+    joins_before(inv) && !is_leading_cat(leads, inv) && 1 < ins.len()
+}
+
+/// Whether this is a cat that leads the segment.
+pub(crate) fn is_leading_cat(leads: bool, inv: &Inv) -> bool
+    ensures { result ≡ is_leading_cat_lem leads inv.now }
+{
+    matches!(inv, Inv::Cat(_)) && leads
 }
 
 /// Whether the operands of a command are joined before it reads them.

@@ -1,9 +1,13 @@
--- The nodes of a segment (own), stage by stage. Those of a stage, in their order: the end of a stream that it doesn't read, those of its
--- inputs, what joins them, its utility, what comes first, and where its output goes. All have the stage's number, and each part is said of
--- the number of the next edge.
-use Rattle.std.specs.Prelude.{ℕ, ◌+◌, List, [], ◌∷◌, ◌++◌, Bool, true, false, ◌&&◌, ◌==◌, nat_lt, if◌then◌else◌, length, get_or, Option, Some, None}
-use Rattle.std.specs.List.{flat_map}
+-- The nodes of a segment at a width (own), stage by stage. Those of a stage, in their order: the end of a stream that it doesn't read, those
+-- of its inputs, what joins them, its utility or what that is spread over, what comes first, and where its output goes. All have the stage's
+-- number, and each part is said of the number of the next edge. What comes of a part is a stream on one or several edges.
+use Rattle.std.specs.Prelude.{ℕ, ◌+◌, List, [], ◌∷◌, ◌++◌, Bool, true, false, not, ◌&&◌, ◌||◌, ◌==◌, nat_lt, if◌then◌else◌, length, get_or, Option, Some, None}
+use Rattle.std.specs.List.{flat_map, range_with_len}
 use Rattle.ps_lines.specs.Lines.{is_empty}
+use Rattle.ut_args.specs.Classes.{class_of, keeps_closed_of}
+use Rattle.ut_args.specs.declared.classes.Class.{Class}
+use Rattle.ut_args.specs.declared.classes.Class.TheVariants as class
+use Rattle.ut_args.specs.declared.classes.Seam.TheVariants as seam
 use Rattle.ut_args.specs.declared.invocations.Inv.{Inv}
 use Rattle.fl_graph.specs.Kinds.{is_grep}
 use Rattle.fl_graph.specs.declared.graphs.StatusRule.{StatusRule}
@@ -14,10 +18,11 @@ use Rattle.fl_graph.specs.declared.kinds.From.TheVariants as from
 use Rattle.fl_graph.specs.declared.kinds.To.TheVariants as to
 use Rattle.fl_classes.specs.Used.{is_cat}
 use Rattle.fl_segments.specs.Chains.{is_quiet}
-use Rattle.fl_segments.specs.Stages.{closes_before, is_none, is_reader, joins_before}
-use Rattle.fl_segments.specs.Inner.Drawing.{Step, step, behind}
-use Rattle.fl_segments.specs.declared.inputs.Coming.{Coming}
-use Rattle.fl_segments.specs.declared.inputs.Coming.TheVariants as coming
+use Rattle.fl_segments.specs.Stages.{closes_before, is_none, is_reader, is_spread, is_stream, joins_before}
+use Rattle.fl_segments.specs.Inner.Drawing.{Step, step, split_step, behind}
+use Rattle.fl_segments.specs.declared.parts.Coming.{Coming}
+use Rattle.fl_segments.specs.declared.parts.Coming.TheVariants as coming
+use Rattle.fl_segments.specs.declared.parts.Parts.{Parts}
 use Rattle.fl_segments.specs.declared.stages.Does.{Does}
 use Rattle.fl_segments.specs.declared.stages.Does.TheVariants as does
 use Rattle.fl_segments.specs.declared.stages.First.{First}
@@ -28,23 +33,41 @@ use Rattle.fl_segments.specs.declared.stages.Out.{Out}
 use Rattle.fl_segments.specs.declared.stages.Out.TheVariants as out
 use Rattle.fl_segments.specs.declared.stages.Stage.{Stage}
 
+-- a stream on these edges, and on one
+abbrev pub parts_on : List ℕ → Bool → Parts
+parts_on edges cut = record { edges = edges; cut = cut }
+
+abbrev pub one_part : ℕ → Parts
+one_part edge = parts_on (edge ∷ []) false
+
+-- the parts on these edges joined, where there are several, and the edge with their text
+abbrev pub whole_steps : ℕ → List ℕ → List Step
+whole_steps number edges = if nat_lt 1 (length edges) then step (kind.Cat false) edges number ∷ [] else []
+
+abbrev pub whole_edge : List ℕ → ℕ → ℕ
+whole_edge edges next = if nat_lt 1 (length edges) then next else get_or edges 0 next
+
 -- the stream that a stage doesn't read is let go
+abbrev pub each_ended : ℕ → List ℕ → List Step
+each_ended number [] = []
+each_ended number (edge ∷ edges) = step kind.Drain (edge ∷ []) number ∷ each_ended number edges
+
 abbrev pub end_steps : ℕ → Coming → List Step
 end_steps number (coming.Begins begin) = []
-end_steps number (coming.On edge) = step kind.Drain (edge ∷ []) number ∷ []
+end_steps number (coming.On parts) = each_ended number parts.edges
 end_steps number coming.Nothing = []
 
 abbrev pub drain_steps : ℕ → Coming → Bool → List Step
 drain_steps number comes reads = if reads then [] else end_steps number comes
 
--- the inputs: a stream that is on an edge already has no node
+-- the inputs: a stream that is on edges already has no node
 abbrev pub kind_first : First → NodeKind
 kind_first first.Input = kind.Source from.Input
 kind_first (first.Text text) = kind.Text text
 
 abbrev pub kind_stream : Coming → Option NodeKind
 kind_stream (coming.Begins begin) = Some (kind_first begin.now)
-kind_stream (coming.On edge) = None
+kind_stream (coming.On parts) = None
 kind_stream coming.Nothing = Some (kind.Text [])
 
 abbrev pub kind_in : Coming → In → Option NodeKind
@@ -60,82 +83,129 @@ abbrev pub in_steps : ℕ → Coming → List In → List Step
 in_steps number comes ins = flat_map (λ it. input_steps number (kind_in comes it)) ins
 
 -- the edges with their texts
-abbrev pub stream_edge : Coming → ℕ → ℕ
-stream_edge (coming.Begins begin) next = next
-stream_edge (coming.On edge) next = edge
-stream_edge coming.Nothing next = next
+abbrev pub stream_edges : Coming → ℕ → List ℕ
+stream_edges (coming.Begins begin) next = next ∷ []
+stream_edges (coming.On parts) next = parts.edges
+stream_edges coming.Nothing next = next ∷ []
 
-abbrev pub in_edge : Coming → In → ℕ → ℕ
-in_edge comes inlet.Stream next = stream_edge comes next
-in_edge comes (inlet.File path closed) next = next
-in_edge comes inlet.Empty next = next
+abbrev pub input_edges : Coming → In → ℕ → List ℕ
+input_edges comes inlet.Stream next = stream_edges comes next
+input_edges comes (inlet.File path closed) next = next ∷ []
+input_edges comes inlet.Empty next = next ∷ []
 
 abbrev pub in_edges : ℕ → Coming → List In → ℕ → List ℕ
 in_edges number comes [] next = []
-in_edges number comes (it ∷ ins) next = in_edge comes it next ∷ in_edges number comes ins (behind next (input_steps number (kind_in comes it)))
-
--- the inputs on these edges are joined by a node of their own, and the edges that the utility then takes
-abbrev pub is_joined : Inv → List ℕ → Bool
-is_joined inv edges = joins_before inv && nat_lt 1 (length edges)
-
-abbrev pub join_steps : ℕ → Inv → List ℕ → List Step
-join_steps number inv edges = if is_joined inv edges then step (kind.Cat (closes_before inv)) edges number ∷ [] else []
-
-abbrev pub joined_edges : Inv → List ℕ → ℕ → List ℕ
-joined_edges inv edges next = if is_joined inv edges then next ∷ [] else edges
-
--- what a stage reads: nothing where its command is skipped
-abbrev pub read_steps : ℕ → Coming → Does → List In → ℕ → List Step
-read_steps number comes does.Skip ins next = []
-read_steps number comes (does.Util inv) ins next = in_steps number comes ins ++ join_steps number inv (in_edges number comes ins next)
-
-abbrev pub read_edges : ℕ → Coming → Does → List In → ℕ → List ℕ
-read_edges number comes does.Skip ins next = []
-read_edges number comes (does.Util inv) ins next = joined_edges inv (in_edges number comes ins next) (behind next (in_steps number comes ins))
+in_edges number comes (it ∷ ins) next = input_edges comes it next ++ in_edges number comes ins (behind next (input_steps number (kind_in comes it)))
 
 -- the stage is the segment's first
 abbrev pub begins : Coming → Bool
 begins (coming.Begins begin) = true
-begins (coming.On edge) = false
+begins (coming.On parts) = false
 begins coming.Nothing = false
 
--- a cat that leads the segment is its inputs joined, and the empty text where it has none; other utilities have a node
+-- a cat that leads the segment is its inputs, and the empty text where it has none
 abbrev pub is_leading_cat : Bool → Inv → Bool
 is_leading_cat leads inv = is_cat inv && leads
 
-abbrev pub util_steps : ℕ → Bool → Inv → List ℕ → List Step
-util_steps number leads inv edges =
-    if is_leading_cat leads inv then (if is_none edges then step (kind.Text []) [] number ∷ [] else [])
-    else step (kind.Whole inv) edges number ∷ []
+-- the inputs of other utilities are joined by a node, where they are read joined, and the edges that the utility then takes
+abbrev pub is_joined : Bool → Inv → List In → Bool
+is_joined leads inv ins = joins_before inv && (not (is_leading_cat leads inv) && nat_lt 1 (length ins))
 
--- the edge with the output
-abbrev pub util_edge : Bool → Inv → List ℕ → ℕ → ℕ
-util_edge leads inv edges next = if is_leading_cat leads inv then get_or edges 0 next else next
+abbrev pub join_steps : ℕ → Bool → Inv → List In → List ℕ → List Step
+join_steps number leads inv ins edges = if is_joined leads inv ins then step (kind.Cat (closes_before inv)) edges number ∷ [] else []
+
+abbrev pub joined_edges : Bool → Inv → List In → List ℕ → ℕ → List ℕ
+joined_edges leads inv ins edges next = if is_joined leads inv ins then next ∷ [] else edges
+
+-- what a stage reads: nothing where its command is skipped
+abbrev pub read_steps : ℕ → Coming → Does → List In → ℕ → List Step
+read_steps number comes does.Skip ins next = []
+read_steps number comes (does.Util inv) ins next =
+    in_steps number comes ins ++ join_steps number (begins comes) inv ins (in_edges number comes ins next)
+
+abbrev pub read_edges : ℕ → Coming → Does → List In → ℕ → List ℕ
+read_edges number comes does.Skip ins next = []
+read_edges number comes (does.Util inv) ins next =
+    joined_edges (begins comes) inv ins (in_edges number comes ins next) (behind next (in_steps number comes ins))
+
+-- the stream that comes is a cut list
+abbrev pub comes_cut : Coming → Bool
+comes_cut (coming.Begins begin) = false
+comes_cut (coming.On parts) = parts.cut
+comes_cut coming.Nothing = false
+
+-- a utility is spread over these parts where they are as many as the width, and else over those of a split
+abbrev pub stands : ℕ → List ℕ → Bool
+stands width edges = length edges == width
+
+abbrev pub split_steps : ℕ → ℕ → List ℕ → List Step
+split_steps width number edges = if stands width edges then [] else split_step edges width number ∷ []
+
+abbrev pub split_edges : ℕ → List ℕ → ℕ → List ℕ
+split_edges width edges next = if stands width edges then edges else range_with_len next width
+
+abbrev pub split_cut : ℕ → List ℕ → Bool → Bool
+split_cut width edges cut = if stands width edges then cut else true
+
+-- a map of each part
+abbrev pub map_steps : ℕ → Inv → List ℕ → List Step
+map_steps number inv [] = []
+map_steps number inv (edge ∷ edges) = step (kind.Map inv) (edge ∷ []) number ∷ map_steps number inv edges
+
+abbrev pub spread_steps : ℕ → ℕ → Inv → List ℕ → ℕ → List Step
+spread_steps width number inv edges next = split_steps width number edges ++ map_steps number inv (split_edges width edges next)
+
+abbrev pub spread_parts : ℕ → ℕ → Inv → Parts → ℕ → Parts
+spread_parts width number inv parts next =
+    parts_on (range_with_len (behind next (split_steps width number parts.edges)) width) (split_cut width parts.edges parts.cut && keeps_closed_of inv)
+
+-- the nodes of a utility that takes these parts
+module _ (width number : ℕ) (leads : Bool) (inv : Inv) where
+  abbrev pub util_steps : List ℕ → ℕ → List Step
+  util_steps edges next =
+      if is_leading_cat leads inv then (if is_none edges then step (kind.Text []) [] number ∷ [] else [])
+      else if is_spread width inv then spread_steps width number inv edges next else step (kind.Whole inv) edges number ∷ []
+
+  -- its output
+  abbrev pub util_parts : Parts → ℕ → Parts
+  util_parts parts next =
+      if is_leading_cat leads inv then parts_on (if is_none parts.edges then next ∷ [] else parts.edges) false
+      else if is_spread width inv then spread_parts width number inv parts next else one_part next
+
+  -- the numbers of its maps, or of its whole, where so many nodes stand before
+  abbrev pub util_nodes : List ℕ → ℕ → List ℕ
+  util_nodes edges before =
+      if is_leading_cat leads inv then []
+      else if is_spread width inv then range_with_len (before + length (split_steps width number edges)) width else before ∷ []
 
 -- what a stage does: a command that is skipped has what comes first as its output
-abbrev pub does_steps : ℕ → Bool → Does → List ℕ → List ℕ → List Step
-does_steps number leads does.Skip text edges = step (kind.Text text) [] number ∷ []
-does_steps number leads (does.Util inv) text edges = util_steps number leads inv edges
+abbrev pub does_steps : ℕ → ℕ → Bool → Does → List ℕ → List ℕ → ℕ → List Step
+does_steps width number leads does.Skip text edges next = step (kind.Text text) [] number ∷ []
+does_steps width number leads (does.Util inv) text edges next = util_steps width number leads inv edges next
 
-abbrev pub does_edge : Bool → Does → List ℕ → ℕ → ℕ
-does_edge leads does.Skip edges next = next
-does_edge leads (does.Util inv) edges next = util_edge leads inv edges next
+abbrev pub does_parts : ℕ → ℕ → Bool → Does → Parts → ℕ → Parts
+does_parts width number leads does.Skip parts next = one_part next
+does_parts width number leads (does.Util inv) parts next = util_parts width number leads inv parts next
 
--- what comes first is joined with what is on this edge
-abbrev pub before_steps : ℕ → List ℕ → ℕ → ℕ → List Step
-before_steps number text edge next =
-    if is_empty text then [] else step (kind.Text text) [] number ∷ step (kind.Cat false) (next ∷ edge ∷ []) number ∷ []
+abbrev pub does_nodes : ℕ → ℕ → Bool → Does → List ℕ → ℕ → List ℕ
+does_nodes width number leads does.Skip edges before = []
+does_nodes width number leads (does.Util inv) edges before = util_nodes width number leads inv edges before
 
-abbrev pub before_edge : List ℕ → ℕ → ℕ → ℕ
-before_edge text edge next = if is_empty text then edge else next + 1
+-- what comes first is a part before the output, which is whole then
+abbrev pub before_steps : ℕ → List ℕ → List ℕ → List Step
+before_steps number text edges = if is_empty text then [] else whole_steps number edges ++ step (kind.Text text) [] number ∷ []
 
-abbrev pub first_steps : ℕ → Does → List ℕ → ℕ → ℕ → List Step
-first_steps number does.Skip text edge next = []
-first_steps number (does.Util inv) text edge next = before_steps number text edge next
+abbrev pub before_parts : ℕ → List ℕ → Parts → ℕ → Parts
+before_parts number text parts next =
+    if is_empty text then parts else parts_on (behind next (whole_steps number parts.edges) ∷ whole_edge parts.edges next ∷ []) false
 
-abbrev pub first_edge : Does → List ℕ → ℕ → ℕ → ℕ
-first_edge does.Skip text edge next = edge
-first_edge (does.Util inv) text edge next = before_edge text edge next
+abbrev pub first_steps : ℕ → Does → List ℕ → List ℕ → List Step
+first_steps number does.Skip text edges = []
+first_steps number (does.Util inv) text edges = before_steps number text edges
+
+abbrev pub first_parts : ℕ → Does → List ℕ → Parts → ℕ → Parts
+first_parts number does.Skip text parts next = parts
+first_parts number (does.Util inv) text parts next = before_parts number text parts next
 
 -- where the output of the last stage goes
 abbrev pub piped_steps : ℕ → List ℕ → ℕ → List Step
@@ -158,12 +228,58 @@ on_steps number out.Null piped reads edge = step kind.Drain (edge ∷ []) number
 
 -- what comes to the next stage
 abbrev pub stream_comes : Bool → ℕ → Coming
-stream_comes reads next = if reads then coming.On next else coming.Nothing
+stream_comes reads next = if reads then coming.On (one_part next) else coming.Nothing
 
 abbrev pub comes_on : Out → Bool → ℕ → ℕ → Coming
-comes_on out.Next reads edge next = coming.On edge
+comes_on out.Next reads edge next = coming.On (one_part edge)
 comes_on (out.File path mode) reads edge next = stream_comes reads next
 comes_on out.Null reads edge next = stream_comes reads next
+
+-- the next stage takes the parts as they are: the stream is its one input, they are as many as the width, and cut as its class wants it
+abbrev pub takes_any : Class → Bool
+takes_any (class.S seam.Bytes) = true
+takes_any (class.S seam.Lines) = false
+takes_any class.P = false
+takes_any class.N = false
+takes_any class.E = false
+
+abbrev pub is_lone : List In → Bool
+is_lone [] = false
+is_lone (it ∷ []) = is_stream it
+is_lone (it ∷ next ∷ ins) = false
+
+abbrev pub takes_by : ℕ → Does → List In → ℕ → Bool → Bool
+takes_by width does.Skip ins count cut = false
+takes_by width (does.Util inv) ins count cut = is_spread width inv && (is_lone ins && ((count == width) && (cut || takes_any (class_of inv))))
+
+abbrev pub takes_parts : ℕ → Stage → Parts → Bool
+takes_parts width stage parts = takes_by width stage.does stage.ins (length parts.edges) parts.cut
+
+abbrev pub is_next : Out → Bool
+is_next out.Next = true
+is_next (out.File path mode) = false
+is_next out.Null = false
+
+-- the parts go on as they are
+abbrev pub hands_on : ℕ → Out → Stage → Parts → Bool
+hands_on width it following parts = is_next it && takes_parts width following parts
+
+-- where the parts of a stage's output go, where this stage comes next, and what comes to that
+module _ (width number : ℕ) (stage following : Stage) (parts : Parts) (next : ℕ) where
+  abbrev pub goes_from : List Step
+  goes_from =
+      if hands_on width stage.out following parts then []
+      else whole_steps number parts.edges ++ on_steps number stage.out stage.piped (is_reader following) (whole_edge parts.edges next)
+
+  abbrev pub comes_from : Coming
+  comes_from =
+      if hands_on width stage.out following parts then coming.On parts
+      else comes_on stage.out (is_reader following) (whole_edge parts.edges next) (behind next (whole_steps number parts.edges))
+
+-- where they go from the last stage
+abbrev pub ends_from : ℕ → Stage → Parts → ℕ → List Step
+ends_from number stage parts next =
+    whole_steps number parts.edges ++ out_steps number stage.out stage.piped (whole_edge parts.edges next) (behind next (whole_steps number parts.edges))
 
 -- a stage up to where its output goes
 module _ (number : ℕ) (comes : Coming) (stage : Stage) (next : ℕ) where
@@ -176,60 +292,76 @@ module _ (number : ℕ) (comes : Coming) (stage : Stage) (next : ℕ) where
   abbrev pub front_next : ℕ
   front_next = behind next front_steps
 
+module _ (width number : ℕ) (comes : Coming) (stage : Stage) (next : ℕ) where
   abbrev pub done_steps : List Step
-  done_steps = does_steps number (begins comes) stage.does stage.first front_edges
+  done_steps = does_steps width number (begins comes) stage.does stage.first (front_edges number comes stage next) (front_next number comes stage next)
 
-  abbrev pub done_edge : ℕ
-  done_edge = does_edge (begins comes) stage.does front_edges front_next
+  abbrev pub done_parts : Parts
+  done_parts = does_parts width number (begins comes) stage.does (parts_on (front_edges number comes stage next) (comes_cut comes)) (front_next number comes stage next)
 
   abbrev pub done_next : ℕ
-  done_next = behind front_next done_steps
+  done_next = behind (front_next number comes stage next) done_steps
 
   abbrev pub main_steps : List Step
-  main_steps = front_steps ++ (done_steps ++ first_steps number stage.does stage.first done_edge done_next)
+  main_steps = front_steps number comes stage next ++ (done_steps ++ first_steps number stage.does stage.first done_parts.edges)
 
-  abbrev pub main_edge : ℕ
-  main_edge = first_edge stage.does stage.first done_edge done_next
+  abbrev pub main_parts : Parts
+  main_parts = first_parts number stage.does stage.first done_parts done_next
 
   abbrev pub main_next : ℕ
   main_next = behind next main_steps
 
+  -- the numbers of its utility's nodes, where so many stand before the stage
+  abbrev pub main_nodes : ℕ → List ℕ
+  main_nodes before = does_nodes width number (begins comes) stage.does (front_edges number comes stage next) (before + length (front_steps number comes stage next))
+
+  -- its output on one edge
+  abbrev pub end_edge : ℕ
+  end_edge = whole_edge main_parts.edges main_next
+
+  abbrev pub end_next : ℕ
+  end_next = behind main_next (whole_steps number main_parts.edges)
+
   abbrev pub last_steps : List Step
-  last_steps = main_steps ++ out_steps number stage.out stage.piped main_edge main_next
+  last_steps = main_steps ++ ends_from number stage main_parts main_next
 
-  -- where the next stage reads its stream, or doesn't
-  abbrev pub earlier_steps : Bool → List Step
-  earlier_steps reads = main_steps ++ on_steps number stage.out stage.piped reads main_edge
+  -- where this stage comes next
+  module _ (following : Stage) where
+    abbrev pub goes_steps : List Step
+    goes_steps = goes_from width number stage following main_parts main_next
 
-  abbrev pub comes_behind : Bool → Coming
-  comes_behind reads = comes_on stage.out reads main_edge main_next
+    abbrev pub comes_behind : Coming
+    comes_behind = comes_from width number stage following main_parts main_next
+
+    abbrev pub earlier_steps : List Step
+    earlier_steps = main_steps ++ goes_steps
 
 -- all stages
-abbrev pub chain_steps : ℕ → Coming → List Stage → ℕ → List Step
-chain_steps number comes [] next = []
-chain_steps number comes (stage ∷ []) next = last_steps number comes stage next
-chain_steps number comes (stage ∷ following ∷ stages) next =
-    earlier_steps number comes stage next (is_reader following)
-    ++ chain_steps (number + 1) (comes_behind number comes stage next (is_reader following)) (following ∷ stages) (behind next (earlier_steps number comes stage next (is_reader following)))
+abbrev pub chain_steps : ℕ → ℕ → Coming → List Stage → ℕ → List Step
+chain_steps width number comes [] next = []
+chain_steps width number comes (stage ∷ []) next = last_steps width number comes stage next
+chain_steps width number comes (stage ∷ following ∷ stages) next =
+    earlier_steps width number comes stage next following
+    ++ chain_steps width (number + 1) (comes_behind width number comes stage next following) (following ∷ stages) (behind next (earlier_steps width number comes stage next following))
 
--- the number of the last stage's utility among these nodes
-abbrev pub chain_node : ℕ → Coming → List Stage → ℕ → ℕ
-chain_node number comes [] next = 0
-chain_node number comes (stage ∷ []) next = length (front_steps number comes stage next)
-chain_node number comes (stage ∷ following ∷ stages) next =
-    length (earlier_steps number comes stage next (is_reader following))
-    + chain_node (number + 1) (comes_behind number comes stage next (is_reader following)) (following ∷ stages) (behind next (earlier_steps number comes stage next (is_reader following)))
+-- the numbers of the nodes of the last stage's utility, where so many stand before these stages
+abbrev pub chain_nodes : ℕ → ℕ → Coming → List Stage → ℕ → ℕ → List ℕ
+chain_nodes width number comes [] next before = []
+chain_nodes width number comes (stage ∷ []) next before = main_nodes width number comes stage next before
+chain_nodes width number comes (stage ∷ following ∷ stages) next before =
+    chain_nodes width (number + 1) (comes_behind width number comes stage next following) (following ∷ stages) (behind next (earlier_steps width number comes stage next following))
+    (before + length (earlier_steps width number comes stage next following))
 
--- the status rule is that of the last stage: that of grep goes by its node
-abbrev pub grep_rule : Bool → ℕ → ℕ → StatusRule
-grep_rule quiet status node =
-    if status == 0 then ruled.Selected (node ∷ []) 0 1 else if quiet then ruled.Selected (node ∷ []) 0 status else ruled.Fixed status
+-- the status rule is that of the last stage: that of grep goes by its nodes
+abbrev pub grep_rule : Bool → ℕ → List ℕ → StatusRule
+grep_rule quiet status nodes =
+    if status == 0 then ruled.Selected nodes 0 1 else if quiet then ruled.Selected nodes 0 status else ruled.Fixed status
 
-abbrev pub rule_by : Does → ℕ → ℕ → StatusRule
-rule_by does.Skip status node = ruled.Fixed status
-rule_by (does.Util inv) status node = if is_grep inv then grep_rule (is_quiet inv) status node else ruled.Fixed status
+abbrev pub rule_by : Does → ℕ → List ℕ → StatusRule
+rule_by does.Skip status nodes = ruled.Fixed status
+rule_by (does.Util inv) status nodes = if is_grep inv then grep_rule (is_quiet inv) status nodes else ruled.Fixed status
 
-abbrev pub chain_rule : List Stage → ℕ → StatusRule
-chain_rule [] node = ruled.Fixed 0
-chain_rule (stage ∷ []) node = rule_by stage.does stage.status node
-chain_rule (stage ∷ following ∷ stages) node = chain_rule (following ∷ stages) node
+abbrev pub chain_rule : List Stage → List ℕ → StatusRule
+chain_rule [] nodes = ruled.Fixed 0
+chain_rule (stage ∷ []) nodes = rule_by stage.does stage.status nodes
+chain_rule (stage ∷ following ∷ stages) nodes = chain_rule (following ∷ stages) nodes

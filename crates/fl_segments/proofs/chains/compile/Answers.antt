@@ -1,0 +1,56 @@
+use Rattle.fl_segments.proofs.ChainLemmas.{chained_if, if_ok}
+use Rattle.fl_segments.proofs.chains.compile.Goals as goal
+
+pub returns-clause-valid : goal.returns-clause-valid
+returns-clause-valid c =
+    if_ok c.chain_graph.result
+    (chained_if c.args.width c.chain_graph.result c.args.from c.args.segment.now c.requires.some c.requires.stages c.requires.paths c.chain_graph.ensures.nodes c.chain_graph.ensures.status)
+    (λ graph is. is.valid)
+
+pub returns-clause-kinds : goal.returns-clause-kinds
+returns-clause-kinds c =
+    if_ok c.chain_graph.result
+    (chained_if c.args.width c.chain_graph.result c.args.from c.args.segment.now c.requires.some c.requires.stages c.requires.paths c.chain_graph.ensures.nodes c.chain_graph.ensures.status)
+    (λ graph is. is.kinds)
+
+pub returns-clause-reads : goal.returns-clause-reads
+returns-clause-reads c =
+    if_ok c.chain_graph.result
+    (chained_if c.args.width c.chain_graph.result c.args.from c.args.segment.now c.requires.some c.requires.stages c.requires.paths c.chain_graph.ensures.nodes c.chain_graph.ensures.status)
+    (λ graph is. is.reads)
+
+pub returns-clause-writes : goal.returns-clause-writes
+returns-clause-writes c =
+    if_ok c.chain_graph.result
+    (chained_if c.args.width c.chain_graph.result c.args.from c.args.segment.now c.requires.some c.requires.stages c.requires.paths c.chain_graph.ensures.nodes c.chain_graph.ensures.status)
+    (λ graph is. is.writes)
+
+pub returns-clause-input : goal.returns-clause-input
+returns-clause-input c =
+    if_ok c.chain_graph.result
+    (chained_if c.args.width c.chain_graph.result c.args.from c.args.segment.now c.requires.some c.requires.stages c.requires.paths c.chain_graph.ensures.nodes c.chain_graph.ensures.status)
+    (λ graph is. is.input)
+
+pub returns-clause-output : goal.returns-clause-output
+returns-clause-output c =
+    if_ok c.chain_graph.result
+    (chained_if c.args.width c.chain_graph.result c.args.from c.args.segment.now c.requires.some c.requires.stages c.requires.paths c.chain_graph.ensures.nodes c.chain_graph.ensures.status)
+    (λ graph is. is.output)
+
+pub returns-clause-outcome : goal.returns-clause-outcome
+returns-clause-outcome c =
+    if_ok c.chain_graph.result
+    (chained_if c.args.width c.chain_graph.result c.args.from c.args.segment.now c.requires.some c.requires.stages c.requires.paths c.chain_graph.ensures.nodes c.chain_graph.ensures.status)
+    (λ graph is. is.outcome)
+
+pub returns-clause-used : goal.returns-clause-used
+returns-clause-used c =
+    if_ok c.chain_graph.result
+    (chained_if c.args.width c.chain_graph.result c.args.from c.args.segment.now c.requires.some c.requires.stages c.requires.paths c.chain_graph.ensures.nodes c.chain_graph.ensures.status)
+    (λ graph is. is.used)
+
+pub returns-clause-spread : goal.returns-clause-spread
+returns-clause-spread c =
+    if_ok c.chain_graph.result
+    (chained_if c.args.width c.chain_graph.result c.args.from c.args.segment.now c.requires.some c.requires.stages c.requires.paths c.chain_graph.ensures.nodes c.chain_graph.ensures.status)
+    (λ graph is. is.spread)

@@ -1,0 +1,46 @@
+-- How a segment is spread at a width (own): how many maps and wholes each stage has. The code makes them stage by stage.
+use Rattle.std.specs.Prelude.{◌≡◌, ℕ, List, Bool, true, false, ◌&&◌, ◌==◌, if◌then◌else◌, slice_get, Some}
+use Rattle.std.specs.List.{count_by, list_all}
+use Rattle.fl_graph.specs.declared.graphs.Cell.{Cell}
+use Rattle.fl_graph.specs.declared.kinds.NodeKind.{NodeKind}
+use Rattle.fl_graph.specs.declared.kinds.NodeKind.TheVariants as kind
+use Rattle.fl_classes.specs.Used.{is_cat}
+use Rattle.fl_segments.specs.Stages.{is_spread}
+use Rattle.fl_segments.specs.declared.stages.Does.{Does}
+use Rattle.fl_segments.specs.declared.stages.Does.TheVariants as does
+use Rattle.fl_segments.specs.declared.stages.Stage.{Stage}
+
+abbrev pub is_map : NodeKind → Bool
+is_map (kind.Map inv) = true
+is_map other = false
+
+abbrev pub is_whole : NodeKind → Bool
+is_whole (kind.Whole inv) = true
+is_whole other = false
+
+abbrev pub is_unsplit : NodeKind → Bool
+is_unsplit kind.Split = false
+is_unsplit other = true
+
+-- how many nodes of the stage with this number are such
+abbrev pub count_at : ℕ → (NodeKind → Bool) → List (Cell NodeKind) → ℕ
+count_at number test nodes = count_by (λ cell. (cell.stage == number) && test cell.kind) nodes
+
+-- how many maps and wholes a stage has, which is the segment's first or isn't: a cat that leads the segment has none
+abbrev pub maps_of : ℕ → Bool → Does → ℕ
+maps_of width leads does.Skip = 0
+maps_of width leads (does.Util inv) = if is_cat inv && leads then 0 else if is_spread width inv then width else 0
+
+abbrev pub wholes_of : ℕ → Bool → Does → ℕ
+wholes_of width leads does.Skip = 0
+wholes_of width leads (does.Util inv) = if is_cat inv && leads then 0 else if is_spread width inv then 0 else 1
+
+pub record HasItsMaps (width number : ℕ) (stage : Stage) (nodes : List (Cell NodeKind)) : Type 0 where
+  pub maps : count_at number is_map nodes ≡ maps_of width (number == 0) stage.does
+  pub wholes : count_at number is_whole nodes ≡ wholes_of width (number == 0) stage.does
+
+pub record IsSpread (width : ℕ) (segment : List Stage) (nodes : List (Cell NodeKind)) : Type 0 where
+  -- each stage has its maps or its whole
+  pub stages : (number : ℕ) (stage : Stage) → slice_get segment number ≡ Some stage → HasItsMaps width number stage nodes
+  -- nothing is split where there is one part
+  pub unsplit : width ≡ 1 → list_all (λ cell. is_unsplit cell.kind) nodes ≡ true

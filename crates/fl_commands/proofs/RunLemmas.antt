@@ -1,7 +1,7 @@
 -- What comes of stages that are run, from what comes of their graph.
 use Rattle.std.proofs.Common.{◌≡◌, inl, ℕ, zero, suc, ◌≤◌, ◌<◌, ◌+◌, List, [], ◌∷◌, ◌++◌, Bool, true, false, ◌||◌, nat_lt, if◌then◌else◌, length, map, slice_get, Option, Some, None, Err, refl, sym, ap, ◌∙◌, subst, arith}
 use Rattle.std.specs.List.{cons_option, list_any}
-use Rattle.std.specs.Option.{option_map}
+use Rattle.std.specs.Option.{IfSome, option_map}
 use Rattle.std.proofs.lemmas.Bool.{lt-ltb, true≢false}
 use Rattle.std.proofs.lemmas.List.{length-map}
 use Rattle.ps_world.specs.Counts.{Rose}
@@ -28,28 +28,32 @@ use Rattle.fl_classes.specs.Kinds.{are_run}
 use Rattle.fl_classes.specs.Used.{words_used}
 use Rattle.fl_classes.specs.Sources.{source_texts}
 use Rattle.fl_core.specs.EndLists.{file_nodes, file_sources, numbers_of, reads_file, writes_file}
+use Rattle.fl_core.specs.Engines.{then_used}
+use Rattle.fl_core.specs.Logs.{Log, with_words}
 use Rattle.fl_core.specs.OwnEnds.{EndCounts, IfCame, IsTold, RoseAmong, RunsOwn, counts_by, each_of, has_input}
 use Rattle.fl_core.specs.OwnEnds.{HasCause as CauseOf}
 use Rattle.fl_core.specs.declared.end_lists.Ends.{Ends}
 use Rattle.fl_core.specs.declared.own_ends.Came.{Came}
 use Rattle.fl_core.specs.declared.own_ends.Came.TheVariants as came
 use Rattle.fl_segments.specs.Chains.{begins_with, chain_means}
+use Rattle.fl_segments.specs.Noted.{noted_in, used_at}
 use Rattle.fl_segments.specs.Stages.{files_read, files_written, reads_input, words_at}
 use Rattle.fl_segments.specs.declared.stages.First.{First}
 use Rattle.fl_segments.specs.declared.stages.Stage.{Stage}
+use Rattle.fl_segments.proofs.NotedLemmas.{used-so}
 use Rattle.fl_commands.specs.Inner.Overs.{Opens, RunsOver, ended_by, ended_of}
 use Rattle.fl_commands.specs.Inner.Segments.{IsGraphOf, segment_asks}
 use Rattle.fl_commands.specs.Readers.{has_count}
-use Rattle.fl_commands.specs.Runs.{Asks, Counts, HasCause, IfDone, NoFewer, Runs, counts_of, left_behind}
+use Rattle.fl_commands.specs.Runs.{Asks, Counts, HasCause, IfDone, NoFewer, Runs, counts_of, left_behind, with_noted}
 use Rattle.fl_commands.specs.declared.runs.Ended.{Ended}
 use Rattle.fl_commands.specs.declared.runs.Ended.TheVariants as ended
 
 -- what is said of the graph of stages that write no file, in one
-pub graph-so : (segment : List Stage) (from : First) (graph : Graph) → Valid graph.nodes graph.status → are_run graph.nodes ≡ true → paths_read graph.nodes ≡ files_read segment
+pub graph-so : (width : ℕ) (segment : List Stage) (from : First) (graph : Graph) → Valid graph.nodes graph.status → are_run graph.nodes ≡ true → paths_read graph.nodes ≡ files_read segment
     → paths_written graph.nodes ≡ files_written segment → files_written segment ≡ [] → list_any (λ cell. is_input cell.kind) graph.nodes ≡ reads_input segment from
     → ((input : List ℕ) (files : Components → List ℕ) → outcome graph (source_texts graph.nodes input files) ≡ chain_means segment (begins_with from input) files)
-    → words_used graph.nodes ≡ words_at 1 segment → IsGraphOf segment from graph
-graph-so segment from graph valid kinds reads writes none input outcome_is used =
+    → words_used graph.nodes ≡ words_at width segment → IsGraphOf width segment from graph
+graph-so width segment from graph valid kinds reads writes none input outcome_is used =
     record { valid = valid; kinds = kinds; reads = reads; writes = writes ∙ none; input = input; outcome_is = outcome_is; used = used }
 
 -- HOW MANY ENDS A GRAPH HAS
@@ -97,7 +101,7 @@ each-same tell one other same = each-ends tell one ∙ ap (map tell) same ∙ sy
 
 -- a run that wants memory before it begins leaves all as it was
 module _ {R W I O : Type 0} (of_reader : R → Option (List ℕ)) (of_input : I → Option (List ℕ)) (of_writer : W → Option (List ℕ)) (of_output : O → Option (List ℕ))
-    (reader_faults : R → ℕ) (writer_faults : W → ℕ) (input_faults : I → ℕ) (output_faults : O → ℕ) (graph : Graph) (ends : Ends R W I O) (used : Option (List (List (List ℕ)))) where
+    (reader_faults : R → ℕ) (writer_faults : W → ℕ) (input_faults : I → ℕ) (output_faults : O → ℕ) (graph : Graph) (ends : Ends R W I O) (used : Option Log) where
   pub not-begun : RunsOwn of_reader of_input of_writer of_output reader_faults writer_faults input_faults output_faults graph ends used used came.Memory ends
   not-begun = record {
     leaves = λ input files told. tt;
@@ -119,13 +123,13 @@ no-fewer : (counts : Counts) → NoFewer counts counts
 no-fewer counts = record { input = omega arith; output = omega arith; tree = omega arith }
 
 -- what is asked for alike comes of the same runs
-pub asked-alike : (one other : Asks) → one ≡ other → (tree tree' : TreeState) (left left' taken taken' : Option (List ℕ)) (old new : Counts) (used used' : Option (List (List (List ℕ)))) (how : Ended)
+pub asked-alike : (one other : Asks) → one ≡ other → (tree tree' : TreeState) (left left' taken taken' : Option (List ℕ)) (old new : Counts) (used used' : Option Log) (how : Ended)
     → Runs one tree tree' left left' taken taken' old new used used' how → Runs other tree tree' left left' taken taken' old new used used' how
 asked-alike one other same tree tree' left left' taken taken' old new used used' how ran =
     subst (λ (asks : Asks). Runs asks tree tree' left left' taken taken' old new used used' how) same ran
 
 -- nothing was done
-pub nothing-ran : (asks : Asks) (tree : TreeState) (left taken : Option (List ℕ)) (counts : Counts) (used : Option (List (List (List ℕ))))
+pub nothing-ran : (asks : Asks) (tree : TreeState) (left taken : Option (List ℕ)) (counts : Counts) (used : Option Log)
     → Runs asks tree tree left left taken taken counts counts used used ended.Memory
 nothing-ran asks tree left taken counts used = record {
   output = λ input files told is. tt;
@@ -140,7 +144,7 @@ nothing-ran asks tree left taken counts used = record {
 }
 
 -- a file wasn't opened
-pub none-opened : {Given : Type 0} (asks : Asks) (tree tree' : TreeState) (left taken : Option (List ℕ)) (input output before now : ℕ) (used : Option (List (List (List ℕ))))
+pub none-opened : {Given : Type 0} (asks : Asks) (tree tree' : TreeState) (left taken : Option (List ℕ)) (input output before now : ℕ) (used : Option Log)
     (error : WorldErr) → Balanced tree tree' → tree'.held ≡ tree.held → CountsOf {T = Given} before now (Err error)
     → Runs asks tree tree' left left taken taken (counts_of input output before) (counts_of input output now) used used (ended_of error)
 none-opened asks tree tree' left taken input output before now used error.Failed lent held counts = record {
@@ -211,9 +215,9 @@ done-all came.Memory all = tt
 
 module _ {R W I O : Type 0} (of_reader : R → Option (List ℕ)) (of_input : I → Option (List ℕ)) (of_writer : W → Option (List ℕ)) (of_output : O → Option (List ℕ))
     (reader_faults : R → ℕ) (writer_faults : W → ℕ) (input_faults : I → ℕ) (output_faults : O → ℕ)
-    (segment : List Stage) (from : First) (graph : Graph) (is : IsGraphOf segment from graph)
+    (width : ℕ) (segment : List Stage) (from : First) (graph : Graph) (is : IsGraphOf width segment from graph)
     (first mid last : TreeState) (readers : List (ℕ × R)) (opens : Opens of_reader reader_faults segment first mid readers) (held_mid : mid.held ≡ first.held)
-    (input : I) (out : O) (used used' : Option (List (List (List ℕ)))) (how : Came) (back : Ends R W I O)
+    (input : I) (out : O) (used used' : Option Log) (how : Came) (back : Ends R W I O)
     (over : RunsOver of_reader of_input of_writer of_output reader_faults writer_faults input_faults output_faults graph readers input out used used' how back) where
   -- as many readers come back, and no writer
   pub readers-back : length back.readers.items ≡ length readers
@@ -231,7 +235,7 @@ module _ {R W I O : Type 0} (of_reader : R → Option (List ℕ)) (of_input : I 
 
   module _ (before between now : ℕ) (calm_mid : between ≡ before)
       (given_back : (begun : TreeState) → AreOut (length back.readers.items) begun mid → Balanced begun last) (held_last : last.held ≡ mid.held) (later : between ≤ now)
-      (calm : has_count (each_of reader_faults back.readers.items) ≡ false → now ≡ between) (rises : has_count (each_of reader_faults back.readers.items) ≡ true → Rose between now) where
+      (is_width : IfSome used (λ log. width ≡ log.width)) (calm : has_count (each_of reader_faults back.readers.items) ≡ false → now ≡ between) (rises : has_count (each_of reader_faults back.readers.items) ≡ true → Rose between now) where
     read-so : (reads : Bool) → has_input graph.nodes ≡ reads → IfDone (ended_by how) (λ status. of_input back.input ≡ left_behind reads (of_input input))
     read-so true has = done-so how (over.runs.read has) (λ status read. read ∙ ap (λ (it : I). option_map (λ _. []) (of_input it)) over.input_is)
     read-so false has = done-all how (λ status. ap of_input (over.runs.input has ∙ over.input_is))
@@ -256,6 +260,12 @@ module _ {R W I O : Type 0} (of_reader : R → Option (List ℕ)) (of_input : I 
     cause-so came.Writer rose = tt
     cause-so came.Memory same = tt
 
+    -- the engine's words are those of the utilities that are noted
+    noted-so : (told : Option Log) → IfSome told (λ log. width ≡ log.width) → then_used told graph ≡ option_map (with_noted (noted_in segment)) told
+    noted-so None is_width = refl
+    noted-so (Some log) is_width =
+        ap (λ words. Some (with_words words log)) (is.used ∙ used-so width segment ∙ ap (λ it. used_at it (noted_in segment)) is_width)
+
     pub ran-so : Runs (segment_asks segment from) first last (of_input input) (of_input back.input) (of_output out) (of_output back.out)
         (counts_of (input_faults input) (output_faults out) before) (counts_of (input_faults back.input) (output_faults back.out) now) used used' (ended_by how)
     ran-so =
@@ -266,7 +276,7 @@ module _ {R W I O : Type 0} (of_reader : R → Option (List ℕ)) (of_input : I 
           status = λ text files told is_text. done-so how (over.runs.leaves text (bytes_at files) (told-so text files told is_text)) (λ status left.
               left.status ∙ ap (λ (it : Outcome). it.status) (is.outcome_is text (bytes_at files)));
           read = read-so (reads_input segment from) is.input;
-          noted = done-so how over.runs.used_whole (λ status noted. noted ∙ ap (λ (words : List (List (List ℕ))). option_map (λ used. used ++ words) used) is.used);
+          noted = done-so how over.runs.used_whole (λ status noted. noted ∙ noted-so used is_width);
           part = λ text files told is_text.
               subst (λ (it : Outcome). GrewByPrefix (of_output out) (of_output back.out) it.output) (is.outcome_is text (bytes_at files))
               (subst (λ (it : O). GrewByPrefix (of_output it) (of_output back.out) (outcome graph (source_texts graph.nodes text (bytes_at files))).output) over.out_is

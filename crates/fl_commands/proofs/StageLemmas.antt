@@ -1,58 +1,57 @@
 -- The stages of utilities, and what they mean.
 use Rattle.std.proofs.Common.{◌≡◌, ℕ, zero, suc, ◌<◌, ◌^◌, ◌+◌, min, List, [], ◌∷◌, ◌++◌, Bool, true, false, not, ◌&&◌, ◌||◌, ◌==◌, nat_le, if◌then◌else◌, length, map, take, drop, ◌-◌, get_or, Option, Some, None, IfSome, refl, sym, ap, ◌∙◌, subst, append-nil, arith}
-use Rattle.std.specs.List.{count_by, filter, filter_map, list_all, list_any, flat_map}
-use Rattle.std.specs.Prelude.{replicate}
-use Rattle.std.proofs.lemmas.Bool.{true≢false, eq-eqb, le-leb, ne_eqb}
+use Rattle.std.specs.List.{count_by, filter, filter_map, list_all, list_any}
+use Rattle.std.proofs.lemmas.Bool.{true≢false, eq-eqb, le-leb, ne_eqb, or_parts}
 use Rattle.std.proofs.lemmas.List.Folds.{list_any-append}
+use Rattle.std.proofs.lemmas.List.Sums.{length-filter}
 use Rattle.ps_world.specs.Files.{Files, NoWriterOut, bytes_at}
 use Rattle.ps_world.specs.Paths.{Components}
 use Rattle.ps_world.specs.Places.{is_null_path}
 use Rattle.ut_args.specs.Built.{is_built_by, is_built_of}
-use Rattle.ut_args.specs.Classes.{class_of}
-use Rattle.ut_args.specs.Inputs.{counted, emptied, inputs_by, inputs_of, is_named, joined_inputs, operands_by, operands_of, remaining, separate_inputs, with_operands}
+use Rattle.ut_args.specs.Classes.{class_by, class_of}
+use Rattle.ut_args.specs.Inputs.{counted, emptied, inputs_by, inputs_of, is_file, is_named, is_standard, joined_inputs, operands_by, operands_of, remaining, separate_inputs, shared_inputs, with_operands}
 use Rattle.ut_args.specs.Invocations.{command_of, words_of}
+use Rattle.ut_args.specs.declared.classes.Class.{Class}
 use Rattle.ut_args.specs.declared.commands.Command.{Command}
 use Rattle.ut_args.specs.declared.commands.Command.TheVariants as command
 use Rattle.ut_args.specs.declared.invocations.Inv.{Inv}
 use Rattle.ut_args.specs.declared.invocations.Inv.TheVariants as inv
-use Rattle.ut_args.proofs.OperandLemmas.{all-named, joined-named, named-emptied, separate-named}
+use Rattle.ut_args.specs.declared.commands.PasteArgs.{PasteArgs}
+use Rattle.ut_args.proofs.OperandLemmas.{class-emptied, joined-named, separate-named}
 use Rattle.ut_streams.specs.Utilities.{Input, Utility}
+use Rattle.ut_slices.specs.Paste.{paste, paste_output}
 use Rattle.fl_graph.specs.Kinds.{is_grep}
 use Rattle.fl_graph.specs.Paths.{ArePathsApart}
-use Rattle.fl_graph.specs.Kinds.{has_map}
 use Rattle.fl_classes.specs.Flow.{Outcome}
 use Rattle.fl_classes.specs.Used.{is_cat, words_with}
 use Rattle.fl_classes.specs.Utilities.{labelled, names_of, output_of, selects_of, silent, utility_by, utility_of}
-use Rattle.fl_classes.proofs.OperandLemmas.{apart_from_own, built-without, names-left, operands-without, utility-without}
+use Rattle.fl_classes.proofs.OperandLemmas.{built-without, names-left, operands-without}
 use Rattle.fl_segments.specs.Chains.{begins_with, chain_means, grep_status, is_quiet, joined_text, joined_texts, reports_nothing, stage_means, status_by, text_in, texts_by, then_left}
+use Rattle.fl_segments.specs.Noted.{Noted, noted_as, noted_by, noted_in}
 use Rattle.fl_segments.specs.Stages as S
-use Rattle.fl_segments.specs.Stages.{closes_by, file_in, file_out, files_read, files_written, fits, is_shell_input, is_stage, is_stream, is_tee, joins_by, read_of, reads_stream, times, words_at, words_by}
+use Rattle.fl_segments.specs.Stages.{closes_by, file_in, file_out, files_read, files_written, fits, is_shell_input, is_stage, is_stream, is_tee, joins_by, may_spread, read_of, reads_stream, spreads}
 use Rattle.fl_segments.specs.declared.stages.Does.TheVariants as does
 use Rattle.fl_segments.specs.declared.stages.First.{First}
 use Rattle.fl_segments.specs.declared.stages.In.{In}
 use Rattle.fl_segments.specs.declared.stages.Out.TheVariants as out
 use Rattle.fl_segments.specs.declared.stages.Stage.{Stage}
 use Rattle.fl_commands.specs.Inner.Segments.{AllThere, segment_asks}
-use Rattle.fl_commands.specs.Inner.Stages.{AreStagesOf, IsStageOf, inputs_with, left_by, plain_status, some_lacks, words_noted}
-use Rattle.fl_commands.specs.Inputs.{inputs_read, output_for, selects_for, status_of}
+use Rattle.fl_commands.specs.Inner.Stages.{AreStagesOf, IsStageOf, command_left, inputs_with, left_by, plain_status, run_noted, some_lacks, words_left}
+use Rattle.fl_commands.specs.Inputs.{calls_cat, inputs_read, output_for, selects_for, spreads_over, status_of}
 use Rattle.fl_commands.specs.Inputs.{joined_inputs as joined_for}
 use Rattle.fl_commands.specs.Members.{AllCanRun, AllNamesStand, member_inputs, member_output, noted_of, output_through, reads_first, status_through}
-use Rattle.fl_commands.specs.Operands.{AllStand, AreNamed, ins_of, lacks}
+use Rattle.fl_commands.specs.Operands.{AllStand, AreNamed, deals, ins_of, lacks, without_input}
 use Rattle.fl_commands.specs.Readers.{AreThere}
 use Rattle.fl_commands.specs.Runs.{command_asks, pipeline_asks}
 use Rattle.fl_commands.specs.declared.members.Member.{Member}
 use Rattle.fl_commands.specs.declared.operands.Operand.{Operand}
-use Rattle.fl_commands.proofs.InputLemmas.{ins-most, ins-there, left-named, length-left, no-null-of, one-stream}
+use Rattle.fl_commands.proofs.InputLemmas.{inputs_named, ins-most, ins-there, left-named, named-count, no-null-of, one-stream, one_of, without-plain}
 
--- HOW MANY INPUTS. So many are named by operands that stand in the words
-inputs_named : List (List ℕ) → ℕ
-inputs_named [] = 1
-inputs_named (operand ∷ operands) = length (filter is_named (operand ∷ operands))
-
+-- HOW MANY INPUTS a command has, by its operands
 few-counted : (count : ℕ) → count < 2 ^ 32 → counted count ≡ count
 few-counted count few = omega (arith, few)
 
-joined-count : (operands : List (List ℕ)) → joined_inputs operands ≡ (if inputs_named operands == 0 then 0 else 1)
+joined-count : (operands : List (List ℕ)) → joined_inputs operands ≡ (if inputs_named false operands == 0 then 0 else 1)
 unfolding inputs_named
 joined-count [] = refl
 joined-count (operand ∷ operands) = joined-named operand operands ∙ by_count (length (filter is_named (operand ∷ operands)))
@@ -63,14 +62,27 @@ joined-count (operand ∷ operands) = joined-named operand operands ∙ by_count
         let one : min 1 (suc count) ≡ 1 = omega arith in
         one ∙ ap (λ test. if test then 0 else 1) (sym (ne_eqb (suc count) 0 (λ is. let same = is in omega (arith, same))))
 
-separate-count : (operands : List (List ℕ)) → inputs_named operands < 2 ^ 32 → separate_inputs operands ≡ inputs_named operands
+separate-count : (operands : List (List ℕ)) → inputs_named false operands < 2 ^ 32 → separate_inputs operands ≡ inputs_named false operands
 unfolding inputs_named
 separate-count [] few = refl
 separate-count (operand ∷ operands) few = separate-named operand operands ∙ few-counted (length (filter is_named (operand ∷ operands))) few
 
+shared-count : (operands : List (List ℕ)) → inputs_named true operands < 2 ^ 32 → shared_inputs operands ≡ inputs_named true operands
+unfolding inputs_named
+shared-count [] few = refl
+shared-count (operand ∷ operands) few =
+    ap (λ files. counted (files + one_of (list_any is_standard (operand ∷ operands)))) (sym (length-filter is_file (operand ∷ operands)))
+    ∙ few-counted (length (filter is_file (operand ∷ operands)) + one_of (list_any is_standard (operand ∷ operands))) few
+
+-- those of paste, which deals lines where it isn't serial
+paste-count : (serial : Bool) (operands : List (List ℕ)) → inputs_named (not serial) operands < 2 ^ 32
+    → (if serial then separate_inputs operands else shared_inputs operands) ≡ inputs_named (not serial) operands
+paste-count true operands few = separate-count operands few
+paste-count false operands few = shared-count operands few
+
 -- a command that is built reads as many as are named, or their one joined text
-inputs-fit : (asked : Command) → is_built_by asked ≡ true → inputs_named (operands_by asked) < 2 ^ 32
-    → inputs_by asked ≡ (if joins_by asked then (if inputs_named (operands_by asked) == 0 then 0 else 1) else inputs_named (operands_by asked))
+inputs-fit : (asked : Command) → is_built_by asked ≡ true → inputs_named (deals asked) (operands_by asked) < 2 ^ 32
+    → inputs_by asked ≡ (if joins_by asked then (if inputs_named (deals asked) (operands_by asked) == 0 then 0 else 1) else inputs_named (deals asked) (operands_by asked))
 unfolding inputs_named
 inputs-fit (command.Cat args) built few = joined-count args.operands
 inputs-fit (command.Grep args) built few = separate-count args.operands few
@@ -81,42 +93,46 @@ inputs-fit (command.Tail args) built few = separate-count args.operands few
 inputs-fit (command.Wc args) built few = separate-count args.operands few
 inputs-fit (command.Uniq args) built few = separate-count args.operands few
 inputs-fit (command.Sort args) built few = joined-count args.operands
+inputs-fit (command.Paste args) built few = paste-count args.serial args.operands few
 inputs-fit other built few = absurd (true≢false (sym built))
 
--- THE INVOCATION WITHOUT THE OPERANDS THAT HAVE NO INPUT
-module _ (inv' : Inv) (operands : List Operand) (without : Inv) (asks : command_of without ≡ with_operands (emptied (map lacks operands) (operands_of inv')) (command_of inv'))
-    (named : AreNamed (operands_of inv') operands) where
-  abbrev flags : List Bool
-  flags = map lacks operands
+-- whether lines are dealt doesn't hang on the operands
+deals-emptied : (given : List (List ℕ)) (asked : Command) → deals (with_operands given asked) ≡ deals asked
+deals-emptied given (command.Cat args) = refl
+deals-emptied given (command.Grep args) = refl
+deals-emptied given (command.Cut args) = refl
+deals-emptied given (command.Head args) = refl
+deals-emptied given (command.Tail args) = refl
+deals-emptied given (command.Wc args) = refl
+deals-emptied given (command.Uniq args) = refl
+deals-emptied given (command.Sort args) = refl
+deals-emptied given (command.Paste args) = refl
+deals-emptied given other = refl
 
-  abbrev texts : List (List ℕ)
-  texts = operands_of inv'
+-- THE INVOCATION WITHOUT THE OPERANDS THAT HAVE NO INPUT
+module _ (inv' : Inv) (operands : List Operand) (without : Inv) (asks : command_of without ≡ command_left (command_of inv') operands) (named : AreNamed (operands_of inv') operands) where
+  abbrev its-ins : List In
+  its-ins = ins_of (deals (command_of inv')) operands
 
   -- it has as many inputs as there are
-  named-count : inputs_named (operands_of without) ≡ length (ins_of operands)
-  unfolding inputs_named
-  named-count = ap inputs_named (operands-without inv' without flags asks) ∙ by_operands texts operands named
-    where
-      by_operands : (given : List (List ℕ)) (found : List Operand) → AreNamed given found → inputs_named (emptied (map lacks found) given) ≡ length (ins_of found)
-      by_operands [] [] are = refl
-      by_operands [] (first ∷ rest) are = absurd are
-      by_operands (text ∷ given) [] are = absurd are
-      by_operands (text ∷ given) (first ∷ rest) are =
-          ap (λ it. length it) (named-emptied (map lacks (first ∷ rest)) (text ∷ given) ∙ all-named (remaining (map lacks (first ∷ rest)) (text ∷ given)) (left-named (text ∷ given) (first ∷ rest) are))
-          ∙ sym (length-left false (text ∷ given) (first ∷ rest) are)
+  as-named : inputs_named (deals (command_of without)) (operands_of without) ≡ length its-ins
+  as-named =
+      ap (λ (it : Bool). inputs_named it (operands_of without)) (ap deals asks ∙ deals-emptied (emptied (map lacks operands) (operands_of inv')) (command_of inv'))
+      ∙ ap (inputs_named (deals (command_of inv'))) (operands-without inv' without (map lacks operands) asks)
+      ∙ named-count (deals (command_of inv')) (operands_of inv') operands named
 
-  module _ (built : is_built_of inv' ≡ true) (few : length (ins_of operands) < 2 ^ 32) where
+  module _ (built : is_built_of inv' ≡ true) (few : length its-ins < 2 ^ 32) where
     still-built : is_built_of without ≡ true
-    still-built = built-without inv' without flags asks ∙ built
+    still-built = built-without inv' without (map lacks operands) asks ∙ built
 
-    reads-all : inputs_of without ≡ read_of without (length (ins_of operands))
+    reads-all : inputs_of without ≡ read_of without (length its-ins)
     reads-all =
-        inputs-fit (command_of without) still-built (subst (λ (it : ℕ). it < 2 ^ 32) (sym named-count) few)
-        ∙ ap (λ (it : ℕ). if joins_by (command_of without) then (if it == 0 then 0 else 1) else it) named-count
+        inputs-fit (command_of without) still-built (subst (λ (it : ℕ). it < 2 ^ 32) (sym as-named) few)
+        ∙ ap (λ (it : ℕ). if joins_by (command_of without) then (if it == 0 then 0 else 1) else it) as-named
 
-    fits-so : fits (does.Util without) (ins_of operands) [] ≡ true
-    fits-so = all-four (is_built_of without) (inputs_of without == read_of without (length (ins_of operands))) (nat_le (count_by is_stream (ins_of operands)) 1) (is_tee without)
-        still-built (eq-eqb (inputs_of without) (read_of without (length (ins_of operands))) reads-all) (le-leb (count_by is_stream (ins_of operands)) 1 (one-stream operands))
+    fits-so : fits (does.Util without) its-ins [] ≡ true
+    fits-so = all-four (is_built_of without) (inputs_of without == read_of without (length its-ins)) (nat_le (count_by is_stream its-ins) 1) (is_tee without)
+        still-built (eq-eqb (inputs_of without) (read_of without (length its-ins)) reads-all) (le-leb (count_by is_stream its-ins) 1 (one-stream (deals (command_of inv')) operands))
       where
         all-four : (one two three four : Bool) → one ≡ true → two ≡ true → three ≡ true → (one && (two && (three && (four || true)))) ≡ true
         all-four true true true true a b c = refl
@@ -129,7 +145,7 @@ module _ (inv' : Inv) (operands : List Operand) (without : Inv) (asks : command_
 pub stage-so : (inv' : Inv) (operands : List Operand) (without : Inv) (flags : List Bool) (ins : List In) (first piped : List ℕ) (status : ℕ) (reads writes tees : List Components)
     → flags ≡ map lacks operands → command_of without ≡ with_operands (emptied flags (operands_of inv')) (command_of inv')
     → words_of without ≡ take (length (words_of inv') - length (operands_of inv')) (words_of inv') ++ emptied flags (operands_of inv')
-    → ins ≡ ins_of operands → first ≡ [] → piped ≡ [] → status ≡ plain_status (command_of inv') (some_lacks operands) → reads ≡ [] → writes ≡ [] → tees ≡ []
+    → ins ≡ ins_of (deals (command_of inv')) operands → first ≡ [] → piped ≡ [] → status ≡ plain_status (command_of inv') (some_lacks operands) → reads ≡ [] → writes ≡ [] → tees ≡ []
     → IsStageOf inv' operands (record { does = does.Util without; ins = ins; out = out.Next; first = first; piped = piped; status = status; reads = reads; writes = writes; tees = tees })
 stage-so inv' operands without flags ins first piped status reads writes tees flags_are asks words ins_are first_is piped_is status_is reads_are writes_are tees_are =
     record {
@@ -169,35 +185,39 @@ joined-read asked names texts = by_join (joins_by asked)
     by_join true = of_texts texts
     by_join false = refl
 
--- which command reads its inputs joined doesn't hang on its operands
-texts-emptied : (given : List (List ℕ)) (asked : Command) (texts : List (List ℕ)) → texts_by (with_operands given asked) texts ≡ texts_by asked texts
-texts-emptied given (command.Cat args) texts = refl
-texts-emptied given (command.Grep args) texts = refl
-texts-emptied given (command.Cut args) texts = refl
-texts-emptied given (command.Head args) texts = refl
-texts-emptied given (command.Tail args) texts = refl
-texts-emptied given (command.Wc args) texts = refl
-texts-emptied given (command.Uniq args) texts = refl
-texts-emptied given (command.Sort args) texts = refl
-texts-emptied given (command.Paste args) texts = refl
-texts-emptied given other texts = refl
+-- a command makes the same of both
+record SaysAlike (asked : Command) (one other : List Input) : Type 0 where
+  output : output_for asked one ≡ output_for asked other
+  selects : selects_for asked one ≡ selects_for asked other
+
+alike : (asked : Command) (one other : List Input) → one ≡ other → SaysAlike asked one other
+alike asked one other same = record { output = ap (output_for asked) same; selects = ap (selects_for asked) same }
+
+-- the names of inputs say nothing to a command that deals their lines
+none-selected : (names names' texts : List (List ℕ)) → list_any (λ (input : Input). false) (labelled names texts) ≡ list_any (λ (input : Input). false) (labelled names' texts)
+none-selected names names' [] = refl
+none-selected names names' (text ∷ texts) = none-selected (drop 1 names) (drop 1 names') texts
+
+pasted : (args : PasteArgs) (names names' texts : List (List ℕ)) → (paste args).output (labelled names texts) ≡ (paste args).output (labelled names' texts)
+pasted args names names' texts = ap (λ its. paste_output args its) (texts-labelled names texts ∙ sym (texts-labelled names' texts))
+
+names-mute : (asked : Command) → deals asked ≡ true → (names names' texts : List (List ℕ)) → SaysAlike asked (labelled names texts) (labelled names' texts)
+names-mute (command.Paste args) is names names' texts = record {
+  output = pasted args names names' texts;
+  selects = none-selected names names' texts;
+}
+names-mute other is names names' texts = absurd (true≢false (sym is))
 
 -- grep and its report by the command
 grep_by : Command → Bool
 grep_by (command.Grep args) = true
 grep_by other = false
 
-cat_by : Command → Bool
-cat_by (command.Cat args) = true
-cat_by other = false
-
-cat-is : (it : Inv) → is_cat it ≡ cat_by (command_of it)
-unfolding cat_by
+pub cat-is : (it : Inv) → is_cat it ≡ calls_cat (command_of it)
 cat-is (inv.Cat cat) = refl
 cat-is other = refl
 
-cat-emptied : (given : List (List ℕ)) (asked : Command) → cat_by (with_operands given asked) ≡ cat_by asked
-unfolding cat_by
+cat-emptied : (given : List (List ℕ)) (asked : Command) → calls_cat (with_operands given asked) ≡ calls_cat asked
 cat-emptied given (command.Cat args) = refl
 cat-emptied given (command.Grep args) = refl
 cat-emptied given (command.Cut args) = refl
@@ -209,14 +229,28 @@ cat-emptied given (command.Sort args) = refl
 cat-emptied given (command.Paste args) = refl
 cat-emptied given other = refl
 
--- at width 1 each runs once
-once : (lists : List (List (List ℕ))) → flat_map (λ words. replicate 1 words) lists ≡ lists
-once [] = refl
-once (words ∷ lists) = ap (λ it. words ∷ it) (once lists)
+joins-emptied : (given : List (List ℕ)) (asked : Command) → joins_by (with_operands given asked) ≡ joins_by asked
+joins-emptied given (command.Cat args) = refl
+joins-emptied given (command.Grep args) = refl
+joins-emptied given (command.Cut args) = refl
+joins-emptied given (command.Head args) = refl
+joins-emptied given (command.Tail args) = refl
+joins-emptied given (command.Wc args) = refl
+joins-emptied given (command.Uniq args) = refl
+joins-emptied given (command.Sort args) = refl
+joins-emptied given (command.Paste args) = refl
+joins-emptied given other = refl
 
-each-once : (is : Bool) (lists : List (List (List ℕ))) → flat_map (λ words. replicate (if is then 1 else 1) words) lists ≡ lists
-each-once true lists = once lists
-each-once false lists = once lists
+-- one is read where there is an input and they are joined, or it is the only one
+one-read : (joins : Bool) (count : ℕ) → (count == 0) ≡ false → ((if joins then (if count == 0 then 0 else 1) else count) == 1) ≡ (joins || (count == 1))
+one-read false count some = refl
+one-read true count some = ap (λ (none : Bool). (if none then 0 else 1) == 1) some
+
+-- what is noted where a test fails
+noted-where : (test spreads spreads' : Bool) (words : List (List ℕ)) → (test ≡ false → spreads ≡ spreads')
+    → map (λ words. noted_as words spreads) (if test then [] else words ∷ []) ≡ (if test then [] else noted_as words spreads' ∷ [])
+noted-where true spreads spreads' words same = refl
+noted-where false spreads spreads' words same = ap (λ it. noted_as words it ∷ []) (same refl)
 
 -- nothing is read where there is no input
 none-read : (joins : Bool) (count : ℕ) → ((if joins then (if count == 0 then 0 else 1) else count) == 0) ≡ (count == 0)
@@ -265,12 +299,12 @@ status-for given (command.Paste args) some selected = refl
 status-for given other some selected = refl
 
 -- there is one more input at most than operands
-few-ins : (operands : List Operand) → length operands + 1 < 2 ^ 32 → length (ins_of operands) < 2 ^ 32
-few-ins operands few = let most = ins-most operands in omega (arith, few, most)
+few-ins : (deals : Bool) (operands : List Operand) → length operands + 1 < 2 ^ 32 → length (ins_of deals operands) < 2 ^ 32
+few-ins deals operands few = let most = ins-most deals operands in omega (arith, few, most)
 
 -- WHAT THE STAGE OF AN INVOCATION MEANS
 module _ (inv' : Inv) (operands : List Operand) (stage : Stage) (one : IsStageOf inv' operands stage) where
-  ins-so : S.ins_of stage ≡ ins_of operands
+  ins-so : S.ins_of stage ≡ ins_of (deals (command_of inv')) operands
   ins-so = ap (λ (it : Stage). S.ins_of it) one.is
 
   written-so : stage.tees ++ file_out stage.out ≡ []
@@ -278,45 +312,63 @@ module _ (inv' : Inv) (operands : List Operand) (stage : Stage) (one : IsStageOf
 
   -- its files are there
   stage-there : (files : Files) → NoWriterOut files → AllStand files operands → AreThere files (S.ins_of stage)
-  stage-there files whole stand = subst (AreThere files) (sym ins-so) (ins-there (Some files) operands whole stand)
+  stage-there files whole stand = subst (AreThere files) (sym ins-so) (ins-there (deals (command_of inv')) (Some files) operands whole stand)
 
   module _ (built : is_built_of inv' ≡ true) (named : AreNamed (operands_of inv') operands) (few : length operands + 1 < 2 ^ 32) where
+    few-so : length (ins_of (deals (command_of inv')) operands) < 2 ^ 32
+    few-so = few-ins (deals (command_of inv')) operands few
+
     is-stage : is_stage stage ≡ true
-    is-stage = ap (λ (it : Stage). is_stage it) one.is ∙ fits-so inv' operands one.without one.asks named built (few-ins operands few)
+    is-stage = ap (λ (it : Stage). is_stage it) one.is ∙ fits-so inv' operands one.without one.asks named built few-so
 
     -- none of its files is the null device
     no-null-in : list_any is_null_path (filter_map file_in (S.ins_of stage)) ≡ false
-    no-null-in = ap (λ (it : List In). list_any is_null_path (filter_map file_in it)) ins-so ∙ no-null-of (operands_of inv') operands named
+    no-null-in = ap (λ (it : List In). list_any is_null_path (filter_map file_in it)) ins-so ∙ no-null-of (deals (command_of inv')) (operands_of inv') operands named
 
     module _ (stream : List ℕ) (files : Components → List ℕ) where
+      abbrev asked : Command
+      asked = command_left (command_of inv') operands
+
       abbrev its-texts : List (List ℕ)
-      its-texts = map (text_in stream files) (ins_of operands)
+      its-texts = map (text_in stream files) (ins_of (deals (command_of inv')) operands)
 
       abbrev its-inputs : List Input
-      its-inputs = inputs_with (operands_of inv') operands stream files
+      its-inputs = inputs_with (deals (command_of inv')) (operands_of inv') operands stream files
 
-      inputs-so : labelled (names_of one.without) (texts_by (command_of one.without) its-texts) ≡ inputs_read (command_of inv') its-inputs
-      inputs-so =
-          ap (λ names. labelled names (texts_by (command_of one.without) its-texts)) (names-left inv' one.without (map lacks operands) one.asks (left-named (operands_of inv') operands named))
-          ∙ ap (λ texts. labelled (remaining (map lacks operands) (operands_of inv')) texts)
-          (ap (λ asked. texts_by asked its-texts) one.asks ∙ texts-emptied (emptied (map lacks operands) (operands_of inv')) (command_of inv') its-texts)
-          ∙ joined-read (command_of inv') (remaining (map lacks operands) (operands_of inv')) its-texts
+      -- the names differ at most where they say nothing
+      inputs-alike : SaysAlike asked (labelled (names_of one.without) its-texts) its-inputs
+      inputs-alike = by_deals (deals (command_of inv')) refl
+        where
+          by_deals : (it : Bool) → deals (command_of inv') ≡ it
+              → SaysAlike (command_left (command_of inv') operands) (labelled (names_of one.without) (map (text_in stream files) (ins_of (deals (command_of inv')) operands)))
+              (labelled (remaining (without_input it false operands) (operands_of inv')) (map (text_in stream files) (ins_of (deals (command_of inv')) operands)))
+          by_deals true is =
+              names-mute (command_left (command_of inv') operands) (deals-emptied (emptied (map lacks operands) (operands_of inv')) (command_of inv') ∙ is)
+              (names_of one.without) (remaining (without_input true false operands) (operands_of inv')) (map (text_in stream files) (ins_of (deals (command_of inv')) operands))
+          by_deals false is =
+              alike (command_left (command_of inv') operands) _ _
+              (ap (λ (names : List (List ℕ)). labelled names (map (text_in stream files) (ins_of (deals (command_of inv')) operands)))
+              (names-left inv' one.without (map lacks operands) one.asks (left-named (operands_of inv') operands named)
+              ∙ ap (λ (flags : List Bool). remaining flags (operands_of inv')) (sym (without-plain false operands))))
 
-      utility-so : utility_of one.without ≡ apart_from_own (utility_by (command_of inv')) (utility_of one.without)
+      utility-so : utility_of one.without ≡ utility_by asked
       utility-so =
-          utility-without inv' one.without (map lacks operands) one.asks
-          ∙ ap (λ (is : Bool). apart_from_own (if is then utility_by (command_of inv') else silent) (utility_of one.without)) built
+          ap (λ (is : Bool). if is then utility_by (command_of one.without) else silent) (still-built inv' operands one.without one.asks named built few-so)
+          ∙ ap utility_by one.asks
 
-      output-so : output_of one.without (texts_by (command_of one.without) its-texts) ≡ output_for (command_of inv') its-inputs
+      read-so : labelled (names_of one.without) (texts_by (command_of one.without) its-texts) ≡ inputs_read asked (labelled (names_of one.without) its-texts)
+      read-so = ap (λ it. labelled (names_of one.without) (texts_by it its-texts)) one.asks ∙ joined-read asked (names_of one.without) its-texts
+
+      output-so : output_of one.without (texts_by (command_of one.without) its-texts) ≡ output_for asked its-inputs
       output-so = ap (λ (it : Utility). it.output (labelled (names_of one.without) (texts_by (command_of one.without) its-texts))) utility-so
-          ∙ ap (λ inputs. (utility_by (command_of inv')).output inputs) inputs-so
+          ∙ ap (λ inputs. (utility_by asked).output inputs) read-so ∙ inputs-alike.output
 
-      selects-so : selects_of one.without (texts_by (command_of one.without) its-texts) ≡ selects_for (command_of inv') its-inputs
+      selects-so : selects_of one.without (texts_by (command_of one.without) its-texts) ≡ selects_for asked its-inputs
       selects-so = ap (λ (it : Utility). it.selects (labelled (names_of one.without) (texts_by (command_of one.without) its-texts))) utility-so
-          ∙ ap (λ inputs. (utility_by (command_of inv')).selects inputs) inputs-so
+          ∙ ap (λ inputs. (utility_by asked).selects inputs) read-so ∙ inputs-alike.selects
 
       status-so : status_by (does.Util one.without) (plain_status (command_of inv') (some_lacks operands)) its-texts
-          ≡ status_of (command_of inv') (some_lacks operands) (selects_for (command_of inv') its-inputs)
+          ≡ status_of (command_of inv') (some_lacks operands) (selects_for asked its-inputs)
       status-so =
           ap (λ selected. if is_grep one.without then grep_status (is_quiet one.without) plain selected else plain) selects-so
           ∙ ap (λ is. if is then grep_status (is_quiet one.without) plain selected else plain) (grep-is one.without ∙ ap grep_by one.asks)
@@ -330,20 +382,41 @@ module _ (inv' : Inv) (operands : List Operand) (stage : Stage) (one : IsStageOf
           given = emptied (map lacks operands) (operands_of inv')
 
           selected : Bool
-          selected = selects_for (command_of inv') its-inputs
+          selected = selects_for (command_left (command_of inv') operands) its-inputs
 
-      means-so : stage_means stage stream files ≡ left_by (command_of inv') its-inputs (some_lacks operands)
+      means-so : stage_means stage stream files ≡ left_by (command_of inv') operands its-inputs
       means-so = ap (λ (it : Stage). stage_means it stream files) one.is ∙ (λ i. record { output = output-so i; files = []; status = status-so i })
 
-    -- the words that are noted
-    words-so : words_by 1 stage.does ≡ words_noted inv' operands
+    -- the utility that is noted
+    abbrev count : ℕ
+    count = length (ins_of (deals (command_of inv')) operands)
+
+    reads-so : inputs_of one.without ≡ (if joins_by (command_of one.without) then (if count == 0 then 0 else 1) else count)
+    reads-so = reads-all inv' operands one.without one.asks named built few-so
+
+    abbrev its-flags : List Bool
+    its-flags = map lacks operands
+
+    spreads-so : (count == 0) ≡ false → spreads one.without ≡ spreads_over (command_of inv') count
+    spreads-so some =
+        ap (λ it. (it == 1) && may_spread (class_of one.without)) reads-so
+        ∙ ap (λ it. it && may_spread (class_of one.without)) (one-read (joins_by (command_of one.without)) count some)
+        ∙ ap (λ (it : Command). (joins_by it || (count == 1)) && may_spread (class_by it)) one.asks
+        ∙ ap (λ it. (it || (count == 1)) && may_spread (class_by (command_left (command_of inv') operands))) (joins-emptied (emptied its-flags (operands_of inv')) (command_of inv'))
+        ∙ ap (λ (it : Class). (joins_by (command_of inv') || (count == 1)) && may_spread it) (class-emptied its-flags (command_of inv'))
+
+    words-so : words_with one.without (inputs_of one.without) ≡ (if calls_cat (command_of inv') || (count == 0) then [] else words_left (words_of inv') (operands_of inv') operands ∷ [])
     words-so =
-        ap (λ (it : Stage). words_by 1 it.does) one.is
-        ∙ each-once (has_map (class_of one.without) && (inputs_of one.without == 1)) (words_with one.without (inputs_of one.without))
-        ∙ ap (λ is. if is || (inputs_of one.without == 0) then [] else words_of one.without ∷ []) (cat-is one.without ∙ ap cat_by one.asks ∙ cat-emptied (emptied (map lacks operands) (operands_of inv')) (command_of inv') ∙ sym (cat-is inv'))
-        ∙ ap (λ none. if is_cat inv' || none then [] else words_of one.without ∷ [])
-        (ap (λ it. it == 0) (reads-all inv' operands one.without one.asks named built (few-ins operands few)) ∙ none-read (joins_by (command_of one.without)) (length (ins_of operands)))
-        ∙ ap (λ (words : List (List ℕ)). if is_cat inv' || (length (ins_of operands) == 0) then [] else words ∷ []) one.words
+        ap (λ is. if is || (inputs_of one.without == 0) then [] else words_of one.without ∷ []) (cat-is one.without ∙ ap calls_cat one.asks ∙ cat-emptied (emptied its-flags (operands_of inv')) (command_of inv'))
+        ∙ ap (λ none. if calls_cat (command_of inv') || none then [] else words_of one.without ∷ []) (ap (λ it. it == 0) reads-so ∙ none-read (joins_by (command_of one.without)) count)
+        ∙ ap (λ (words : List (List ℕ)). if calls_cat (command_of inv') || (count == 0) then [] else words ∷ []) one.words
+
+    noted-so : noted_by stage.does ≡ run_noted inv' operands
+    noted-so =
+        ap (λ (it : Stage). noted_by it.does) one.is
+        ∙ ap (λ (lists : List (List (List ℕ))). map (λ words. noted_as words (spreads one.without)) lists) words-so
+        ∙ noted-where (calls_cat (command_of inv') || (count == 0)) (spreads one.without) (spreads_over (command_of inv') count) (words_left (words_of inv') (operands_of inv') operands)
+        (λ none. spreads-so (or_parts (calls_cat (command_of inv')) (count == 0) none).1)
 
 -- one stage alone
 apart-of : (read written : List Components) → written ≡ [] → list_any is_null_path read ≡ false → ArePathsApart read written
@@ -372,7 +445,7 @@ module _ (inv' : Inv) (operands : List Operand) (stage : Stage) (one : IsStageOf
       output = λ input files. (means-so inv' operands stage one built named few (begins_with from input) (bytes_at files) i).output;
       status = λ input files. (means-so inv' operands stage one built named few (begins_with from input) (bytes_at files) i).status;
       reads = is_shell_input from && list_any is_stream (ins-so inv' operands stage one i);
-      noted = (append-nil (words_by 1 stage.does) ∙ words-so inv' operands stage one built named few) i;
+      noted = (append-nil (noted_by stage.does) ∙ noted-so inv' operands stage one built named few) i;
     }
 
 -- THE STAGES OF A PIPELINE
@@ -445,7 +518,7 @@ means-all (member ∷ []) (stage ∷ next ∷ stages) are can stream files = abs
 means-all (member ∷ other ∷ members) (stage ∷ []) are can stream files = absurd are.1
 means-all (member ∷ other ∷ members) (stage ∷ next ∷ stages) are can stream files =
     ap (λ (it : Outcome). then_left it (chain_means (next ∷ stages) it.output files)) (means-so member.inv member.operands.items stage are.0 can.0.built can.0.named can.0.few stream files)
-    ∙ ap (then_left (left_by (command_of member.inv) (member_inputs member files stream) (some_lacks member.operands.items)))
+    ∙ ap (then_left (left_by (command_of member.inv) member.operands.items (member_inputs member files stream)))
     (means-all (other ∷ members) (next ∷ stages) are.1 can.1 (member_output member files stream) files)
 
 reads-all-first : (members : List Member) (stages : List Stage) → AreStagesOf members stages → reads_stream stages ≡ reads_first members
@@ -454,13 +527,13 @@ reads-all-first [] (stage ∷ stages) are = absurd are
 reads-all-first (member ∷ members) [] are = absurd are
 reads-all-first (member ∷ members) (stage ∷ stages) are = ap (λ (it : List In). list_any is_stream it) (ins-so member.inv member.operands.items stage are.0)
 
-words-all : (members : List Member) (stages : List Stage) → AreStagesOf members stages → AllCanRun members → words_at 1 stages ≡ noted_of members
-words-all [] [] are can = refl
-words-all [] (stage ∷ stages) are can = absurd are
-words-all (member ∷ members) [] are can = absurd are
-words-all (member ∷ members) (stage ∷ stages) are can =
-    ap (λ (it : List (List (List ℕ))). it ++ words_at 1 stages) (words-so member.inv member.operands.items stage are.0 can.0.built can.0.named can.0.few)
-    ∙ ap (λ (it : List (List (List ℕ))). words_noted member.inv member.operands.items ++ it) (words-all members stages are.1 can.1)
+noted-all : (members : List Member) (stages : List Stage) → AreStagesOf members stages → AllCanRun members → noted_in stages ≡ noted_of members
+noted-all [] [] are can = refl
+noted-all [] (stage ∷ stages) are can = absurd are
+noted-all (member ∷ members) [] are can = absurd are
+noted-all (member ∷ members) (stage ∷ stages) are can =
+    ap (λ (it : List Noted). it ++ noted_in stages) (noted-so member.inv member.operands.items stage are.0 can.0.built can.0.named can.0.few)
+    ∙ ap (λ (it : List Noted). run_noted member.inv member.operands.items ++ it) (noted-all members stages are.1 can.1)
 
 pub all-asks : (members : List Member) (stages : List Stage) → AreStagesOf members stages → AllCanRun members → (from : First) → segment_asks stages from ≡ pipeline_asks members from
 unfolding left_through
@@ -468,7 +541,7 @@ all-asks members stages are can from = λ i. record {
   output = λ input files. (means-all members stages are can (begins_with from input) (bytes_at files) i).output;
   status = λ input files. (means-all members stages are can (begins_with from input) (bytes_at files) i).status;
   reads = is_shell_input from && reads-all-first members stages are i;
-  noted = words-all members stages are can i;
+  noted = noted-all members stages are can i;
 }
 
 pub ruleset stage_steps = (stages-more)

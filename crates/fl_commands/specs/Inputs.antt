@@ -1,11 +1,13 @@
 -- What a utility makes of its inputs (XCU, each utility's page).
-use Rattle.std.specs.Prelude.{ℕ, List, [], ◌∷◌, Bool, true, false, not, ◌&&◌, map, if◌then◌else◌}
+use Rattle.std.specs.Prelude.{ℕ, List, [], ◌∷◌, Bool, true, false, not, ◌&&◌, ◌||◌, ◌==◌, map, if◌then◌else◌}
+use Rattle.ut_args.specs.Classes.{class_by}
 use Rattle.ut_args.specs.declared.commands.Command.{Command}
 use Rattle.ut_args.specs.declared.commands.Command.TheVariants as command
 use Rattle.ut_streams.specs.Utilities.{Input}
 use Rattle.fl_classes.specs.Utilities.{utility_by}
 use Rattle.fl_segments.specs.Chains.{joined_text, reports_nothing}
-use Rattle.fl_segments.specs.Stages.{closes_by, joins_by}
+use Rattle.fl_segments.specs.Noted.{Noted, noted_as}
+use Rattle.fl_segments.specs.Stages.{closes_by, joins_by, may_spread}
 
 -- some commands read their inputs joined; the name of a joined input says nothing
 abbrev pub joined_inputs : Bool → List Input → List Input
@@ -28,3 +30,15 @@ status_of (command.Grep args) lacks true = if lacks && not (reports_nothing args
 status_of (command.Grep args) lacks false = if lacks then 2 else 1
 status_of (command.Sort args) lacks selected = if lacks then 2 else 0
 status_of other lacks selected = if lacks then 1 else 0
+
+-- a command that reads one input, its inputs joined or the only one, is spread where its class lets that be cut
+abbrev pub spreads_over : Command → ℕ → Bool
+spreads_over asked count = (joins_by asked || (count == 1)) && may_spread (class_by asked)
+
+-- what is noted of a command of these words that ran over so many inputs (own): nothing of cat, nor where there is none
+abbrev pub calls_cat : Command → Bool
+calls_cat (command.Cat args) = true
+calls_cat other = false
+
+abbrev pub noted_over : Command → List (List ℕ) → ℕ → List Noted
+noted_over asked words count = if calls_cat asked || (count == 0) then [] else noted_as words (spreads_over asked count) ∷ []

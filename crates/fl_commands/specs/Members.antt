@@ -7,10 +7,11 @@ use Rattle.ut_args.specs.Built.{is_built_of}
 use Rattle.ut_args.specs.Inputs.{operands_of}
 use Rattle.ut_args.specs.Invocations.{command_of}
 use Rattle.ut_streams.specs.Utilities.{Input}
+use Rattle.fl_segments.specs.Noted.{Noted}
 use Rattle.fl_segments.specs.Stages.{is_stream}
-use Rattle.fl_commands.specs.Inner.Stages.{inputs_with, some_lacks, words_noted}
+use Rattle.fl_commands.specs.Inner.Stages.{command_left, inputs_with, some_lacks, run_noted}
 use Rattle.fl_commands.specs.Inputs.{output_for, selects_for, status_of}
-use Rattle.fl_commands.specs.Operands.{AllStand, AreNamed, ins_of}
+use Rattle.fl_commands.specs.Operands.{AllStand, AreNamed, deals, ins_of}
 use Rattle.fl_commands.specs.declared.members.Member.{Member}
 
 -- a member that can be run: it is built, and these are what its operands name
@@ -30,13 +31,14 @@ AllNamesStand files (first ∷ rest) = AllStand files first.operands.items × Al
 
 -- the texts that a member reads of this stream and of the files
 abbrev pub member_inputs : Member → (Components → List ℕ) → List ℕ → List Input
-member_inputs member files stream = inputs_with (operands_of member.inv) member.operands.items stream files
+member_inputs member files stream = inputs_with (deals (command_of member.inv)) (operands_of member.inv) member.operands.items stream files
 
 abbrev pub member_output : Member → (Components → List ℕ) → List ℕ → List ℕ
-member_output member files stream = output_for (command_of member.inv) (member_inputs member files stream)
+member_output member files stream = output_for (command_left (command_of member.inv) member.operands.items) (member_inputs member files stream)
 
 abbrev pub member_status : Member → (Components → List ℕ) → List ℕ → ℕ
-member_status member files stream = status_of (command_of member.inv) (some_lacks member.operands.items) (selects_for (command_of member.inv) (member_inputs member files stream))
+member_status member files stream =
+    status_of (command_of member.inv) (some_lacks member.operands.items) (selects_for (command_left (command_of member.inv) member.operands.items) (member_inputs member files stream))
 
 -- what the last writes, where the first reads this stream
 abbrev pub output_through : List Member → (Components → List ℕ) → List ℕ → List ℕ
@@ -52,8 +54,8 @@ status_through (first ∷ next ∷ rest) files stream = status_through (next ∷
 -- the first reads the stream that the pipeline begins with
 abbrev pub reads_first : List Member → Bool
 reads_first [] = false
-reads_first (first ∷ rest) = list_any is_stream (ins_of first.operands.items)
+reads_first (first ∷ rest) = list_any is_stream (ins_of (deals (command_of first.inv)) first.operands.items)
 
--- the words that are noted of all, in their order
-abbrev pub noted_of : List Member → List (List (List ℕ))
-noted_of members = flat_map (λ member. words_noted member.inv member.operands.items) members
+-- what is noted of all, in their order
+abbrev pub noted_of : List Member → List Noted
+noted_of members = flat_map (λ member. run_noted member.inv member.operands.items) members

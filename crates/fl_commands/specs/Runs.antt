@@ -10,13 +10,15 @@ use Rattle.ut_args.specs.Inputs.{operands_of}
 use Rattle.ut_args.specs.Invocations.{command_of}
 use Rattle.ut_args.specs.declared.invocations.Inv.{Inv}
 use Rattle.ut_streams.specs.Utilities.{Input}
+use Rattle.fl_core.specs.Logs.{Log, with_words}
 use Rattle.fl_segments.specs.Chains.{begins_with}
+use Rattle.fl_segments.specs.Noted.{Noted, used_at}
 use Rattle.fl_segments.specs.Stages.{is_shell_input, is_stream}
 use Rattle.fl_segments.specs.declared.stages.First.{First}
-use Rattle.fl_commands.specs.Inner.Stages.{inputs_with, some_lacks, words_noted}
+use Rattle.fl_commands.specs.Inner.Stages.{command_left, inputs_with, some_lacks, run_noted}
 use Rattle.fl_commands.specs.Inputs.{output_for, selects_for, status_of}
 use Rattle.fl_commands.specs.Members.{noted_of, output_through, reads_first, status_through}
-use Rattle.fl_commands.specs.Operands.{ins_of}
+use Rattle.fl_commands.specs.Operands.{deals, ins_of}
 use Rattle.fl_commands.specs.declared.members.Member.{Member}
 use Rattle.fl_commands.specs.declared.operands.Operand.{Operand}
 use Rattle.fl_commands.specs.declared.runs.Ended.{Ended}
@@ -53,24 +55,29 @@ pub record NoFewer (old new : Counts) : Type 0 where
   pub tree : old.tree ≤ new.tree
 
 -- what is asked for: what is written and the status that is left, for the text of the input and the files; whether the input is read; and the
--- words that are noted
+-- utilities that are noted
 pub record Asks : Type 0 where
   pub output : List ℕ → Files → List ℕ
   pub status : List ℕ → Files → ℕ
   pub reads : Bool
-  pub noted : List (List (List ℕ))
+  pub noted : List Noted
 
 -- what is left of the input
 abbrev pub left_behind : Bool → Option (List ℕ) → Option (List ℕ)
 left_behind reads left = if reads then option_map (λ _. []) left else left
 
+-- what an engine tells with the words of these behind those that it has run, at its width
+abbrev pub with_noted : List Noted → Log → Log
+with_noted noted log = with_words (used_at log.width noted) log
+
 -- what is asked for ran
-pub record Runs (asks : Asks) (tree tree' : TreeState) (left left' taken taken' : Option (List ℕ)) (old new : Counts) (used used' : Option (List (List (List ℕ)))) (came : Ended) : Type 0 where
-  -- where it has come to its end, its output is written, its status is left, the input is read to its end, and its words are noted
+pub record Runs (asks : Asks) (tree tree' : TreeState) (left left' taken taken' : Option (List ℕ)) (old new : Counts) (used used' : Option Log) (came : Ended) : Type 0 where
+  -- where it has come to its end, its output is written, its status is left, the input is read to its end, and its utilities
+  -- are noted
   pub output : (input : List ℕ) (files : Files) → tree.held ≡ Some files → left ≡ Some input → IfDone came (λ status. taken' ≡ then_bytes taken (asks.output input files))
   pub status : (input : List ℕ) (files : Files) → tree.held ≡ Some files → left ≡ Some input → IfDone came (λ status. status ≡ asks.status input files)
   pub read : IfDone came (λ status. left' ≡ left_behind asks.reads left)
-  pub noted : IfDone came (λ status. used' ≡ option_map (λ used. used ++ asks.noted) used)
+  pub noted : IfDone came (λ status. used' ≡ option_map (with_noted asks.noted) used)
   -- whatever comes, a front of its output is written
   pub part : (input : List ℕ) (files : Files) → tree.held ≡ Some files → left ≡ Some input → GrewByPrefix taken taken' (asks.output input files)
   pub held : tree'.held ≡ tree.held
@@ -79,24 +86,24 @@ pub record Runs (asks : Asks) (tree tree' : TreeState) (left left' taken taken' 
   pub cause : HasCause came old new
 
 -- the run's own input is read: the stream begins with it, and an operand or the lack of one names the stream
-abbrev pub reads_input : List Operand → First → Bool
-reads_input operands from = is_shell_input from && list_any is_stream (ins_of operands)
+abbrev pub reads_input : Bool → List Operand → First → Bool
+reads_input deals operands from = is_shell_input from && list_any is_stream (ins_of deals operands)
 
 -- the texts that an invocation reads, where the input has this text
 abbrev pub inputs_at : Inv → List Operand → First → List ℕ → Files → List Input
-inputs_at inv operands from input files = inputs_with (operands_of inv) operands (begins_with from input) (bytes_at files)
+inputs_at inv operands from input files = inputs_with (deals (command_of inv)) (operands_of inv) operands (begins_with from input) (bytes_at files)
 
 -- an invocation with these operands ran
 abbrev pub command_asks : Inv → List Operand → First → Asks
 command_asks inv operands from = record {
-  output = λ input files. output_for (command_of inv) (inputs_at inv operands from input files);
-  status = λ input files. status_of (command_of inv) (some_lacks operands) (selects_for (command_of inv) (inputs_at inv operands from input files));
-  reads = reads_input operands from;
-  noted = words_noted inv operands;
+  output = λ input files. output_for (command_left (command_of inv) operands) (inputs_at inv operands from input files);
+  status = λ input files. status_of (command_of inv) (some_lacks operands) (selects_for (command_left (command_of inv) operands) (inputs_at inv operands from input files));
+  reads = reads_input (deals (command_of inv)) operands from;
+  noted = run_noted inv operands;
 }
 
 abbrev pub RunsCommand : Inv → List Operand → First → TreeState → TreeState → Option (List ℕ) → Option (List ℕ) → Option (List ℕ) → Option (List ℕ) → Counts → Counts
-    → Option (List (List (List ℕ))) → Option (List (List (List ℕ))) → Ended → Type 0
+    → Option Log → Option Log → Ended → Type 0
 RunsCommand inv operands from tree tree' left left' taken taken' old new used used' came = Runs (command_asks inv operands from) tree tree' left left' taken taken' old new used used' came
 
 -- the members of a pipeline ran, each over the output of the one before
@@ -109,5 +116,5 @@ pipeline_asks members from = record {
 }
 
 abbrev pub RunsPipeline : List Member → First → TreeState → TreeState → Option (List ℕ) → Option (List ℕ) → Option (List ℕ) → Option (List ℕ) → Counts → Counts
-    → Option (List (List (List ℕ))) → Option (List (List (List ℕ))) → Ended → Type 0
+    → Option Log → Option Log → Ended → Type 0
 RunsPipeline members from tree tree' left left' taken taken' old new used used' came = Runs (pipeline_asks members from) tree tree' left left' taken taken' old new used used' came

@@ -15,5 +15,5 @@ mod runs;
 mod stages;
 
 pub use members::Member;
-pub use operands::{Operand, ins_of, lacking, lacks, look_at};
+pub use operands::{Operand, deals, ins_of, lacking, lacks, look_at};
 pub use runs::{Commanded, Ended, run_command, run_pipeline};

@@ -4,12 +4,15 @@ ghost use Rattle.ps_lines.specs.Texts.{texts_of};
 ghost use Rattle.ps_world.specs.Counts.{Counts};
 ghost use Rattle.ps_world.specs.Files.{Files};
 ghost use Rattle.ps_world.specs.Paths.{Components};
-ghost use Rattle.fl_commands.specs.Operands.{AllStand, AreNamed, IsApart, IsEmptyMissing, Stands, in_at, in_standard, ins_from, ins_of as ins_of_lem, is_readable as is_readable_lem, lacks as lacks_lem, named};
+ghost use Rattle.ut_args.specs.Inputs.{deals as deals_lem, is_standard};
+ghost use Rattle.ut_args.specs.Invocations.{command_of};
+ghost use Rattle.fl_commands.specs.Operands.{AllStand, AreNamed, IsApart, IsEmptyMissing, Stands, in_at, in_standard, ins_from, ins_of as ins_of_lem, is_readable as is_readable_lem, is_stream_operand, lacks as lacks_lem, named};
 
 use fl_segments::In;
 use ps_lines::Memory;
 use ps_world::{Place, Tree, WorldErr, look};
 use std::alloc::Global;
+use ut_args::Inv;
 
 /// What an operand of a utility names.
 #[derive(Debug, Drop)]
@@ -71,6 +74,7 @@ fn look_up<T: Tree>(alloc: Global, text: &[u8], tree: &mut T) -> Result<Operand,
     ensures stand { IfOk result (λ operand. IfSome (T.state tree.old).held (λ files. Stands files operand)) }
     ensures empty { IfOk result (λ operand. IsEmptyMissing text.now operand) }
     ensures apart { IfOk result (λ operand. IsApart operand) }
+    ensures standard { IfOk result (λ operand. is_standard text.now ≡ is_stream_operand operand) }
     ensures state { T.state tree.new ≡ T.state tree.old }
     ensures cause { Counts (T.faults tree.old) (T.faults tree.new) result }
 {
@@ -108,31 +112,42 @@ pub fn lacking(alloc: Global, operands: &[Operand]) -> Result<Vec<bool>, Memory>
     Ok(flags)
 }
 
+/// Whether the lines of the standard input are dealt to all operands that are `-` (XCU paste, without `-s`).
+pub fn deals(inv: &Inv) -> bool
+    ensures { result ≡ deals_lem (command_of inv.now) }
+{
+    match inv {
+        Inv::Paste(paste) => !paste.args.serial,
+        _ => false,
+    }
+}
+
 /// The inputs that operands name, in their order: the standard input where there is no operand.
 ///
-/// The first `-` takes the standard input to its end, so each other is empty. No file is known to be closed.
-pub fn ins_of(alloc: Global, operands: &[Operand]) -> Result<Vec<In>, Memory>
-    ensures { IfOk result (λ ins. ins.items ≡ ins_of_lem operands.now) }
+/// The first `-` takes the standard input to its end, so each other is empty; where its lines are dealt to all `-` (`deals`), no other is an
+/// input. No file is known to be closed.
+pub fn ins_of(alloc: Global, operands: &[Operand], deals: bool) -> Result<Vec<In>, Memory>
+    ensures { IfOk result (λ ins. ins.items ≡ ins_of_lem deals operands.now) }
 {
     let mut ins = Vec::new(alloc);
     let [_, ..] = operands else {
         ins.push(In::Stream)?;
         return Ok(ins);
     };
-    add_ins(operands, &mut ins)?;
+    add_ins(operands, deals, &mut ins)?;
     Ok(ins)
 }
 
 /// Puts the inputs that operands name behind others.
-fn add_ins(operands: &[Operand], ins: &mut Vec<In>) -> Result<(), Memory>
-    ensures { OnOk result (ins.new.items ≡ ins.old.items ++ ins_from false operands.now) }
+fn add_ins(operands: &[Operand], deals: bool, ins: &mut Vec<In>) -> Result<(), Memory>
+    ensures { OnOk result (ins.new.items ≡ ins.old.items ++ ins_from deals false operands.now) }
 {
     let mut is_taken = false;
     let mut left = operands;
     while let [operand, rest @ ..] = left {
         match operand {
             Operand::Standard => {
-                ins.push(in_standard_of(is_taken))?;
+                add_standard(deals, is_taken, ins)?;
                 is_taken = true;
             }
             Operand::At(place) => add_in(place, ins)?,
@@ -142,11 +157,18 @@ fn add_ins(operands: &[Operand], ins: &mut Vec<In>) -> Result<(), Memory>
     Ok(())
 }
 
-/// The standard input, or nothing where it was taken before.
-fn in_standard_of(is_taken: bool) -> In
-    ensures { result ≡ in_standard is_taken }
+/// Puts the standard input behind other inputs. Where it was taken before, that is an empty one, or none where its lines are dealt.
+fn add_standard(deals: bool, is_taken: bool, ins: &mut Vec<In>) -> Result<(), Memory>
+    ensures { OnOk result (ins.new.items ≡ ins.old.items ++ in_standard deals is_taken) }
 {
-    if is_taken { In::Empty } else { In::Stream }
+    if !is_taken {
+        ins.push(In::Stream)?;
+        return Ok(());
+    }
+    if !deals {
+        ins.push(In::Empty)?;
+    }
+    Ok(())
 }
 
 /// Puts the input at a place behind others, if there is one.

@@ -20,7 +20,7 @@ use crate::readers::{Opened, give_back, open_files};
 use crate::stages::{stage_of, stages_of};
 use fl_core::{Came, Ends, Engine, Over, number_ends, run_own};
 use fl_graph::Graph;
-use fl_segments::{First, MAX_STAGES, Stage, chain};
+use fl_segments::{First, MAX_STAGES, Stage, compile};
 use ps_world::{Gate, Sink, Source, Tree, WorldErr};
 use std::alloc::Global;
 use ut_args::Inv;
@@ -50,9 +50,9 @@ pub struct Commanded<I, O> {
 /// Runs a utility over what its operands name, as a graph on the engine, and writes its output.
 ///
 /// `operands` are what the words of its operands name (`look_at`); none of an operand that has no input is read. The stream that `-` names,
-/// and the lack of an operand, begins so; where that is the input, it is read to its end. Done leaves the utility's output behind
-/// what the output has taken, and its words behind those that the engine has noted; after any other answer a front of the output is
-/// written. Each reader that the tree lent has gone back to it. A fault is told only where the count of its object rose.
+/// and the lack of an operand, begins so; where that is the input, it is read to its end. Done leaves the output of the utility without the
+/// operands that have no input behind what the output has taken, and its words behind those that the engine has noted; after any other answer
+/// a front of the output is written. Each reader that the tree lent has gone back to it. A fault is told only where the count of its object rose.
 ///
 /// What some utilities do where an operand has no input, nothing at all, is the caller's: it doesn't run them then.
 pub fn run_command<T: Tree, I: Source + Send, O: Sink + Send, G: Gate, X: Engine>(
@@ -158,7 +158,7 @@ fn run_segment<T: Tree, I: Source + Send, O: Sink + Send, G: Gate, X: Engine>(
         (counts_of (I.faults input) (O.faults out) (T.faults tree.old)) (counts_of (I.faults result.input) (O.faults result.out) (T.faults tree.new))
         (X.used engine.old) (X.used engine.new) result.ended }
 {
-    let Ok(graph) = chain(alloc, segment, from) else {
+    let Ok(graph) = compile(alloc, segment, from, engine.width()) else {
         return Commanded {
             ended: Ended::Memory,
             input,

@@ -4,7 +4,7 @@ ghost use Rattle.ut_args.specs.Invocations.{command_of};
 ghost use Rattle.fl_commands.specs.Inner.Stages.{AreStagesOf, IsStageOf, plain_status, some_lacks as some_lacks_lem};
 
 use crate::members::Member;
-use crate::operands::{Operand, ins_of, lacking, lacks};
+use crate::operands::{Operand, deals, ins_of, lacking, lacks};
 use fl_graph::Seq;
 use fl_segments::{Does, Out, Stage};
 use ps_lines::{Memory, Text};
@@ -40,7 +40,7 @@ pub(crate) fn stage_of(alloc: Global, inv: &Inv, operands: &[Operand]) -> Result
 {
     let flags = lacking(alloc, operands)?;
     // Behind the invocation no call may fail: an exit at which it's let go is long.
-    let ins = ins_of(alloc, operands)?;
+    let ins = ins_of(alloc, operands, deals(inv))?;
     let without = inv.without(alloc, flags.as_slice())?;
     Ok(Stage {
         does: Does::Util(without),

@@ -5,6 +5,7 @@ use Rattle.ps_world.specs.TreeState.{AreOut, TreeState}
 use Rattle.ps_world.specs.declared.error.WorldErr.{WorldErr}
 use Rattle.ps_world.specs.declared.error.WorldErr.TheVariants as error
 use Rattle.fl_graph.specs.declared.graphs.Graph.{Graph}
+use Rattle.fl_core.specs.Logs.{Log}
 use Rattle.fl_core.specs.OwnEnds.{RunsOwn, each_of}
 use Rattle.fl_core.specs.declared.end_lists.Ends.{Ends}
 use Rattle.fl_core.specs.declared.own_ends.Came.{Came}
@@ -38,7 +39,7 @@ pub record Opens {R : Type 0} (of_reader : R → Option (List ℕ)) (reader_faul
 -- the graph ran over them, under some numbers
 pub record RunsOver {R W I O : Type 0} (of_reader : R → Option (List ℕ)) (of_input : I → Option (List ℕ)) (of_writer : W → Option (List ℕ)) (of_output : O → Option (List ℕ))
     (reader_faults : R → ℕ) (writer_faults : W → ℕ) (input_faults : I → ℕ) (output_faults : O → ℕ)
-    (graph : Graph) (readers : List (ℕ × R)) (input : I) (out : O) (used used' : Option (List (List (List ℕ)))) (came : Came) (back : Ends R W I O) : Type 0 where
+    (graph : Graph) (readers : List (ℕ × R)) (input : I) (out : O) (used used' : Option Log) (came : Came) (back : Ends R W I O) : Type 0 where
   pub numbered : Ends R W I O
   pub readers_are : map (λ entry. entry.1) numbered.readers.items ≡ map (λ entry. entry.1) readers
   pub writers_are : length numbered.writers.items ≡ 0

@@ -12,6 +12,7 @@ use Rattle.fl_classes.specs.Kinds.{are_run}
 use Rattle.fl_classes.specs.Sources.{source_texts}
 use Rattle.fl_classes.specs.Used.{words_used}
 use Rattle.fl_segments.specs.Chains.{begins_with, chain_means}
+use Rattle.fl_segments.specs.Noted.{noted_in}
 use Rattle.fl_segments.specs.Stages.{files_read, ins_of, reads_input, words_at}
 use Rattle.fl_segments.specs.declared.stages.First.{First}
 use Rattle.fl_segments.specs.declared.stages.Stage.{Stage}
@@ -29,15 +30,15 @@ segment_asks segment from = record {
   output = λ input files. (chain_means segment (begins_with from input) (bytes_at files)).output;
   status = λ input files. (chain_means segment (begins_with from input) (bytes_at files)).status;
   reads = reads_input segment from;
-  noted = words_at 1 segment;
+  noted = noted_in segment;
 }
 
--- their graph
-pub record IsGraphOf (segment : List Stage) (from : First) (graph : Graph) : Type 0 where
+-- their graph at a width
+pub record IsGraphOf (width : ℕ) (segment : List Stage) (from : First) (graph : Graph) : Type 0 where
   pub valid : Valid graph.nodes graph.status
   pub kinds : are_run graph.nodes ≡ true
   pub reads : paths_read graph.nodes ≡ files_read segment
   pub writes : paths_written graph.nodes ≡ []
   pub input : list_any (λ cell. is_input cell.kind) graph.nodes ≡ reads_input segment from
   pub outcome_is : (input : List ℕ) (files : Components → List ℕ) → outcome graph (source_texts graph.nodes input files) ≡ chain_means segment (begins_with from input) files
-  pub used : words_used graph.nodes ≡ words_at 1 segment
+  pub used : words_used graph.nodes ≡ words_at width segment

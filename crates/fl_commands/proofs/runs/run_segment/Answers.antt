@@ -14,21 +14,21 @@ returns-in-Err g c =
 pub destroy_empty-requires : goal.destroy_empty-requires
 destroy_empty-requires g c =
     let none = writers-back g.T.Reader.Source.left g.I.Source.left g.T.Writer.Sink.taken g.O.Sink.taken g.T.Reader.Source.faults g.T.Writer.Sink.faults g.I.Source.faults g.O.Sink.faults
-    c.args.segment.now c.args.from.now c.in-Ok.graph
-    (graph-so _ _ _ c.in-Ok.ensures.valid c.in-Ok.ensures.kinds c.in-Ok.ensures.reads c.in-Ok.ensures.writes c.requires.writes c.in-Ok.ensures.input c.in-Ok.ensures.outcome c.in-Ok.ensures.used) _ _ (g.T.Tree.state c.open_files.new.tree) _ c.in-Ok-open_files.ensures.opens c.in-Ok-open_files.ensures.held _ _ _ _ _ _ c.run_over-came.ensures in
+    c.width.result c.args.segment.now c.args.from.now c.in-Ok.graph
+    (graph-so _ _ _ _ c.in-Ok.ensures.valid c.in-Ok.ensures.kinds c.in-Ok.ensures.reads c.in-Ok.ensures.writes c.requires.writes c.in-Ok.ensures.input c.in-Ok.ensures.outcome c.in-Ok.ensures.used) _ _ (g.T.Tree.state c.open_files.new.tree) _ c.in-Ok-open_files.ensures.opens c.in-Ok-open_files.ensures.held _ _ _ _ _ _ c.run_over-came.ensures in
     search (none, rules)
 
 pub give_back-requires-clause-paths : goal.give_back-requires-clause-paths
 give_back-requires-clause-paths g c κs within =
     c.in-Ok-open_files.ensures.paths
     ∙ sym (readers-back g.T.Reader.Source.left g.I.Source.left g.T.Writer.Sink.taken g.O.Sink.taken g.T.Reader.Source.faults g.T.Writer.Sink.faults g.I.Source.faults g.O.Sink.faults
-    c.args.segment.now c.args.from.now c.in-Ok.graph
-    (graph-so _ _ _ c.in-Ok.ensures.valid c.in-Ok.ensures.kinds c.in-Ok.ensures.reads c.in-Ok.ensures.writes c.requires.writes c.in-Ok.ensures.input c.in-Ok.ensures.outcome c.in-Ok.ensures.used) _ _ (g.T.Tree.state c.open_files.new.tree) _ c.in-Ok-open_files.ensures.opens c.in-Ok-open_files.ensures.held _ _ _ _ _ _ c.run_over-came.ensures)
+    c.width.result c.args.segment.now c.args.from.now c.in-Ok.graph
+    (graph-so _ _ _ _ c.in-Ok.ensures.valid c.in-Ok.ensures.kinds c.in-Ok.ensures.reads c.in-Ok.ensures.writes c.requires.writes c.in-Ok.ensures.input c.in-Ok.ensures.outcome c.in-Ok.ensures.used) _ _ (g.T.Tree.state c.open_files.new.tree) _ c.in-Ok-open_files.ensures.opens c.in-Ok-open_files.ensures.held _ _ _ _ _ _ c.run_over-came.ensures)
 
 pub returns : goal.returns
 returns g c =
     subst (Runs _ _ _ _ _ _ _ _ _ _ _) (sym c.how_ended.ensures)
     (ran-so g.T.Reader.Source.left g.I.Source.left g.T.Writer.Sink.taken g.O.Sink.taken g.T.Reader.Source.faults g.T.Writer.Sink.faults g.I.Source.faults g.O.Sink.faults
-    c.args.segment.now c.args.from.now c.in-Ok.graph
-    (graph-so _ _ _ c.in-Ok.ensures.valid c.in-Ok.ensures.kinds c.in-Ok.ensures.reads c.in-Ok.ensures.writes c.requires.writes c.in-Ok.ensures.input c.in-Ok.ensures.outcome c.in-Ok.ensures.used) _ _ _ _ c.in-Ok-open_files.ensures.opens c.in-Ok-open_files.ensures.held _ _ _ _ _ _ c.run_over-came.ensures
-    _ _ _ c.in-Ok-open_files.ensures.cause.ok c.give_back.ensures.out c.give_back.ensures.held c.give_back.ensures.later c.give_back.ensures.calm c.give_back.ensures.cause)
+    c.width.result c.args.segment.now c.args.from.now c.in-Ok.graph
+    (graph-so _ _ _ _ c.in-Ok.ensures.valid c.in-Ok.ensures.kinds c.in-Ok.ensures.reads c.in-Ok.ensures.writes c.requires.writes c.in-Ok.ensures.input c.in-Ok.ensures.outcome c.in-Ok.ensures.used) _ _ _ _ c.in-Ok-open_files.ensures.opens c.in-Ok-open_files.ensures.held _ _ _ _ _ _ c.run_over-came.ensures
+    _ _ _ c.in-Ok-open_files.ensures.cause.ok c.give_back.ensures.out c.give_back.ensures.held c.give_back.ensures.later c.width.ensures c.give_back.ensures.calm c.give_back.ensures.cause)

@@ -31,6 +31,7 @@ use Rattle.sh_eval.specs.Asking.{Asked, no_name, unknown, unlisted, unusable, ut
 use Rattle.sh_eval.specs.Builtins.{out_of, leaves_loops, sets, shifts, misused, answers, tests, echoes, reads, set_all, line_in, behind_line}
 use Rattle.sh_eval.specs.Lines.{bad_usage}
 use Rattle.sh_eval.specs.Redirections.{named_by}
+use Rattle.fl_core.specs.Logs.{Log}
 use Rattle.sh_eval.specs.Contract.{Seen, Faults, Point, point_of, seen_of, drawn_of, faults_of, HasCause, IsGone, Meaning, Evaluates}
 use Rattle.sh_eval.specs.Ending.{InShell, how_behind, status_behind}
 use Rattle.sh_eval.proofs.Growing.{grows-self, grows-write, grows-leaving, adds-misused}
@@ -185,7 +186,7 @@ tree-wanted means shell session tree tree' seen input of_output of_errors of_tre
     (record { input = omega arith; output = omega arith; errors = omega arith; tree = later }) tt (subst (λ (it : TreeState). Balanced tree it) (sym same) (balanced-none tree))
 
 -- READ
-pub read-stopped : (names : List (List ℕ)) (shell shell' : Shell) (session session' : Session) (tree : TreeState) (left left' taken errors : Option (List ℕ)) (used : Option (List (List (List ℕ)))) (input input' of_output of_errors of_tree : ℕ) (came : How)
+pub read-stopped : (names : List (List ℕ)) (shell shell' : Shell) (session session' : Session) (tree : TreeState) (left left' taken errors : Option (List ℕ)) (used : Option Log) (input input' of_output of_errors of_tree : ℕ) (came : How)
     → (IsGone came → ⊥) → session.turns ≤ session'.turns → input ≤ input' → HasCause came (faults_of input of_output of_errors of_tree) (faults_of input' of_output of_errors of_tree)
     → Evaluates (λ expansions. reads names) (point_of shell session tree (seen_of (drawn_of left used) taken errors) (faults_of input of_output of_errors of_tree)) came
     (point_of shell' session' tree (seen_of (drawn_of left' used) taken errors) (faults_of input' of_output of_errors of_tree))

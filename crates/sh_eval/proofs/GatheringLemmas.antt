@@ -1,24 +1,21 @@
 -- Stages that are gathered: what each asks for, and what all of them do.
-use Rattle.std.proofs.Common.{◌≡◌, ◌≤◌, ◌<◌, ◌+◌, ℕ, List, [], ◌∷◌, ◌++◌, map, Bool, true, false, ◌&&◌, nat_lt, length, drop, get_or, Option, Some, None, IfSome, Result, Ok, Err, refl, sym, ap, ◌∙◌, subst, append-nil, append_assoc, length-append, add-one, arith, if◌then◌else◌}
+use Rattle.std.proofs.Common.{◌≡◌, ◌≤◌, ◌<◌, ◌+◌, ℕ, List, [], ◌∷◌, ◌++◌, map, Bool, true, false, ◌&&◌, nat_lt, length, drop, get_or, Option, Some, None, IfSome, Ok, refl, sym, ap, ◌∙◌, subst, append-nil, append_assoc, length-append, add-one, arith, if◌then◌else◌}
 use Rattle.std.proofs.Math.Seq.{drop-cons}
 use Rattle.std.proofs.Math.ListN.{drop_of_length-le}
 use Rattle.std.proofs.lemmas.Bool.{cond-true, le-ltb}
-use Rattle.std.specs.List.{flat_map, list_any}
+use Rattle.std.specs.List.{flat_map}
 use Rattle.ps_world.specs.Files.{Files}
-use Rattle.ps_world.specs.Paths.{Components}
 use Rattle.ps_world.specs.TreeState.{TreeState}
 use Rattle.ut_args.specs.Built.{is_built_of}
 use Rattle.ut_args.specs.Inputs.{files_of, operands_of}
 use Rattle.ut_args.specs.Invocations.{command_of, words_of}
 use Rattle.ut_args.specs.Reading.{invocation}
 use Rattle.ut_args.specs.declared.commands.Command.{Command as Invoked}
-use Rattle.ut_args.specs.declared.faults.ArgFault.{ArgFault}
 use Rattle.ut_args.specs.declared.invocations.Inv.{Inv}
 use Rattle.fl_commands.specs.Inner.Stages.{some_lacks}
 use Rattle.fl_commands.specs.Members.{AllNamesStand}
 use Rattle.fl_commands.specs.Operands.{AllStand}
 use Rattle.fl_commands.specs.declared.members.Member.{Member}
-use Rattle.fl_commands.specs.declared.operands.Operand.{Operand}
 use Rattle.fl_segments.specs.declared.chains.TheConstants.{MAX_STAGES}
 use Rattle.sh_arith.specs.Variables.{Variables}
 use Rattle.sh_tree.specs.Trees.{CommandTree, CommandTrees, WordTree, command, no_command, no_sub, simple, simple_command}
@@ -32,15 +29,13 @@ use Rattle.sh_eval.specs.declared.streams.Streams.{Streams}
 use Rattle.sh_eval.specs.Asking.{Asked, asked_as, asked_by, does, utility}
 use Rattle.sh_eval.specs.Commands.{none_substituted}
 use Rattle.sh_eval.specs.Expanding.{given_by, goes_on_with, with_targets}
-use Rattle.sh_eval.specs.Inner.Doing.{is_own}
-use Rattle.sh_eval.specs.Inner.Gathering.{AddsStage, AllLooked, AreGathered, AreTold, CanBeMember, Gathers, IsAskedBy, IsFound, IsMember, IsPlain, calls_of}
+use Rattle.sh_eval.specs.Inner.Gathering.{AddsStage, AreGathered, CanBeMember, Gathers, IsFound, IsMember, IsPlain}
 use Rattle.sh_eval.specs.Inner.Inputs.{called_by, lines_by}
-use Rattle.sh_eval.specs.Meaning.{command_means}
 use Rattle.sh_eval.specs.Redirections.{Use, first_busy, unless_busy}
-use Rattle.sh_eval.specs.Segments.{is_plain_place, lines_for, member_means, name_of}
+use Rattle.sh_eval.specs.Segments.{is_plain_place, lines_for, name_of}
 use Rattle.sh_eval.specs.Shells.{inside, with_env}
 use Rattle.sh_eval.specs.Simple.{by_patterns, checked, done, most_operands}
-use Rattle.sh_eval.specs.States.{State, Ends, Means, in_shell, refused}
+use Rattle.sh_eval.specs.States.{State, Means, in_shell, refused}
 use Rattle.sh_eval.specs.Table.{pages, patterns_of}
 use Rattle.sh_eval.specs.Utilities.{Called, Patterns, deals, is_silent, needs_all, read, read_use, runs_utility, uses_by_operands, written_use}
 use Rattle.sh_eval.specs.declared.refusals.Refusal.TheVariants as refusal

@@ -32,10 +32,10 @@ use Rattle.sh_eval.specs.Expanding.{ends_told, stops_at, goes_on_with, with_vari
 use Rattle.sh_eval.specs.Expanding.{with_text as with_text_of}
 use Rattle.sh_eval.specs.Targets.{Target}
 use Rattle.sh_eval.specs.Redirections.{Use, named_by, unless_busy, where_free, first_busy, Redirected, led, stopped, reading_at, writing_at, redirected, leads_to, goes_on_in, redirecting, in_redirections, uses_of, holding}
-use Rattle.fl_commands.specs.Inputs.{status_of}
+use Rattle.fl_segments.specs.Noted.{Noted}
+use Rattle.fl_commands.specs.Inputs.{noted_over, status_of}
 use Rattle.sh_eval.specs.Inner.Runs.{Does, takes}
-use Rattle.sh_eval.specs.Segments.{notes}
-use Rattle.sh_eval.specs.Utilities.{Called, appends, deals, needs_all, Made, make_file, make_files, write_files, noted_run, is_cat, has_input, words_without, Pages, Patterns, read, wrong, refers_back, given_to, inputs_in, has_none, reads_standard, taken_in, takes_inputs, tells_some, lines_told, made_by, texts_joined, writes_out, does_nothing, runs_utility, uses_by_operands}
+use Rattle.sh_eval.specs.Utilities.{Called, appends, deals, needs_all, Made, make_file, make_files, write_files, notes, words_without, Pages, Patterns, read, wrong, refers_back, given_to, inputs_in, has_none, reads_standard, taken_in, takes_inputs, tells_some, lines_told, made_by, texts_joined, writes_out, does_nothing, runs_utility, uses_by_operands}
 use Rattle.sh_eval.specs.Builtins.{misused, answers, sets, shifts, set_all, line_in, behind_line, reads}
 use Rattle.sh_eval.specs.Asking.{Asked, no_name, unknown, unlisted, unusable, utility, builtin, at_fault, does, asked_as, asked_by}
 use Rattle.sh_eval.specs.Simple.{assigned_for, done, where_few, by_patterns, checked, runs_simple, most_operands}
@@ -363,11 +363,7 @@ grows-tells_some start (byte ∷ bytes) state grows = grows-tells start (byte �
 grows-files : (start : State) (paths : List Components) (text : List ℕ) (state : State) → Grows start state → Grows start (write_files paths text state)
 grows-files start paths text state grows = grows-trans start state (write_files paths text state) grows (grows-write_files paths text state)
 
-grows-noted : (start : State) (is : Bool) (ran : List (List ℕ)) (state : State) → Grows start state → Grows start (in_world (noted_run is ran) state)
-grows-noted start false ran state grows = grows
-grows-noted start true ran state grows = record { output = grows.output; errors = grows.errors; turns = grows.turns }
-
-grows-notes : (start : State) (ran : List (List (List ℕ))) (state : State) → Grows start state → Grows start (in_world (notes ran) state)
+grows-notes : (start : State) (ran : List Noted) (state : State) → Grows start state → Grows start (in_world (notes ran) state)
 grows-notes start ran state grows = record { output = grows.output; errors = grows.errors; turns = grows.turns }
 
 pub adds-takes : (does : Does) → Adds (takes does)
@@ -385,8 +381,9 @@ module _ (pages : Pages) where
       let inputs = inputs_in (given_to state (deals called.command) name operands) in
       let taken = taken_in (reads_standard operands) state in
       let taken_grows = grows-if state (reads_standard operands) (reads_to [] state) state (grows-reads_to state [] state (grows-self state)) (grows-self state) in
-      let noted = in_world (noted_run (not (is_cat called.command) && has_input inputs) (words_without (has_none state) called)) taken in
-      let noted_grows = grows-noted state (not (is_cat called.command) && has_input inputs) (words_without (has_none state) called) taken taken_grows in
+      let ran = noted_over called.command (words_without (has_none state) called) (length inputs) in
+      let noted = in_world (notes ran) taken in
+      let noted_grows = grows-notes state ran taken taken_grows in
       let left = leaves (status_of called.command (not is_whole || list_any (has_none state) operands) (pages.selects called.command inputs)) noted in
       grows-files state paths (texts_joined pages inputs) (puts (pages.output called.command inputs) left)
       (grows-puts state (pages.output called.command inputs) left (record { output = noted_grows.output; errors = noted_grows.errors; turns = noted_grows.turns }))

@@ -21,6 +21,7 @@ use Rattle.sh_eval.specs.Shells.{with_status}
 use Rattle.sh_eval.specs.States.{State, in_shell, leaves, left_in, to_read, reading, leaving, reads_to}
 use Rattle.sh_eval.specs.Builtins.{line_in, behind_line, set_all, reads}
 use Rattle.sh_eval.specs.Reading.{left_of, from_behind, told_behind, TakesLine, fields_of, all_set}
+use Rattle.fl_core.specs.Logs.{Log}
 use Rattle.sh_eval.specs.Contract.{Seen, Faults, point_of, seen_of, drawn_of, then_ran, faults_of, Base, Has, Evaluates}
 use Rattle.sh_eval.proofs.Steps.{no-fewer, held-none}
 
@@ -131,7 +132,7 @@ set_all-is (name ∷ names) [] state = refl
 set_all-is (name ∷ names) (text ∷ texts) state = set_all-is names texts (in_shell (λ shell. record shell { variables = map.insert shell.variables name text }) state)
 
 -- READ
-left-so : (base : Base) (state : State) (change : Shell → Shell) (session : Session) (tree : TreeState) (left taken errors : Option (List ℕ)) (used : Option (List (List (List ℕ)))) (faults : Faults) (place : From) → state.session.streams.from ≡ place
+left-so : (base : Base) (state : State) (change : Shell → Shell) (session : Session) (tree : TreeState) (left taken errors : Option (List ℕ)) (used : Option Log) (faults : Faults) (place : From) → state.session.streams.from ≡ place
     → session ≡ reading (from_behind place) state.session → left ≡ told_behind place (Some state.world.input) → used ≡ then_ran base.used state.world.ran → tree.home ≡ state.world.home → tree.held ≡ Some state.world.files
     → taken ≡ then_bytes base.taken state.world.output → errors ≡ then_bytes base.errors state.world.errors
     → Has base (point_of (change state.shell) session tree (seen_of (drawn_of left used) taken errors) faults) (in_shell change (leaving place (behind_line (left_in place state.world)) state))
@@ -150,7 +151,7 @@ to-read : (place : From) (left : Option (List ℕ)) (state : State) → left ≡
 to-read from.Standard left state is = is
 to-read (from.Kept text) left state is = refl
 
-pub read-so : (names : List (List ℕ)) (shell shell' : Shell) (session session' : Session) (tree : TreeState) (left left' taken errors : Option (List ℕ)) (used : Option (List (List (List ℕ)))) (faults : Faults) (line : List ℕ) (closed : Bool)
+pub read-so : (names : List (List ℕ)) (shell shell' : Shell) (session session' : Session) (tree : TreeState) (left left' taken errors : Option (List ℕ)) (used : Option Log) (faults : Faults) (line : List ℕ) (closed : Bool)
     → TakesLine session.streams.from session'.streams.from left left' line closed → session' ≡ reading session'.streams.from session
     → shell' ≡ with_status (if closed then 0 else 1) (record shell { variables = all_set names (fields_of shell.variables line names) shell.variables })
     → Evaluates (λ expansions. reads names) (point_of shell session tree (seen_of (drawn_of left used) taken errors) faults) (how.Gone flow.On) (point_of shell' session' tree (seen_of (drawn_of left' used) taken errors) faults)
@@ -195,7 +196,7 @@ read-so names shell shell' session session' tree left left' taken errors used fa
         (subst (λ (it : Shell). Has base (point_of it session' tree (seen_of (drawn_of left' used) taken errors) faults) (in_shell change (reads_to (behind_line text) state))) (sym shell_is) there)
 
 -- and no fault was counted
-pub read-done : (names : List (List ℕ)) (shell shell' : Shell) (session session' : Session) (tree : TreeState) (left left' taken errors : Option (List ℕ)) (used : Option (List (List (List ℕ)))) (input input' of_output of_errors of_tree : ℕ) (line : List ℕ) (closed : Bool)
+pub read-done : (names : List (List ℕ)) (shell shell' : Shell) (session session' : Session) (tree : TreeState) (left left' taken errors : Option (List ℕ)) (used : Option Log) (input input' of_output of_errors of_tree : ℕ) (line : List ℕ) (closed : Bool)
     → TakesLine session.streams.from session'.streams.from left left' line closed → session' ≡ reading session'.streams.from session
     → shell' ≡ with_status (if closed then 0 else 1) (record shell { variables = all_set names (fields_of shell.variables line names) shell.variables }) → input' ≡ input
     → Evaluates (λ expansions. reads names) (point_of shell session tree (seen_of (drawn_of left used) taken errors) (faults_of input of_output of_errors of_tree)) (how.Gone flow.On)

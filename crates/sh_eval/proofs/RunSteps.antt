@@ -1,18 +1,19 @@
 -- What is run over its inputs is evaluated.
-use Rattle.std.proofs.Common.{◌≡◌, ◌≤◌, ℕ, List, [], ◌∷◌, ◌++◌, Bool, true, false, not, ◌&&◌, inl, Option, Some, None, IfSome, refl, sym, ap, ◌∙◌, subst, append_assoc, append-nil, arith, if◌then◌else◌}
+use Rattle.std.proofs.Common.{◌≡◌, ◌≤◌, ℕ, List, [], ◌∷◌, ◌++◌, Bool, true, false, ◌&&◌, inl, Option, Some, None, IfSome, refl, sym, ap, ◌∙◌, subst, append_assoc, arith, if◌then◌else◌}
 use Rattle.std.proofs.lemmas.Bool.{true≢false}
 use Rattle.std.specs.Option.{option_map, unwrap_or}
 use Rattle.ps_world.specs.Files.{Files, NoWriterOut}
 use Rattle.ps_world.specs.Told.{then_bytes, GrewByPrefix}
 use Rattle.ps_world.specs.TreeState.{TreeState}
 use Rattle.ps_world.proofs.ToldLemmas.{then_bytes-append, grew_by_more, grew_by_whole}
-use Rattle.fl_segments.specs.Chains.{begins_with}
+use Rattle.fl_core.specs.Logs.{Log, log_of}
+use Rattle.fl_segments.specs.Noted.{Noted, used_at}
 use Rattle.fl_segments.specs.declared.stages.First.{First}
+use Rattle.fl_segments.proofs.NotedLemmas.{used-append}
 use Rattle.fl_commands.specs.Runs as runs
 use Rattle.fl_commands.specs.Runs.{Asks, Runs, counts_of, left_behind}
 use Rattle.fl_commands.specs.declared.runs.Ended.{Ended}
 use Rattle.fl_commands.specs.declared.runs.Ended.TheVariants as ended
-use Rattle.sh_expand.specs.Outcomes.{Expansions}
 use Rattle.sh_eval.specs.declared.flows.Flow.TheVariants as flow
 use Rattle.sh_eval.specs.declared.outcomes.How.{How}
 use Rattle.sh_eval.specs.declared.outcomes.How.TheVariants as how
@@ -22,25 +23,26 @@ use Rattle.sh_eval.specs.declared.streams.From.{From}
 use Rattle.sh_eval.specs.declared.streams.From.TheVariants as from
 use Rattle.sh_eval.specs.declared.streams.To.{To}
 use Rattle.sh_eval.specs.declared.streams.To.TheVariants as to
-use Rattle.sh_eval.specs.Contract.{Seen, drawn_of, Faults, faults_of, Point, point_of, seen_of, Base, told, then_ran, Has, HasEnd, IsBehind, Comes, NoFewer, HasCause, IsSound, HeldStays, Keeps, Meaning, Evaluates, goes_on}
+use Rattle.sh_eval.specs.Contract.{Seen, drawn_of, Faults, faults_of, Point, point_of, seen_of, Base, then_ran, Has, HasEnd, IsBehind, Comes, NoFewer, HasCause, IsSound, HeldStays, Keeps, Meaning, Evaluates, goes_on}
 use Rattle.sh_eval.specs.Inner.Inputs.{TakesStream, how_ended, is_own_input, shell_ended, taken_from, text_from}
 use Rattle.sh_eval.specs.Inner.Runs.{AreMeant, Begins, Does, IsMeant, takes, takes_in}
-use Rattle.sh_eval.specs.Segments.{notes}
 use Rattle.sh_eval.specs.Shells.{with_status}
-use Rattle.sh_eval.specs.States.{State, in_world, leaves, leaving, left_in, on, puts, reading, to_read, write}
-use Rattle.sh_eval.specs.Utilities.{taken_in}
+use Rattle.sh_eval.specs.States.{State, in_world, leaves, leaving, left_in, on, puts, reading, write}
+use Rattle.sh_eval.specs.Utilities.{notes, taken_in}
 use Rattle.sh_eval.proofs.Growing.{adds-takes}
 use Rattle.sh_eval.proofs.Steps.{behind-told, followed, held-none, meant-at, sound-behind}
 
-then-more : (base : Option (List (List (List ℕ)))) (first second : List (List (List ℕ))) → option_map (λ before. before ++ second) (then_ran base first) ≡ then_ran base (first ++ second)
+then-more : (base : Option Log) (first second : List Noted) → then_ran (then_ran base first) second ≡ then_ran base (first ++ second)
 then-more None first second = refl
-then-more (Some base) first second = ap Some (append_assoc base first second)
+then-more (Some base) first second =
+    ap (λ (words : List (List (List ℕ))). Some (log_of base.width words))
+    (append_assoc base.words (used_at base.width first) (used_at base.width second) ∙ ap (λ (it : List (List (List ℕ))). base.words ++ it) (sym (used-append base.width first second)))
 
 some-same : {one other : List ℕ} → Some one ≡ Some other → one ≡ other
 some-same is = ap (λ (it : Option (List ℕ)). unwrap_or it []) is
 
 -- STEPS OF A STATE, each with its point
-module _ (base : Base) (shell : Shell) (session : Session) (tree : TreeState) (left taken errors : Option (List ℕ)) (used : Option (List (List (List ℕ)))) (faults : Faults) (state : State)
+module _ (base : Base) (shell : Shell) (session : Session) (tree : TreeState) (left taken errors : Option (List ℕ)) (used : Option Log) (faults : Faults) (state : State)
     (has : Has base (point_of shell session tree (seen_of (drawn_of left used) taken errors) faults) state) where
   left-is : left ≡ Some state.world.input
   left-is = ap (λ (it : Seen). it.drawn.left) has.seen
@@ -84,7 +86,7 @@ module _ (base : Base) (shell : Shell) (session : Session) (tree : TreeState) (l
       }
 
   -- what ran is noted
-  notes-so : (used' : Option (List (List (List ℕ)))) (ran : List (List (List ℕ))) → used' ≡ option_map (λ before. before ++ ran) used
+  notes-so : (used' : Option Log) (ran : List Noted) → used' ≡ then_ran used ran
       → Has base (point_of shell session tree (seen_of (drawn_of left used') taken errors) faults) (in_world (notes ran) state)
   notes-so used' ran used_is =
       record {
@@ -92,7 +94,7 @@ module _ (base : Base) (shell : Shell) (session : Session) (tree : TreeState) (l
         session = has.session;
         home = has.home;
         held = has.held;
-        seen = λ i. seen_of (drawn_of (left-is i) ((used_is ∙ ap (option_map (λ before. before ++ ran)) used-is ∙ then-more base.used state.world.ran ran) i)) (taken-is i) (errors-is i);
+        seen = λ i. seen_of (drawn_of (left-is i) ((used_is ∙ ap (λ (it : Option Log). then_ran it ran) used-is ∙ then-more base.used state.world.ran ran) i)) (taken-is i) (errors-is i);
       }
 
   -- a status is left
@@ -149,7 +151,7 @@ text-is from.Standard state = refl
 text-is (from.Kept text) state = refl
 
 module _ (asks : First → Asks) (reads : Bool) (does : Does) (first : First) (shell : Shell) (session session' : Session) (tree tree' : TreeState) (left left' : Option (List ℕ))
-    (used used' : Option (List (List (List ℕ)))) (taken errors : Option (List ℕ)) (old new : Faults)
+    (used used' : Option Log) (taken errors : Option (List ℕ)) (old new : Faults)
     (meant : AreMeant asks reads does tree) (stream : TakesStream reads session session' first) where
   abbrev before : Point
   before = point_of shell session tree (seen_of (drawn_of left used) taken errors) old
@@ -176,13 +178,13 @@ module _ (asks : First → Asks) (reads : Bool) (does : Does) (first : First) (s
 
     -- what is left where it has come to its end
     pub ends-so : (shell' : Shell) (status : ℕ) → shell' ≡ with_status status shell → tree'.home ≡ tree.home → tree'.held ≡ tree.held
-        → status ≡ (asks first).status state.world.input state.world.files → left' ≡ left_behind (asks first).reads left → used' ≡ option_map (λ before. before ++ (asks first).noted) used
+        → status ≡ (asks first).status state.world.input state.world.files → left' ≡ left_behind (asks first).reads left → used' ≡ then_ran used (asks first).noted
         → Has base (point_of shell' session' tree' (seen_of (drawn_of left' used') taken errors) new) (takes_in does state)
     ends-so shell' status is home held status_is read noted =
         let taken_state = takes-so base shell session tree left taken errors used old state has session' tree' left' new does.reads state.session.streams.from refl home held session-so
         (read ∙ ap (λ (it : Bool). left_behind it left) (meant-here.drawn ∙ ap (λ (it : Bool). it && is_own_input state.session.streams.from) meant-here.same)) in
         let noted_state = notes-so base shell session' tree' left' taken errors used new (taken_in does.reads state) taken_state used' (does.ran state)
-        (noted ∙ ap (λ (it : List (List (List ℕ))). option_map (λ before. before ++ it) used) meant-here.noted) in
+        (noted ∙ ap (then_ran used) meant-here.noted) in
         leaves-so base shell session' tree' left' taken errors used' new (in_world (notes (does.ran state)) (taken_in does.reads state)) noted_state shell' status (does.status state) is (status_is ∙ meant-here.status)
 
 -- WHAT THE SESSION KEEPS
@@ -217,7 +219,7 @@ held-same old new is = subst (λ (it : Option Files). HeldStays old it) (sym is)
 
 -- THE OUTPUT of the run takes what is written
 module _ (asks : First → Asks) (reads : Bool) (does : Does) (first : First) (shell shell' : Shell) (session session' : Session) (tree tree' : TreeState) (left left' taken taken' errors : Option (List ℕ))
-    (used used' : Option (List (List (List ℕ)))) (old new : runs.Counts) (of_errors : ℕ) (came : Ended)
+    (used used' : Option Log) (old new : runs.Counts) (of_errors : ℕ) (came : Ended)
     (meant : AreMeant asks reads does tree) (stream : TakesStream reads session session' first) (shell-is : shell' ≡ shell_ended came shell)
     (ran : Runs (asks first) tree tree' left left' taken taken' old new used used' came) where
   abbrev old-point : Point
@@ -286,7 +288,7 @@ module _ (asks : First → Asks) (reads : Bool) (does : Does) (first : First) (s
 
 -- THE OUTPUT of the run is gathered: what is written is nothing so far
 module _ (asks : First → Asks) (reads : Bool) (does : Does) (first : First) (shell shell' : Shell) (session session' : Session) (tree tree' : TreeState) (left left' taken errors : Option (List ℕ)) (text : List ℕ)
-    (used used' : Option (List (List (List ℕ)))) (input input' of_output of_errors of_tree of_tree' : ℕ) (came : Ended)
+    (used used' : Option Log) (input input' of_output of_errors of_tree of_tree' : ℕ) (came : Ended)
     (meant : AreMeant asks reads does tree) (stream : TakesStream reads session session' first) (shell-is : shell' ≡ shell_ended came shell)
     (ran : Runs (asks first) tree tree' left left' (Some []) (Some text) (counts_of input 0 of_tree) (counts_of input' 0 of_tree') used used' came) where
   abbrev kept-old : Point
@@ -396,7 +398,7 @@ module _ (asks : First → Asks) (reads : Bool) (does : Does) (first : First) (s
 
 -- what a run gives to the evaluation of its inputs, by where descriptor 1 leads
 module _ (asks : First → Asks) (reads : Bool) (does : Does) (first : First) (shell shell' : Shell) (session session' : Session) (tree tree' : TreeState) (left left' taken errors : Option (List ℕ))
-    (used used' : Option (List (List (List ℕ)))) (came : Ended) (came_how : How)
+    (used used' : Option Log) (came : Ended) (came_how : How)
     (meant : AreMeant asks reads does tree) (stream : TakesStream reads session session' first) (shell-is : shell' ≡ shell_ended came shell) (how-is : came_how ≡ how_ended came) where
   pub ran-out : (taken' : Option (List ℕ)) (input input' output output' of_errors of_tree of_tree' : ℕ) → session'.streams.to ≡ to.Output
       → Runs (asks first) tree tree' left left' taken taken' (counts_of input output of_tree) (counts_of input' output' of_tree') used used' came
@@ -433,7 +435,7 @@ module _ (asks : First → Asks) (reads : Bool) (does : Does) (first : First) (s
 pub put-so : (slice text : List ℕ) (old new : Point) (came : How) → slice ≡ text → Evaluates (λ expansions state. on (puts slice state)) old came new → Evaluates (λ expansions state. on (puts text state)) old came new
 put-so slice text old new came same one = subst (λ (it : List ℕ). Evaluates (λ expansions state. on (puts it state)) old came new) same one
 
-pub gathered-ran : (asks : Asks) (tree tree' : TreeState) (left left' taken taken' : Option (List ℕ)) (text : List ℕ) (old new : runs.Counts) (used used' : Option (List (List (List ℕ)))) (came : Ended)
+pub gathered-ran : (asks : Asks) (tree tree' : TreeState) (left left' taken taken' : Option (List ℕ)) (text : List ℕ) (old new : runs.Counts) (used used' : Option Log) (came : Ended)
     → taken ≡ Some [] → Some text ≡ taken' → Runs asks tree tree' left left' taken taken' old new used used' came → Runs asks tree tree' left left' (Some []) (Some text) old new used used' came
 gathered-ran asks tree tree' left left' taken taken' text old new used used' came before after ran =
     subst (λ (it : Option (List ℕ)). Runs asks tree tree' left left' it (Some text) old new used used' came) before

@@ -1,14 +1,14 @@
 -- Utilities of a pipeline mean as one what they mean one after the other.
-use Rattle.std.proofs.Common.{◌≡◌, ℕ, zero, suc, ◌+◌, ◌-◌, List, [], ◌∷◌, ◌++◌, map, length, take, get_or, Bool, true, false, not, ◌&&◌, ◌||◌, refl, sym, ap, ◌∙◌, subst, append_assoc, append-nil, length-append, arith, if◌then◌else◌}
+use Rattle.std.proofs.Common.{◌≡◌, ℕ, suc, ◌+◌, ◌-◌, List, [], ◌∷◌, ◌++◌, map, length, take, get_or, Bool, true, false, not, ◌&&◌, ◌||◌, refl, sym, ap, ◌∙◌, append_assoc, append-nil, length-append, arith, if◌then◌else◌}
 use Rattle.std.specs.List.{flat_map, list_any}
 use Rattle.std.proofs.lemmas.Bool.{true≢false}
 use Rattle.ps_world.specs.Files.{Files}
 use Rattle.ps_world.specs.Paths.{Components}
 use Rattle.ps_world.specs.declared.places.Place.{Place}
 use Rattle.ps_world.specs.declared.places.Place.TheVariants as place
-use Rattle.ut_args.specs.Inputs.{files_by, is_standard, operands_by}
-use Rattle.ut_streams.specs.Utilities.{Input}
-use Rattle.fl_commands.specs.Inputs.{status_of}
+use Rattle.ut_args.specs.Inputs.{is_standard, operands_by}
+use Rattle.fl_segments.specs.Noted.{Noted}
+use Rattle.fl_commands.specs.Inputs.{noted_over, status_of}
 use Rattle.sh_tree.specs.Trees.{CommandTree, CommandTrees, no_command, command}
 use Rattle.sh_expand.specs.Outcomes.{Expansions}
 use Rattle.sh_eval.specs.declared.session.Session.{Session}
@@ -23,10 +23,10 @@ use Rattle.sh_eval.specs.Lines.{diagnostic, no_such_file, is_a_directory}
 use Rattle.sh_eval.specs.Meaning.{command_means, later_stages_mean, stages_means}
 use Rattle.sh_eval.specs.Redirections.{named_by}
 use Rattle.sh_eval.specs.Inner.Gathering.{AllPlain, AreMembers, IsMember, IsPlain, emptied}
-use Rattle.sh_eval.specs.Segments.{is_plain_place, name_of, given_for, inputs_fed, words_ran, lines_for, reads_first, notes, no_pipe, member_means, written_by, text_through, status_for, status_through, takes_through, runs_through}
+use Rattle.sh_eval.specs.Segments.{is_plain_place, name_of, given_for, inputs_fed, ran_of, lines_for, reads_first, member_means, written_by, text_through, status_for, status_through, takes_through, runs_through}
 use Rattle.sh_eval.specs.Shells.{inside, with_status}
-use Rattle.sh_eval.specs.States.{World, State, Ends, Means, after, on, in_session, in_shell, in_world, innermost, leaves, leaving, left_in, grown_at, piping, puts, reading, tells, to_read, unpiped, write}
-use Rattle.sh_eval.specs.Utilities.{Given, input, nothing, complaint, Called, Pages, appends, complaints_in, deals, does_nothing, file_input, given_from, given_to, has_input, has_none, inputs_in, is_cat, is_silent, lines_told, made_by, make_files, needs_all, noted_run, reads_standard, runs_utility, standard_again, standard_input, taken_in, takes_inputs, tells_some, words_without, writes_out}
+use Rattle.sh_eval.specs.States.{World, State, Ends, after, on, in_session, in_world, innermost, leaves, leaving, left_in, grown_at, piping, puts, reading, to_read, unpiped, write}
+use Rattle.sh_eval.specs.Utilities.{Given, input, Called, Pages, appends, complaints_in, deals, does_nothing, file_input, given_from, given_to, has_none, inputs_in, is_silent, made_by, make_files, needs_all, notes, reads_standard, standard_again, standard_input, taken_in, takes_inputs, tells_some, words_without, writes_out}
 
 -- WHAT OPERANDS GIVE hangs on the files, the working directory and the stream alone
 module _ (one other : State) (files : one.world.files ≡ other.world.files) (home : one.world.home ≡ other.world.home) where
@@ -89,41 +89,41 @@ module _ (one other : State) (files : one.world.files ≡ other.world.files) (ho
     complaints-same [] = refl
     complaints-same (operand ∷ operands) = complaints_from-same false (operand ∷ operands)
 
-    some_from-same : (is_taken : Bool) (operands : List (List ℕ))
-        → has_input (inputs_in (given_from one deals name is_taken operands)) ≡ has_input (inputs_in (given_from other deals name is_taken operands))
-    some_from-same is_taken [] = refl
-    some_from-same is_taken (operand ∷ operands) =
-        by_test (some_from-same true operands) (some_from-same is_taken operands) (is_standard operand)
+    count_from-same : (is_taken : Bool) (operands : List (List ℕ))
+        → length (inputs_in (given_from one deals name is_taken operands)) ≡ length (inputs_in (given_from other deals name is_taken operands))
+    count_from-same is_taken [] = refl
+    count_from-same is_taken (operand ∷ operands) =
+        by_test (count_from-same true operands) (count_from-same is_taken operands) (is_standard operand)
       where
-        by_again : (first second : List Given) → has_input (inputs_in first) ≡ has_input (inputs_in second) → (dealt taken : Bool)
-            → has_input (inputs_in ((if taken then standard_again dealt operand else standard_input one operand) ∷ first))
-            ≡ has_input (inputs_in ((if taken then standard_again dealt operand else standard_input other operand) ∷ second))
+        by_again : (first second : List Given) → length (inputs_in first) ≡ length (inputs_in second) → (dealt taken : Bool)
+            → length (inputs_in ((if taken then standard_again dealt operand else standard_input one operand) ∷ first))
+            ≡ length (inputs_in ((if taken then standard_again dealt operand else standard_input other operand) ∷ second))
         by_again first second rest true true = rest
-        by_again first second rest false true = refl
-        by_again first second rest dealt false = refl
+        by_again first second rest false true = ap suc rest
+        by_again first second rest dealt false = ap suc rest
 
-        by_place : (first second : List Given) → has_input (inputs_in first) ≡ has_input (inputs_in second) → (at : Place)
-            → has_input (inputs_in (file_input one name operand at ∷ first)) ≡ has_input (inputs_in (file_input other name operand at ∷ second))
+        by_place : (first second : List Given) → length (inputs_in first) ≡ length (inputs_in second) → (at : Place)
+            → length (inputs_in (file_input one name operand at ∷ first)) ≡ length (inputs_in (file_input other name operand at ∷ second))
         by_place first second rest place.Missing = rest
         by_place first second rest (place.Makeable path) = rest
         by_place first second rest (place.Dir path) = rest
-        by_place first second rest (place.File path) = refl
-        by_place first second rest place.Null = refl
+        by_place first second rest (place.File path) = ap suc rest
+        by_place first second rest place.Null = ap suc rest
 
-        by_test : has_input (inputs_in (given_from one deals name true operands)) ≡ has_input (inputs_in (given_from other deals name true operands))
-            → has_input (inputs_in (given_from one deals name is_taken operands)) ≡ has_input (inputs_in (given_from other deals name is_taken operands)) → (standard : Bool)
-            → has_input (inputs_in (if standard then (if is_taken then standard_again deals operand else standard_input one operand) ∷ given_from one deals name true operands
+        by_test : length (inputs_in (given_from one deals name true operands)) ≡ length (inputs_in (given_from other deals name true operands))
+            → length (inputs_in (given_from one deals name is_taken operands)) ≡ length (inputs_in (given_from other deals name is_taken operands)) → (standard : Bool)
+            → length (inputs_in (if standard then (if is_taken then standard_again deals operand else standard_input one operand) ∷ given_from one deals name true operands
             else file_input one name operand (named_by one operand) ∷ given_from one deals name is_taken operands))
-            ≡ has_input (inputs_in (if standard then (if is_taken then standard_again deals operand else standard_input other operand) ∷ given_from other deals name true operands
+            ≡ length (inputs_in (if standard then (if is_taken then standard_again deals operand else standard_input other operand) ∷ given_from other deals name true operands
             else file_input other name operand (named_by other operand) ∷ given_from other deals name is_taken operands))
         by_test again rest true = by_again (given_from one deals name true operands) (given_from other deals name true operands) again deals is_taken
         by_test again rest false =
             by_place (given_from one deals name is_taken operands) (given_from other deals name is_taken operands) rest (named_by one operand)
-            ∙ ap (λ (it : Place). has_input (inputs_in (file_input other name operand it ∷ given_from other deals name is_taken operands))) (λ i. named_by (mid [] (files i) (home i)) operand)
+            ∙ ap (λ (it : Place). length (inputs_in (file_input other name operand it ∷ given_from other deals name is_taken operands))) (λ i. named_by (mid [] (files i) (home i)) operand)
 
-    pub some-same : (operands : List (List ℕ)) → has_input (inputs_in (given_to one deals name operands)) ≡ has_input (inputs_in (given_to other deals name operands))
-    some-same [] = refl
-    some-same (operand ∷ operands) = some_from-same false (operand ∷ operands)
+    pub count-same : (operands : List (List ℕ)) → length (inputs_in (given_to one deals name operands)) ≡ length (inputs_in (given_to other deals name operands))
+    count-same [] = refl
+    count-same (operand ∷ operands) = count_from-same false (operand ∷ operands)
 
   lacking-same : (operand : List ℕ) → has_none one operand ≡ has_none other operand
   lacking-same operand = λ i. has_none (mid [] (files i) (home i)) operand
@@ -146,10 +146,9 @@ module _ (one other : State) (files : one.world.files ≡ other.world.files) (ho
   pub words-same : (called : Called) → words_without (has_none one) called ≡ words_without (has_none other) called
   words-same called = ap (λ (it : List (List ℕ)). take (length called.words - length (operands_by called.command)) called.words ++ it) (blanks-same (operands_by called.command))
 
-  pub ran-same : (member : Called) → words_ran one member ≡ words_ran other member
+  pub ran-same : (member : Called) → ran_of one member ≡ ran_of other member
   ran-same member =
-      λ i. if not (is_cat member.command) && some-same (deals member.command) (name_of member) (operands_by member.command) i
-      then words-same member i ∷ [] else []
+      λ i. noted_over member.command (words-same member i) (count-same (deals member.command) (name_of member) (operands_by member.command) i)
 
 -- of a state that reads a text
 module _ (one other : State) (files : one.world.files ≡ other.world.files) (home : one.world.home ≡ other.world.home) (pages : Pages) where
@@ -179,7 +178,7 @@ module _ (one other : State) (files : one.world.files ≡ other.world.files) (ho
   all_lines-same [] = refl
   all_lines-same (member ∷ rest) = λ i. lines-same one other files home pages member i ++ all_lines-same rest i
 
-  pub all_ran-same : (members : List Called) → flat_map (words_ran one) members ≡ flat_map (words_ran other) members
+  pub all_ran-same : (members : List Called) → flat_map (ran_of one) members ≡ flat_map (ran_of other) members
   all_ran-same [] = refl
   all_ran-same (member ∷ rest) = λ i. ran-same one other files home member i ++ all_ran-same rest i
 
@@ -250,23 +249,19 @@ errors-more (to.File path) first second = refl
 errors-more to.Null first second = refl
 
 -- ONE MEMBER
-noted-is : (is : Bool) (words : List (List ℕ)) (world : World) → noted_run is words world ≡ notes ((if is then words ∷ [] else []) ++ []) world
-noted-is true words world = refl
-noted-is false words world = λ i. record world { ran = sym (append-nil world.ran) i }
-
 module _ (pages : Pages) where
   taken-is : (state : State) (member : Called) → on (puts (pages.output member.command (inputs_in (given_for state member)))
       (leaves (status_of member.command (list_any (has_none state) (operands_by member.command)) (pages.selects member.command (inputs_in (given_for state member))))
-      (in_world (noted_run (not (is_cat member.command) && has_input (inputs_in (given_for state member))) (words_without (has_none state) member)) (taken_in (reads_standard (operands_by member.command)) state))))
+      (in_world (notes (ran_of state member)) (taken_in (reads_standard (operands_by member.command)) state))))
       ≡ takes_through pages (member ∷ []) state
   taken-is state member =
       λ i. on (puts (pages.output member.command (sym (fed-self state member) i))
       (leaves (status_of member.command (list_any (has_none state) (operands_by member.command)) (pages.selects member.command (sym (fed-self state member) i)))
       (noted-so i)))
     where
-      noted-so : in_world (noted_run (not (is_cat member.command) && has_input (inputs_in (given_for state member))) (words_without (has_none state) member)) (taken_in (reads_standard (operands_by member.command)) state)
-          ≡ in_world (notes (flat_map (words_ran state) (member ∷ []))) (taken_in (reads_standard (operands_by member.command)) state)
-      noted-so = λ i. in_world (λ world. noted-is (not (is_cat member.command) && has_input (inputs_in (given_for state member))) (words_without (has_none state) member) world i) (taken_in (reads_standard (operands_by member.command)) state)
+      noted-so : in_world (notes (ran_of state member)) (taken_in (reads_standard (operands_by member.command)) state)
+          ≡ in_world (notes (flat_map (ran_of state) (member ∷ []))) (taken_in (reads_standard (operands_by member.command)) state)
+      noted-so = λ i. in_world (notes (sym (append-nil (ran_of state member)) i)) (taken_in (reads_standard (operands_by member.command)) state)
 
   pub single-is : (state : State) (member : Called) → IsPlain state member → member_means pages member state ≡ runs_through pages (member ∷ []) state
   single-is state member plain =
@@ -328,10 +323,10 @@ abbrev last_from : State → Ends → Ends
 last_from state left = last_stage (λ inner. left) state
 
 -- the world behind lines that were told, where these words are noted
-abbrev world_behind : To → List ℕ → List (List (List ℕ)) → World → World
+abbrev world_behind : To → List ℕ → List Noted → World → World
 world_behind place lines ran world = notes ran (world_told place lines world)
 
-behind-more : (place : To) (first second : List ℕ) (ran more : List (List (List ℕ))) (world : World)
+behind-more : (place : To) (first second : List ℕ) (ran more : List Noted) (world : World)
     → world_behind place second more (world_behind place first ran world) ≡ world_behind place (first ++ second) (ran ++ more) world
 behind-more place first second ran more world =
     λ i. record world {
@@ -341,11 +336,11 @@ behind-more place first second ran more world =
     }
 
 -- a state behind lines, whose output is still to be written
-abbrev ready : List ℕ → List (List (List ℕ)) → ℕ → Bool → State → State
+abbrev ready : List ℕ → List Noted → ℕ → Bool → State → State
 ready lines ran status reads state = leaves status (in_world (notes ran) (taken_in reads (in_world (world_told state.session.streams.errors_to lines) state)))
 
 -- a middle stage leaves this
-abbrev middle_left : List ℕ → List (List (List ℕ)) → List ℕ → State → State
+abbrev middle_left : List ℕ → List Noted → List ℕ → State → State
 middle_left lines ran written state =
     record {
       shell = state.shell;
@@ -353,7 +348,7 @@ middle_left lines ran written state =
       world = world_behind state.session.streams.errors_to lines ran state.world;
     }
 
-middle-ready : (changes : Shell → Shell) (reads : Bool) (lines written : List ℕ) (ran : List (List (List ℕ))) (status : ℕ) (state : State)
+middle-ready : (changes : Shell → Shell) (reads : Bool) (lines written : List ℕ) (ran : List Noted) (status : ℕ) (state : State)
     → middle_from state (on (puts written (ready lines ran status reads (middle_in changes state)))) ≡ on (middle_left lines ran written state)
 middle-ready changes true lines written ran status state =
     λ i. on (record {
@@ -369,7 +364,7 @@ middle-ready changes false lines written ran status state =
     })
 
 -- and the first this: what it has read of the standard input stays read
-abbrev first_left : List ℕ → List (List (List ℕ)) → List ℕ → Bool → State → State
+abbrev first_left : List ℕ → List Noted → List ℕ → Bool → State → State
 first_left lines ran written reads state =
     let taken = taken_in reads state in
     record {
@@ -378,7 +373,7 @@ first_left lines ran written reads state =
       world = world_behind state.session.streams.errors_to lines ran taken.world;
     }
 
-first-taken : (changes : Shell → Shell) (place : From) (lines written : List ℕ) (ran : List (List (List ℕ))) (status : ℕ) (state : State) → state.session.streams.from ≡ place
+first-taken : (changes : Shell → Shell) (place : From) (lines written : List ℕ) (ran : List Noted) (status : ℕ) (state : State) → state.session.streams.from ≡ place
     → first_from state (on (puts written (leaves status (in_world (notes ran) (leaving place [] (in_world (world_told state.session.streams.errors_to lines) (first_in changes state)))))))
     ≡ on (record {
       shell = state.shell;
@@ -398,7 +393,7 @@ first-taken changes (from.Kept text) lines written ran status state is =
       world = world_behind state.session.streams.errors_to lines ran state.world;
     })
 
-first-ready : (changes : Shell → Shell) (reads : Bool) (lines written : List ℕ) (ran : List (List (List ℕ))) (status : ℕ) (state : State)
+first-ready : (changes : Shell → Shell) (reads : Bool) (lines written : List ℕ) (ran : List Noted) (status : ℕ) (state : State)
     → first_from state (on (puts written (ready lines ran status reads (first_in changes state)))) ≡ on (first_left lines ran written reads state)
 first-ready changes true lines written ran status state = first-taken changes state.session.streams.from lines written ran status state refl
 first-ready changes false lines written ran status state =
@@ -409,7 +404,7 @@ first-ready changes false lines written ran status state =
     })
 
 -- the last writes where the shell writes
-abbrev last_left : List ℕ → List (List (List ℕ)) → ℕ → List ℕ → State → State
+abbrev last_left : List ℕ → List Noted → ℕ → List ℕ → State → State
 last_left lines ran status text state =
     write state.session.streams.to text (record {
       shell = with_status status state.shell;
@@ -417,7 +412,7 @@ last_left lines ran status text state =
       world = world_behind state.session.streams.errors_to lines ran state.world;
     })
 
-last-written : (changes : Shell → Shell) (place : To) (reads : Bool) (lines text : List ℕ) (ran : List (List (List ℕ))) (status : ℕ) (state : State)
+last-written : (changes : Shell → Shell) (place : To) (reads : Bool) (lines text : List ℕ) (ran : List Noted) (status : ℕ) (state : State)
     → last_from state (on (write place text (ready lines ran status reads (last_in changes state))))
     ≡ on (write place text (record {
       shell = with_status status state.shell;
@@ -435,11 +430,11 @@ last-written changes (to.File path) false lines text ran status state = refl
 last-written changes to.Null true lines text ran status state = refl
 last-written changes to.Null false lines text ran status state = refl
 
-to-taken : (changes : Shell → Shell) (reads : Bool) (lines : List ℕ) (ran : List (List (List ℕ))) (status : ℕ) (state : State) → (ready lines ran status reads (last_in changes state)).session.streams.to ≡ state.session.streams.to
+to-taken : (changes : Shell → Shell) (reads : Bool) (lines : List ℕ) (ran : List Noted) (status : ℕ) (state : State) → (ready lines ran status reads (last_in changes state)).session.streams.to ≡ state.session.streams.to
 to-taken changes true lines ran status state = refl
 to-taken changes false lines ran status state = refl
 
-last-ready : (changes : Shell → Shell) (reads : Bool) (lines text : List ℕ) (ran : List (List (List ℕ))) (status : ℕ) (state : State)
+last-ready : (changes : Shell → Shell) (reads : Bool) (lines text : List ℕ) (ran : List Noted) (status : ℕ) (state : State)
     → last_from state (on (puts text (ready lines ran status reads (last_in changes state)))) ≡ on (last_left lines ran status text state)
 last-ready changes reads lines text ran status state =
     ap (λ (it : To). last_from state (on (write it text (ready lines ran status reads (last_in changes state))))) (to-taken changes reads lines ran status state)
@@ -468,7 +463,7 @@ module _ (pages : Pages) where
 
     pub readied : leave (runs_through pages members inner)
         ≡ leave (on (puts (text_through pages outer members (to_read told_in))
-        (ready (flat_map (lines_for outer) members) (flat_map (words_ran outer) members) (status_through pages outer members (to_read told_in)) (reads_first members) inner)))
+        (ready (flat_map (lines_for outer) members) (flat_map (ran_of outer) members) (status_through pages outer members (to_read told_in)) (reads_first members) inner)))
     readied =
         ap (λ (it : State). leave (takes_through pages members it)) (told-is lines_in inner plain)
         ∙ λ i. leave (on (puts (through-same told_in outer files home pages members (to_read told_in) i)
@@ -479,11 +474,11 @@ module _ (pages : Pages) where
   -- ONE BEHIND ANOTHER
   abbrev later_left : List Called → State → State
   later_left members state =
-      last_left (flat_map (lines_for state) members) (flat_map (words_ran state) members) (status_through pages state members state.session.piped)
+      last_left (flat_map (lines_for state) members) (flat_map (ran_of state) members) (status_through pages state members state.session.piped)
       (text_through pages state members state.session.piped) state
 
   abbrev handed_by : Called → State → State
-  handed_by member state = middle_left (flat_map (lines_for state) (member ∷ [])) (flat_map (words_ran state) (member ∷ [])) (written_by pages state member state.session.piped) state
+  handed_by member state = middle_left (flat_map (lines_for state) (member ∷ [])) (flat_map (ran_of state) (member ∷ [])) (written_by pages state member state.session.piped) state
 
   to_read-told : (from_place : From) (place : To) (lines : List ℕ) (world : World) → left_in from_place (world_told place lines world) ≡ left_in from_place world
   to_read-told from.Standard place lines world = refl
@@ -491,10 +486,10 @@ module _ (pages : Pages) where
 
   abbrev started_by : Called → State → State
   started_by member state =
-      first_left (flat_map (lines_for state) (member ∷ [])) (flat_map (words_ran state) (member ∷ [])) (written_by pages state member (to_read state)) (reads_first (member ∷ [])) state
+      first_left (flat_map (lines_for state) (member ∷ [])) (flat_map (ran_of state) (member ∷ [])) (written_by pages state member (to_read state)) (reads_first (member ∷ [])) state
 
   -- what all leave
-  abbrev all_left : List ℕ → List (List (List ℕ)) → ℕ → List ℕ → Bool → State → State
+  abbrev all_left : List ℕ → List Noted → ℕ → List ℕ → Bool → State → State
   all_left lines ran status text reads state =
       let taken = taken_in reads state in
       write state.session.streams.to text (record {
@@ -515,7 +510,7 @@ module _ (pages : Pages) where
   places-taken true (from.Kept text) state = (refl, refl)
   places-taken false place state = (refl, refl)
 
-  all-written : (place : To) (from_place : From) (reads : Bool) (lines text : List ℕ) (ran : List (List (List ℕ))) (status : ℕ) (state : State)
+  all-written : (place : To) (from_place : From) (reads : Bool) (lines text : List ℕ) (ran : List Noted) (status : ℕ) (state : State)
       → emptied (on (write place text (leaves status (in_world (notes ran) (if reads then leaving from_place [] (in_world (world_told state.session.streams.errors_to lines) state) else in_world (world_told state.session.streams.errors_to lines) state)))))
       ≡ on (write place text (record {
         shell = with_status status state.shell;
@@ -545,17 +540,17 @@ module _ (pages : Pages) where
 
   all-as_one : (members : List Called) (state : State) → is_plain_place state.session.streams.errors_to ≡ true
       → emptied (runs_through pages members state)
-      ≡ on (all_left (flat_map (lines_for state) members) (flat_map (words_ran state) members) (status_through pages state members (to_read state)) (text_through pages state members (to_read state)) (reads_first members) state)
+      ≡ on (all_left (flat_map (lines_for state) members) (flat_map (ran_of state) members) (status_through pages state members (to_read state)) (text_through pages state members (to_read state)) (reads_first members) state)
   all-as_one members state plain =
       readied members state state refl refl emptied plain
       ∙ ap (λ (it : List ℕ). emptied (on (puts (text_through pages state members it)
-      (ready (flat_map (lines_for state) members) (flat_map (words_ran state) members) (status_through pages state members it) (reads_first members) state))))
+      (ready (flat_map (lines_for state) members) (flat_map (ran_of state) members) (status_through pages state members it) (reads_first members) state))))
       (to_read-told state.session.streams.from state.session.streams.errors_to (flat_map (lines_for state) members) state.world)
       ∙ ap (λ (it : To). emptied (on (write it (text_through pages state members (to_read state))
-      (ready (flat_map (lines_for state) members) (flat_map (words_ran state) members) (status_through pages state members (to_read state)) (reads_first members) state))))
+      (ready (flat_map (lines_for state) members) (flat_map (ran_of state) members) (status_through pages state members (to_read state)) (reads_first members) state))))
       (to-ready (reads_first members) state.session.streams.from state.session.streams.errors_to (flat_map (lines_for state) members) state)
       ∙ all-written state.session.streams.to state.session.streams.from (reads_first members) (flat_map (lines_for state) members) (text_through pages state members (to_read state))
-      (flat_map (words_ran state) members) (status_through pages state members (to_read state)) state
+      (flat_map (ran_of state) members) (status_through pages state members (to_read state)) state
 
   -- THE COMMANDS OF STAGES run the utilities
   module _ (expansions : Expansions) (files : Files) (home : Components) (held : List Held) (shell : Shell) where
@@ -580,7 +575,7 @@ module _ (pages : Pages) where
         ap (last_from state) (one.is (last_in (λ it. it) state) at.files_are at.home_is at.held_are (ap inside at.shell_is)
         ∙ single-is pages (last_in changes state) member (plain-same state (last_in changes state) refl refl member is))
         ∙ readied (member ∷ []) state (last_in changes state) refl refl (last_from state) at.plain
-        ∙ last-ready changes (reads_first (member ∷ [])) (flat_map (lines_for state) (member ∷ [])) (text_through pages state (member ∷ []) state.session.piped) (flat_map (words_ran state) (member ∷ []))
+        ∙ last-ready changes (reads_first (member ∷ [])) (flat_map (lines_for state) (member ∷ [])) (text_through pages state (member ∷ []) state.session.piped) (flat_map (ran_of state) (member ∷ []))
         (status_through pages state (member ∷ []) state.session.piped) state
 
     middle-so : (tree : CommandTree) (member : Called) (state : State) → Member tree member → IsAt state → IsPlain state member
@@ -590,7 +585,7 @@ module _ (pages : Pages) where
         ap (middle_from state) (one.is (middle_in (λ it. it) state) at.files_are at.home_is at.held_are (ap inside at.shell_is)
         ∙ single-is pages (middle_in changes state) member (plain-same state (middle_in changes state) refl refl member is))
         ∙ readied (member ∷ []) state (middle_in changes state) refl refl (middle_from state) at.plain
-        ∙ middle-ready changes (reads_first (member ∷ [])) (flat_map (lines_for state) (member ∷ [])) (text_through pages state (member ∷ []) state.session.piped) (flat_map (words_ran state) (member ∷ []))
+        ∙ middle-ready changes (reads_first (member ∷ [])) (flat_map (lines_for state) (member ∷ [])) (text_through pages state (member ∷ []) state.session.piped) (flat_map (ran_of state) (member ∷ []))
         (status_through pages state (member ∷ []) state.session.piped) state
 
     handed-at : (member : Called) (state : State) → IsAt state → IsAt (handed_by member state)
@@ -614,10 +609,10 @@ module _ (pages : Pages) where
           session = record state.session { piped = [] };
           world = it;
         })))
-        (behind-more state.session.streams.errors_to (flat_map (lines_for state) (member ∷ [])) (flat_map (lines_for state) (next ∷ rest)) (flat_map (words_ran state) (member ∷ []))
-        (flat_map (words_ran state) (next ∷ rest)) state.world
+        (behind-more state.session.streams.errors_to (flat_map (lines_for state) (member ∷ [])) (flat_map (lines_for state) (next ∷ rest)) (flat_map (ran_of state) (member ∷ []))
+        (flat_map (ran_of state) (next ∷ rest)) state.world
         ∙ λ i. world_behind state.session.streams.errors_to (append_assoc (lines_for state member) [] (flat_map (lines_for state) (next ∷ rest)) i)
-        (append_assoc (words_ran state member) [] (flat_map (words_ran state) (next ∷ rest)) i) state.world)
+        (append_assoc (ran_of state member) [] (flat_map (ran_of state) (next ∷ rest)) i) state.world)
 
     -- later stages run as the last one
     pub later-as_one : (tree : CommandTree) (trees : CommandTrees) (member : Called) (rest : List Called) (state : State) → Members (command tree trees) (member ∷ rest) → IsAt state → AllPlain state (member ∷ rest)
@@ -626,7 +621,7 @@ module _ (pages : Pages) where
         later-so tree trees member rest state are at all
         ∙ sym (readied (member ∷ rest) state (last_in (λ it. it) state) refl refl (last_from state) at.plain
         ∙ last-ready (λ it. it) (reads_first (member ∷ rest)) (flat_map (lines_for state) (member ∷ rest)) (text_through pages state (member ∷ rest) state.session.piped)
-        (flat_map (words_ran state) (member ∷ rest)) (status_through pages state (member ∷ rest) state.session.piped) state)
+        (flat_map (ran_of state) (member ∷ rest)) (status_through pages state (member ∷ rest) state.session.piped) state)
 
     first-so : (tree : CommandTree) (member : Called) (state : State) → Member tree member → IsAt state → IsPlain state member
         → first_stage (command_means expansions pages tree) state ≡ on (started_by member state)
@@ -637,15 +632,15 @@ module _ (pages : Pages) where
         ∙ single-is pages (first_in changes state) member (plain-same state (first_in changes state) refl refl member is))
         ∙ readied (member ∷ []) state (first_in changes state) refl refl (first_from state) at.plain
         ∙ first-ready changes (reads_first (member ∷ [])) (flat_map (lines_for state) (member ∷ [])) (text_through pages state (member ∷ []) (to_read told))
-        (flat_map (words_ran state) (member ∷ [])) (status_through pages state (member ∷ []) (to_read told)) state
-        ∙ ap (λ (it : List ℕ). on (first_left (flat_map (lines_for state) (member ∷ [])) (flat_map (words_ran state) (member ∷ [])) (written_by pages state member it) (reads_first (member ∷ [])) state))
+        (flat_map (ran_of state) (member ∷ [])) (status_through pages state (member ∷ []) (to_read told)) state
+        ∙ ap (λ (it : List ℕ). on (first_left (flat_map (lines_for state) (member ∷ [])) (flat_map (ran_of state) (member ∷ [])) (written_by pages state member it) (reads_first (member ∷ [])) state))
         (to_read-told state.session.streams.from state.session.streams.errors_to (flat_map (lines_for (first_in changes state)) (member ∷ [])) state.world)
 
     started-at : (member : Called) (reads : Bool) (place : From) (state : State) → IsAt state
         → IsAt (record {
           shell = state.shell;
           session = record (if reads then leaving place [] state else state).session { piped = written_by pages state member (to_read state) };
-          world = world_behind state.session.streams.errors_to (flat_map (lines_for state) (member ∷ [])) (flat_map (words_ran state) (member ∷ [])) (if reads then leaving place [] state else state).world;
+          world = world_behind state.session.streams.errors_to (flat_map (lines_for state) (member ∷ [])) (flat_map (ran_of state) (member ∷ [])) (if reads then leaving place [] state else state).world;
         })
     started-at member true from.Standard state at = record { files_are = at.files_are; home_is = at.home_is; held_are = at.held_are; shell_is = at.shell_is; plain = at.plain }
     started-at member true (from.Kept text) state at = record { files_are = at.files_are; home_is = at.home_is; held_are = at.held_are; shell_is = at.shell_is; plain = at.plain }
@@ -668,10 +663,10 @@ module _ (pages : Pages) where
           session = record taken.session { piped = [] };
           world = it;
         })))
-        (behind-more state.session.streams.errors_to (flat_map (lines_for state) (first ∷ [])) (flat_map (lines_for state) (next ∷ rest)) (flat_map (words_ran state) (first ∷ []))
-        (flat_map (words_ran state) (next ∷ rest)) taken.world
+        (behind-more state.session.streams.errors_to (flat_map (lines_for state) (first ∷ [])) (flat_map (lines_for state) (next ∷ rest)) (flat_map (ran_of state) (first ∷ []))
+        (flat_map (ran_of state) (next ∷ rest)) taken.world
         ∙ λ i. world_behind state.session.streams.errors_to (append_assoc (lines_for state first) [] (flat_map (lines_for state) (next ∷ rest)) i)
-        (append_assoc (words_ran state first) [] (flat_map (words_ran state) (next ∷ rest)) i) taken.world)
+        (append_assoc (ran_of state first) [] (flat_map (ran_of state) (next ∷ rest)) i) taken.world)
         ∙ sym (all-as_one (first ∷ next ∷ rest) state at.plain)
       where
         reads : Bool

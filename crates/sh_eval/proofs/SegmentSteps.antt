@@ -8,12 +8,12 @@ use Rattle.ps_world.proofs.TreeStateLemmas.{balanced-none}
 use Rattle.ut_args.specs.Inputs.{operands_of}
 use Rattle.ut_args.specs.Invocations.{command_of}
 use Rattle.fl_segments.specs.Chains.{begins_with}
-use Rattle.fl_commands.specs.Inputs.{output_for}
+use Rattle.fl_commands.specs.Inner.Stages.{some_lacks}
 use Rattle.fl_commands.specs.Members as members
-use Rattle.fl_commands.specs.Members.{AllCanRun, CanRun, member_output, member_status, noted_of, output_through}
+use Rattle.fl_commands.specs.Members.{member_output, member_status, noted_of, output_through}
 use Rattle.fl_commands.specs.Runs.{pipeline_asks}
 use Rattle.fl_commands.specs.declared.members.Member.{Member}
-use Rattle.sh_tree.specs.Trees.{CommandTree, CommandTrees, command, no_command}
+use Rattle.sh_tree.specs.Trees.{CommandTrees, command, no_command}
 use Rattle.sh_expand.specs.Outcomes.{Expansions}
 use Rattle.sh_eval.specs.declared.flows.Flow.TheVariants as flow
 use Rattle.sh_eval.specs.declared.outcomes.How.{How}
@@ -24,20 +24,19 @@ use Rattle.sh_eval.specs.declared.streams.From.TheVariants as from
 use Rattle.sh_eval.specs.declared.streams.Held.{Held}
 use Rattle.sh_eval.specs.Contract.{Seen, Faults, Point, point_of, Base, Has, Comes, Meaning, Evaluates, goes_on}
 use Rattle.sh_eval.specs.Growth.{Adds}
-use Rattle.sh_eval.specs.Inner.Gathering.{AllLooked, AllPlain, AreGathered, AreMembers, AreTold, calls_of, emptied}
+use Rattle.sh_eval.specs.Inner.Gathering.{AllLooked, AllPlain, AreGathered, IsPlain, AreMembers, AreTold, calls_of, emptied}
 use Rattle.sh_eval.specs.Inner.Inputs.{IsLooked, called_by, reads_stream}
-use Rattle.sh_eval.specs.Inner.Runs.{AreMeant, Begins, pipeline_does, reads_head, takes}
+use Rattle.sh_eval.specs.Inner.Runs.{AreMeant, pipeline_does, reads_head, takes}
 use Rattle.sh_eval.specs.Meaning.{stages_means}
-use Rattle.sh_eval.specs.Segments.{is_plain_place, lines_for, name_of, no_pipe, runs_through, status_for, status_through, takes_through, text_through, words_ran, written_by}
-use Rattle.sh_eval.specs.States.{State, Ends, Means, after, in_session, on, reading, to_read}
+use Rattle.sh_eval.specs.Segments.{is_plain_place, name_of, no_pipe, runs_through, status_for, status_through, takes_through, text_through, ran_of, written_by}
+use Rattle.sh_eval.specs.States.{State, Ends, after, in_session, on, reading, to_read}
 use Rattle.sh_eval.specs.Table.{pages}
-use Rattle.sh_eval.specs.Utilities.{Called, deals, tells_some}
+use Rattle.sh_eval.specs.Utilities.{Called, needs_all, tells_some}
 use Rattle.sh_eval.proofs.Growing.{adds-takes, grows-self}
-use Rattle.sh_eval.proofs.OperandSteps.{looked, reads-are}
+use Rattle.sh_eval.proofs.OperandSteps.{lacks-are, looked, reads-are}
 use Rattle.sh_eval.proofs.SegmentLemmas.{IsAt, several-as_one}
-use Rattle.sh_eval.proofs.SimpleSteps.{deals-not}
 use Rattle.sh_eval.proofs.Steps.{followed, held-none, meant-at, no-fewer, stopped}
-use Rattle.sh_eval.proofs.UtilitySteps.{inputs-so, noted-so, own-so, status-so}
+use Rattle.sh_eval.proofs.UtilitySteps.{noted-so, output-so, own-so, status-so}
 
 -- WHAT IS ASKED FOR of members is what they mean
 module _ (tree : TreeState) (state : State) (told : tree.held ≡ Some state.world.files) (home : tree.home ≡ state.world.home) where
@@ -45,52 +44,54 @@ module _ (tree : TreeState) (state : State) (told : tree.held ≡ Some state.wor
   abbrev fed : List ℕ → State
   fed text = in_session (reading (from.Kept text)) state
 
-  module _ (member : Member) (looks : IsLooked tree (operands_of member.inv) member.operands.items) (can : CanRun member) where
+  module _ (member : Member) (looks : IsLooked tree (operands_of member.inv) member.operands.items) (plain : IsPlain state (called_by member.inv)) where
     named : member.operands.items ≡ looked state (operands_of member.inv)
     named = looks.named state told home
 
-    plain : deals (command_of member.inv) ≡ false
-    plain = deals-not member.inv can.built
+    -- where it needs all its operands, each has an input
+    needed : (needs_all (command_of member.inv) && some_lacks member.operands.items) ≡ false
+    needed = ap (λ (it : Bool). needs_all (command_of member.inv) && it) (ap some_lacks named ∙ sym (lacks-are state (operands_of member.inv))) ∙ plain.is_whole
 
     -- what it writes, where the stream is this text or isn't read
     written-so : (stream text : List ℕ) → (reads_stream member.operands.items ≡ true → stream ≡ text) → member_output member (bytes_at state.world.files) stream ≡ written_by pages state (called_by member.inv) text
-    written-so stream text same = ap (output_for (command_of member.inv)) (inputs-so (name_of (called_by member.inv)) member.inv member.operands.items plain (fed text) named stream same)
+    written-so stream text same = output-so (name_of (called_by member.inv)) member.inv member.operands.items needed (fed text) named stream same
 
     left-so : (stream text : List ℕ) → (reads_stream member.operands.items ≡ true → stream ≡ text) → member_status member (bytes_at state.world.files) stream ≡ status_for pages state (called_by member.inv) text
-    left-so stream text same = status-so (name_of (called_by member.inv)) member.inv member.operands.items plain (fed text) named stream same
+    left-so stream text same = status-so (name_of (called_by member.inv)) member.inv member.operands.items needed (fed text) named stream same
 
   -- each over the output of the one before
-  through-so : (all : List Member) → AllLooked tree all → AllCanRun all → (text : List ℕ) → output_through all (bytes_at state.world.files) text ≡ text_through pages state (calls_of all) text
-  through-so [] looks can text = refl
-  through-so (member ∷ rest) looks can text =
-      ap (output_through rest (bytes_at state.world.files)) (written-so member looks.0 can.0 text text (λ is. refl))
-      ∙ through-so rest looks.1 can.1 (written_by pages state (called_by member.inv) text)
+  through-so : (all : List Member) → AllLooked tree all → AllPlain state (calls_of all) → (text : List ℕ) → output_through all (bytes_at state.world.files) text ≡ text_through pages state (calls_of all) text
+  through-so [] looks plain text = refl
+  through-so (member ∷ rest) looks plain text =
+      ap (output_through rest (bytes_at state.world.files)) (written-so member looks.0 plain.0 text text (λ is. refl))
+      ∙ through-so rest looks.1 plain.1 (written_by pages state (called_by member.inv) text)
 
-  statuses-so : (member : Member) (rest : List Member) → AllLooked tree (member ∷ rest) → AllCanRun (member ∷ rest) → (stream text : List ℕ) → (reads_stream member.operands.items ≡ true → stream ≡ text)
+  statuses-so : (member : Member) (rest : List Member) → AllLooked tree (member ∷ rest) → AllPlain state (calls_of (member ∷ rest)) → (stream text : List ℕ) → (reads_stream member.operands.items ≡ true → stream ≡ text)
       → members.status_through (member ∷ rest) (bytes_at state.world.files) stream ≡ status_through pages state (calls_of (member ∷ rest)) text
-  statuses-so member [] looks can stream text same = left-so member looks.0 can.0 stream text same
-  statuses-so member (next ∷ rest) looks can stream text same =
-      ap (members.status_through (next ∷ rest) (bytes_at state.world.files)) (written-so member looks.0 can.0 stream text same)
-      ∙ statuses-so next rest looks.1 can.1 (written_by pages state (called_by member.inv) text) (written_by pages state (called_by member.inv) text) (λ is. refl)
+  statuses-so member [] looks plain stream text same = left-so member looks.0 plain.0 stream text same
+  statuses-so member (next ∷ rest) looks plain stream text same =
+      ap (members.status_through (next ∷ rest) (bytes_at state.world.files)) (written-so member looks.0 plain.0 stream text same)
+      ∙ statuses-so next rest looks.1 plain.1 (written_by pages state (called_by member.inv) text) (written_by pages state (called_by member.inv) text) (λ is. refl)
 
-  ran-so : (all : List Member) → AllLooked tree all → AllCanRun all → noted_of all ≡ flat_map (words_ran state) (calls_of all)
-  ran-so [] looks can = refl
-  ran-so (member ∷ rest) looks can =
-      (λ i. noted-so (name_of (called_by member.inv)) member.inv member.operands.items (plain member looks.0 can.0) state (named member looks.0 can.0) i ++ ran-so rest looks.1 can.1 i)
+  ran-so : (all : List Member) → AllLooked tree all → AllPlain state (calls_of all) → noted_of all ≡ flat_map (ran_of state) (calls_of all)
+  ran-so [] looks plain = refl
+  ran-so (member ∷ rest) looks plain =
+      (λ i. noted-so (name_of (called_by member.inv)) member.inv member.operands.items (needed member looks.0 plain.0) state (named member looks.0 plain.0) i ++ ran-so rest looks.1 plain.1 i)
 
-pub pipeline-meant : (all : List Member) (tree : TreeState) → 1 ≤ length all → AllLooked tree all → AllCanRun all → AreMeant (pipeline_asks all) (reads_head all) (pipeline_does (calls_of all)) tree
-pipeline-meant [] tree some looks can first state told home begins = absurd (omega (arith, some))
-pipeline-meant (member ∷ rest) tree some looks can first state told home begins =
-    let here = named tree state told home member looks.0 can.0 in
-    let dealt = plain tree state told home member looks.0 can.0 in
+pub pipeline-meant : (all : List Member) (lines : List ℕ) (tree : TreeState) → 1 ≤ length all → AllLooked tree all → AreTold all lines tree → AreMeant (pipeline_asks all) (reads_head all) (pipeline_does (calls_of all)) tree
+pipeline-meant [] lines tree some looks plain first state told home begins = absurd (omega (arith, some))
+pipeline-meant (member ∷ rest) lines tree some looks plain first state told home begins =
+    let are = (plain state told home).0 in
+    let here = named tree state told home member looks.0 are.0 in
+    let whole = needed tree state told home member looks.0 are.0 in
     record {
       same = ap reads_stream here ∙ reads-are state (operands_of member.inv);
       output =
-          ap (output_through rest (bytes_at state.world.files)) (written-so tree state told home member looks.0 can.0 (begins_with first state.world.input) (to_read state) begins.text)
-          ∙ through-so tree state told home rest looks.1 can.1 (written_by pages state (called_by member.inv) (to_read state));
-      status = statuses-so tree state told home member rest looks can (begins_with first state.world.input) (to_read state) begins.text;
-      noted = ran-so tree state told home (member ∷ rest) looks can;
-      drawn = own-so (name_of (called_by member.inv)) member.inv member.operands.items dealt state here first (reads_stream member.operands.items) refl begins.own;
+          ap (output_through rest (bytes_at state.world.files)) (written-so tree state told home member looks.0 are.0 (begins_with first state.world.input) (to_read state) begins.text)
+          ∙ through-so tree state told home rest looks.1 are.1 (written_by pages state (called_by member.inv) (to_read state));
+      status = statuses-so tree state told home member rest looks are (begins_with first state.world.input) (to_read state) begins.text;
+      noted = ran-so tree state told home (member ∷ rest) looks are;
+      drawn = own-so (name_of (called_by member.inv)) member.inv member.operands.items whole state here first (reads_stream member.operands.items) refl begins.own;
     }
 
 -- THE RUN: the lines, the members, and nothing left in the pipe

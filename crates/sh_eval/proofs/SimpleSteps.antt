@@ -42,7 +42,7 @@ use Rattle.sh_eval.specs.Redirections.{Use}
 use Rattle.sh_eval.specs.Targets.{Target}
 use Rattle.sh_eval.specs.Simple.{assigned_for, by_patterns, checked, done, most_operands, restored, undone}
 use Rattle.sh_eval.specs.Table.{pages, patterns_of}
-use Rattle.sh_eval.specs.Utilities.{Patterns, deals, read, read_use, refers_back, runs_utility, uses_by_operands, written_use, wrong}
+use Rattle.sh_eval.specs.Utilities.{Patterns, read, read_use, refers_back, runs_utility, uses_by_operands, written_use, wrong}
 use Rattle.sh_eval.proofs.Growing.{grows-self, AddsAsked, does-adds, asked-adds, adds-misused, adds-assigned_for, adds-by_patterns, adds-checked, adds-runs_utility, adds-with_targets}
 use Rattle.sh_eval.proofs.Steps.{changed, meant-at}
 
@@ -140,37 +140,34 @@ utility-so name words (command.Paste args) other = refl
 utility-so name words (command.Tee args) other = refl
 
 -- one that has a stream writes no file
-built-so : (asked : Command) → is_built_by asked ≡ true → (files_by asked ≡ []) × (deals asked ≡ false)
-built-so command.True is = (refl, refl)
-built-so command.False is = (refl, refl)
-built-so command.Colon is = (refl, refl)
-built-so (command.Break args) is = (refl, refl)
-built-so (command.Continue args) is = (refl, refl)
-built-so (command.Exit args) is = (refl, refl)
-built-so (command.Set args) is = (refl, refl)
-built-so (command.Shift args) is = (refl, refl)
-built-so (command.Unset args) is = (refl, refl)
-built-so (command.Read args) is = (refl, refl)
-built-so (command.Test args) is = (refl, refl)
-built-so (command.Bracket args) is = (refl, refl)
-built-so (command.Echo args) is = (refl, refl)
-built-so (command.Cat args) is = (refl, refl)
-built-so (command.Grep args) is = (refl, refl)
-built-so (command.Tr args) is = (refl, refl)
-built-so (command.Cut args) is = (refl, refl)
-built-so (command.Head args) is = (refl, refl)
-built-so (command.Tail args) is = (refl, refl)
-built-so (command.Wc args) is = (refl, refl)
-built-so (command.Uniq args) is = (refl, refl)
-built-so (command.Sort args) is = (refl, refl)
-built-so (command.Paste args) is = absurd (true≢false (sym is))
+built-so : (asked : Command) → is_built_by asked ≡ true → files_by asked ≡ []
+built-so command.True is = refl
+built-so command.False is = refl
+built-so command.Colon is = refl
+built-so (command.Break args) is = refl
+built-so (command.Continue args) is = refl
+built-so (command.Exit args) is = refl
+built-so (command.Set args) is = refl
+built-so (command.Shift args) is = refl
+built-so (command.Unset args) is = refl
+built-so (command.Read args) is = refl
+built-so (command.Test args) is = refl
+built-so (command.Bracket args) is = refl
+built-so (command.Echo args) is = refl
+built-so (command.Cat args) is = refl
+built-so (command.Grep args) is = refl
+built-so (command.Tr args) is = refl
+built-so (command.Cut args) is = refl
+built-so (command.Head args) is = refl
+built-so (command.Tail args) is = refl
+built-so (command.Wc args) is = refl
+built-so (command.Uniq args) is = refl
+built-so (command.Sort args) is = refl
+built-so (command.Paste args) is = refl
 built-so (command.Tee args) is = absurd (true≢false (sym is))
 
 pub writes-none : (it : Inv) → is_built_of it ≡ true → files_of it ≡ []
-writes-none it is = (built-so (command_of it) is).0
-
-pub deals-not : (it : Inv) → is_built_of it ≡ true → deals (command_of it) ≡ false
-deals-not it is = (built-so (command_of it) is).1
+writes-none it is = built-so (command_of it) is
 
 module _ (name : List ℕ) (it : Inv) (assigns : List (List ℕ × WordTree)) (targets : List Target) where
   abbrev checks : Asked → Meaning

@@ -1,11 +1,11 @@
 -- A utility that was run over its inputs is evaluated.
-use Rattle.std.proofs.Common.{◌≡◌, ◌≤◌, ◌<◌, ◌+◌, ◌^◌, ℕ, List, [], ◌∷◌, ◌++◌, map, Bool, true, false, not, ◌&&◌, ◌||◌, ◌==◌, length, Option, Some, refl, sym, ap, ◌∙◌, subst, append-nil, arith, if◌then◌else◌, ◌-◌, take}
+use Rattle.std.proofs.Common.{◌≡◌, ◌≤◌, ◌<◌, ◌+◌, ◌^◌, ℕ, List, [], ◌∷◌, ◌++◌, map, Bool, true, false, not, ◌&&◌, ◌||◌, ◌==◌, length, refl, sym, ap, ◌∙◌, subst, arith, if◌then◌else◌, ◌-◌, take}
 use Rattle.std.proofs.lemmas.Bool.{true≢false}
 use Rattle.std.specs.List.{list_any}
 use Rattle.ps_world.specs.Files.{bytes_at}
 use Rattle.ps_world.specs.Paths.{Components}
+use Rattle.ps_world.specs.declared.places.Place.TheVariants as place
 use Rattle.ps_world.specs.TreeState.{TreeState}
-use Rattle.ut_args.specs.Built.{is_built_of}
 use Rattle.ut_args.specs.Inputs.{files_of, operands_of, remaining}
 use Rattle.ut_args.specs.Invocations.{command_of, words_of}
 use Rattle.ut_args.specs.declared.invocations.Inv.{Inv}
@@ -16,11 +16,12 @@ use Rattle.fl_segments.specs.Stages.{is_shell_input, is_stream}
 use Rattle.fl_segments.specs.declared.stages.First.{First}
 use Rattle.fl_segments.specs.declared.stages.In.{In}
 use Rattle.fl_segments.specs.declared.stages.In.TheVariants as inlet
-use Rattle.fl_commands.specs.Inner.Stages.{inputs_with, some_lacks, words_left, words_noted}
-use Rattle.fl_commands.specs.Inputs.{output_for, selects_for, status_of}
-use Rattle.fl_commands.specs.Operands.{AreNamed, ins_of, lacks}
+use Rattle.fl_commands.specs.Inner.Stages.{command_left, inputs_with, some_lacks, words_left, run_noted}
+use Rattle.fl_commands.specs.Inputs.{noted_over, output_for, selects_for, status_of}
+use Rattle.fl_commands.specs.Operands.{AreNamed, ins_of, without_input}
 use Rattle.fl_commands.specs.Runs.{command_asks}
 use Rattle.fl_commands.specs.declared.operands.Operand.{Operand}
+use Rattle.fl_commands.specs.declared.operands.Operand.TheVariants as operand
 use Rattle.sh_expand.specs.Outcomes.{Expansions}
 use Rattle.sh_eval.specs.declared.flows.Flow.TheVariants as flow
 use Rattle.sh_eval.specs.declared.outcomes.How.{How}
@@ -29,16 +30,14 @@ use Rattle.sh_eval.specs.declared.session.Session.{Session}
 use Rattle.sh_eval.specs.declared.shell.Shell.{Shell}
 use Rattle.sh_eval.specs.Contract.{Seen, Faults, faults_of, Point, point_of, Base, Has, Meaning, Evaluates, goes_on}
 use Rattle.sh_eval.specs.Growth.{Grows, Adds}
-use Rattle.sh_eval.specs.Inner.Inputs.{AreNamedIn, called_by, is_own_input, lines_by, reads_stream, runs_behind}
-use Rattle.sh_eval.specs.Inner.Runs.{AreMeant, Begins, Does, IsMeant, inputs_of, noted_words, takes, utility_does}
-use Rattle.sh_eval.specs.Segments.{notes}
+use Rattle.sh_eval.specs.Inner.Inputs.{AreNamedIn, called_by, is_own_input, lines_by, lines_of, reads_stream, runs_behind}
+use Rattle.sh_eval.specs.Inner.Runs.{AreMeant, inputs_of, takes, utility_does}
 use Rattle.sh_eval.specs.Shells.{with_status}
-use Rattle.sh_eval.specs.States.{World, State, after, in_world, on, leaves, puts, tells, to_read}
+use Rattle.sh_eval.specs.States.{State, after, on, leaves, tells, to_read}
 use Rattle.sh_eval.specs.Table.{pages}
-use Rattle.sh_eval.specs.Utilities.{Given, Made, appends, deals, does_nothing, given_to, has_input, has_none, inputs_in, is_cat, is_silent, lines_told, made_by, make_files, needs_all, noted_run, reads_standard, runs_utility, taken_in, takes_inputs, tells_some, words_without, writes_out}
+use Rattle.sh_eval.specs.Utilities.{Given, Made, appends, deals, does_nothing, given_to, has_none, is_silent, lines_told, made_by, make_files, needs_all, reads_standard, runs_utility, takes_inputs, tells_some, words_without, writes_out}
 use Rattle.sh_eval.proofs.Growing.{adds-takes_inputs, grows-self}
-use Rattle.sh_eval.proofs.OperandSteps.{looked, inputs-are, lines-are, lacks-are, emptied-are, reads-are, streams-are, some-input, cat-is, as-many}
-use Rattle.sh_eval.proofs.SimpleSteps.{deals-not}
+use Rattle.sh_eval.proofs.OperandSteps.{looked, inputs-are, lines-are, lacks-are, emptied-are, reads-are, streams-are, all-inputs, as-many, output-left, selects-left}
 use Rattle.sh_eval.proofs.Steps.{changed, followed, meant-at, nothing, stopped}
 
 and-true : (is : Bool) → (is && true) ≡ is
@@ -56,37 +55,45 @@ unread stream other files (inlet.Stream ∷ rest) none = absurd (true≢false no
 unread stream other files (inlet.File path closed ∷ rest) none = ap (λ (it : List (List ℕ)). files path ∷ it) (unread stream other files rest none)
 unread stream other files (inlet.Empty ∷ rest) none = ap (λ (it : List (List ℕ)). [] ∷ it) (unread stream other files rest none)
 
--- WHAT IS ASKED FOR of a utility whose operands name these is what it means
-module _ (name : List ℕ) (asked : Inv) (operands : List Operand) (plain : deals (command_of asked) ≡ false) (state : State) (named-is : operands ≡ looked state (operands_of asked)) where
+-- WHAT IS ASKED FOR of a utility whose operands name these is what it means; where it needs all its operands, each has an input
+module _ (name : List ℕ) (asked : Inv) (operands : List Operand) (needed : (needs_all (command_of asked) && some_lacks operands) ≡ false) (state : State) (named-is : operands ≡ looked state (operands_of asked)) where
+  abbrev dealt : Bool
+  dealt = deals (command_of asked)
+
+  abbrev inputs : List ℕ → List Input
+  inputs stream = inputs_with dealt (operands_of asked) operands stream (bytes_at state.world.files)
+
   reads-is : reads_stream operands ≡ reads_standard (operands_of asked)
   reads-is = ap reads_stream named-is ∙ reads-are state (operands_of asked)
 
   -- its inputs, where the stream is what descriptor 0 gives, or isn't read
-  pub inputs-so : (stream : List ℕ) → (reads_stream operands ≡ true → stream ≡ to_read state) → inputs_with (operands_of asked) operands stream (bytes_at state.world.files) ≡ inputs_of name asked state
+  pub inputs-so : (stream : List ℕ) → (reads_stream operands ≡ true → stream ≡ to_read state) → inputs stream ≡ inputs_of name asked state
   inputs-so stream begins = by_reads (reads_stream operands) refl
     where
       names : List (List ℕ)
       names = operands_of asked
 
       texts : List ℕ → List (List ℕ)
-      texts stream = map (text_in stream (bytes_at state.world.files)) (ins_of operands)
+      texts stream = map (text_in stream (bytes_at state.world.files)) (ins_of dealt operands)
 
-      same : texts stream ≡ texts (to_read state) → inputs_with names operands stream (bytes_at state.world.files) ≡ inputs_of name asked state
+      same : texts stream ≡ texts (to_read state) → inputs_with dealt names operands stream (bytes_at state.world.files) ≡ inputs_of name asked state
       same is =
-          ap (labelled (remaining (map lacks operands) names)) is
-          ∙ ap (λ (it : List Operand). labelled (remaining (map lacks it) names) (map (text_in (to_read state) (bytes_at state.world.files)) (ins_of it))) named-is
-          ∙ sym (inputs-are state name names)
-          ∙ ap (λ (it : Bool). inputs_in (given_to state it name names)) (sym plain)
+          ap (labelled (remaining (without_input dealt false operands) names)) is
+          ∙ ap (λ (it : List Operand). labelled (remaining (without_input dealt false it) names) (map (text_in (to_read state) (bytes_at state.world.files)) (ins_of dealt it))) named-is
+          ∙ sym (inputs-are state name dealt names)
 
-      by_reads : (reads : Bool) → reads_stream operands ≡ reads → inputs_with names operands stream (bytes_at state.world.files) ≡ inputs_of name asked state
+      by_reads : (reads : Bool) → reads_stream operands ≡ reads → inputs_with dealt names operands stream (bytes_at state.world.files) ≡ inputs_of name asked state
       by_reads true is = same (ap texts (begins is))
-      by_reads false is = same (unread stream (to_read state) (bytes_at state.world.files) (ins_of operands) (streams-are operands ∙ is))
+      by_reads false is = same (unread stream (to_read state) (bytes_at state.world.files) (ins_of dealt operands) (streams-are dealt operands ∙ is))
+
+  pub output-so : (stream : List ℕ) → (reads_stream operands ≡ true → stream ≡ to_read state)
+      → output_for (command_left (command_of asked) operands) (inputs stream) ≡ (utility_does name asked).written state
+  output-so stream begins = output-left operands (inputs stream) (command_of asked) needed ∙ ap (output_for (command_of asked)) (inputs-so stream begins)
 
   pub status-so : (stream : List ℕ) → (reads_stream operands ≡ true → stream ≡ to_read state)
-      → status_of (command_of asked) (some_lacks operands) (selects_for (command_of asked) (inputs_with (operands_of asked) operands stream (bytes_at state.world.files)))
-      ≡ (utility_does name asked).status state
+      → status_of (command_of asked) (some_lacks operands) (selects_for (command_left (command_of asked) operands) (inputs stream)) ≡ (utility_does name asked).status state
   status-so stream begins =
-      ap (λ (it : List Input). status_of (command_of asked) (some_lacks operands) (selects_for (command_of asked) it)) (inputs-so stream begins)
+      ap (status_of (command_of asked) (some_lacks operands)) (selects-left operands (inputs stream) (command_of asked) needed ∙ ap (selects_for (command_of asked)) (inputs-so stream begins))
       ∙ ap (λ (it : Bool). status_of (command_of asked) it (selects_for (command_of asked) (inputs_of name asked state))) (ap some_lacks named-is ∙ sym (lacks-are state (operands_of asked)))
 
   -- it is noted where it is meant to be, by its words
@@ -95,54 +102,37 @@ module _ (name : List ℕ) (asked : Inv) (operands : List Operand) (plain : deal
       ap (words_left (words_of asked) (operands_of asked)) named-is
       ∙ ap (λ (it : List (List ℕ)). take (length (words_of asked) - length (operands_of asked)) (words_of asked) ++ it) (sym (emptied-are state (operands_of asked)))
 
-  pub noted-so : words_noted asked operands ≡ (utility_does name asked).ran state
+  pub noted-so : run_noted asked operands ≡ (utility_does name asked).ran state
   noted-so =
-      ap (λ (it : Bool). if it || (length (ins_of operands) == 0) then [] else words_left (words_of asked) (operands_of asked) operands ∷ []) (cat-is asked)
-      ∙ ap (λ (it : List (List ℕ)). if is_cat (command_of asked) || (length (ins_of operands) == 0) then [] else it ∷ []) words-so
-      ∙ by_tests (is_cat (command_of asked)) (length (ins_of operands) == 0) (words_without (has_none state) (called_by asked))
-      ∙ ap (λ (it : Bool). noted_words (not (is_cat (command_of asked)) && it) (words_without (has_none state) (called_by asked))) some-so
+      λ i. noted_over (command_of asked) (words-so i) (count-so i)
     where
-      by_tests : (one other : Bool) (words : List (List ℕ)) → (if one || other then [] else words ∷ []) ≡ noted_words (not one && not other) words
-      by_tests true other words = refl
-      by_tests false true words = refl
-      by_tests false false words = refl
-
-      some-so : not (length (ins_of operands) == 0) ≡ has_input (inputs_of name asked state)
-      some-so =
-          ap (λ (it : List Operand). not (length (ins_of it) == 0)) named-is
-          ∙ sym (some-input (remaining (map lacks (looked state (operands_of asked))) (operands_of asked)) [] (ins_of (looked state (operands_of asked))) (text_in (to_read state) (bytes_at state.world.files)))
-          ∙ ap has_input (sym (inputs-are state name (operands_of asked)))
-          ∙ ap (λ (it : Bool). has_input (inputs_in (given_to state it name (operands_of asked)))) (sym plain)
+      count-so : length (ins_of dealt operands) ≡ length (inputs_of name asked state)
+      count-so =
+          ap (λ (it : List Operand). length (ins_of dealt it)) named-is
+          ∙ sym (all-inputs (remaining (without_input dealt false (looked state (operands_of asked))) (operands_of asked)) (ins_of dealt (looked state (operands_of asked))) (text_in (to_read state) (bytes_at state.world.files)))
+          ∙ ap (λ (it : List Input). length it) (sym (inputs-are state name dealt (operands_of asked)))
 
   -- the standard input is read where the meaning reads it
   pub own-so : (first : First) (reads : Bool) → reads_stream operands ≡ reads → (reads ≡ true → is_shell_input first ≡ is_own_input state.session.streams.from)
-      → (is_shell_input first && list_any is_stream (ins_of operands)) ≡ (reads && is_own_input state.session.streams.from)
-  own-so first true is own = ap (λ (it : Bool). is_shell_input first && it) (streams-are operands ∙ is) ∙ and-true (is_shell_input first) ∙ own refl
-  own-so first false is own = ap (λ (it : Bool). is_shell_input first && it) (streams-are operands ∙ is) ∙ and-false (is_shell_input first)
+      → (is_shell_input first && list_any is_stream (ins_of dealt operands)) ≡ (reads && is_own_input state.session.streams.from)
+  own-so first true is own = ap (λ (it : Bool). is_shell_input first && it) (streams-are dealt operands ∙ is) ∙ and-true (is_shell_input first) ∙ own refl
+  own-so first false is own = ap (λ (it : Bool). is_shell_input first && it) (streams-are dealt operands ∙ is) ∙ and-false (is_shell_input first)
 
-pub utility-meant : (name : List ℕ) (asked : Inv) (operands : List Operand) (tree : TreeState) → deals (command_of asked) ≡ false → AreNamedIn tree (operands_of asked) operands
+pub utility-meant : (name : List ℕ) (asked : Inv) (operands : List Operand) (tree : TreeState) → (needs_all (command_of asked) && some_lacks operands) ≡ false → AreNamedIn tree (operands_of asked) operands
     → AreMeant (command_asks asked operands) (reads_stream operands) (utility_does name asked) tree
-utility-meant name asked operands tree plain looks first state held home begins =
+utility-meant name asked operands tree needed looks first state held home begins =
     let named : operands ≡ looked state (operands_of asked) = looks state held home in
     record {
-      same = reads-is name asked operands plain state named;
-      output = ap (output_for (command_of asked)) (inputs-so name asked operands plain state named (begins_with first state.world.input) begins.text);
-      status = status-so name asked operands plain state named (begins_with first state.world.input) begins.text;
-      noted = noted-so name asked operands plain state named;
-      drawn = own-so name asked operands plain state named first (reads_stream operands) refl begins.own;
+      same = reads-is name asked operands needed state named;
+      output = output-so name asked operands needed state named (begins_with first state.world.input) begins.text;
+      status = status-so name asked operands needed state named (begins_with first state.world.input) begins.text;
+      noted = noted-so name asked operands needed state named;
+      drawn = own-so name asked operands needed state named first (reads_stream operands) refl begins.own;
     }
-
-noted-is : (is : Bool) (words : List (List ℕ)) (world : World) → noted_run is words world ≡ notes (noted_words is words) world
-noted-is true words world = refl
-noted-is false words world = λ i. record world { ran = sym (append-nil world.ran) i }
 
 -- where no files are written, this is what it means
 pub inputs-meant : (name : List ℕ) (asked : Inv) (state : State) → takes_inputs pages name (called_by asked) [] true state ≡ takes (utility_does name asked) state
-inputs-meant name asked state =
-    λ i. on (puts (output_for (command_of asked) (inputs_of name asked state))
-    (leaves (status_of (command_of asked) (list_any (has_none state) (operands_of asked)) (selects_for (command_of asked) (inputs_of name asked state)))
-    (in_world (λ world. noted-is (not (is_cat (command_of asked)) && has_input (inputs_of name asked state)) (words_without (has_none state) (called_by asked)) world i)
-    (taken_in (reads_standard (operands_of asked)) state))))
+inputs-meant name asked state = refl
 
 pub takes-meant : (name : List ℕ) (asked : Inv) (old new : Point) (came : How) → Evaluates (λ expansions. takes (utility_does name asked)) old came new
     → Evaluates (λ expansions. takes_inputs pages name (called_by asked) [] true) old came new
@@ -223,6 +213,31 @@ pub asked-before : (means : Meaning) (shell : Shell) (session : Session) (tree t
 asked-before means shell session tree tree' seen input output errors before now came new tree_is now_is one =
     subst (λ (it : TreeState). Evaluates means (point_of shell session it seen (faults_of input output errors before)) came new) tree_is
     (subst (λ (it : ℕ). Evaluates means (point_of shell session tree' seen (faults_of input output errors it)) came new) now_is one)
+
+-- where each operand has an input nothing is told of them
+lines-none : (name : List ℕ) (texts : List (List ℕ)) (operands : List Operand) → some_lacks operands ≡ false → lines_of name texts operands ≡ []
+lines-none name [] operands none = refl
+lines-none name (text ∷ texts) [] none = refl
+lines-none name (text ∷ texts) (operand.Standard ∷ rest) none = lines-none name texts rest none
+lines-none name (text ∷ texts) (operand.At place.Missing ∷ rest) none = absurd (true≢false none)
+lines-none name (text ∷ texts) (operand.At (place.Makeable path) ∷ rest) none = absurd (true≢false none)
+lines-none name (text ∷ texts) (operand.At (place.Dir path) ∷ rest) none = absurd (true≢false none)
+lines-none name (text ∷ texts) (operand.At (place.File path) ∷ rest) none = lines-none name texts rest none
+lines-none name (text ∷ texts) (operand.At place.Null ∷ rest) none = lines-none name texts rest none
+
+pub untold : (name : List ℕ) (asked : Inv) (operands : List Operand) → (needs_all (command_of asked) && some_lacks operands) ≡ false → needs_all (command_of asked) ≡ true → lines_by name asked operands ≡ []
+untold name asked operands needed needs =
+    either (is_silent (command_of asked)) (lines_of name (operands_of asked) operands)
+    (lines-none name (operands_of asked) operands (ap (λ (it : Bool). it && some_lacks operands) (sym needs) ∙ needed))
+  where
+    either : (is : Bool) (lines : List ℕ) → lines ≡ [] → (if is then [] else lines) ≡ []
+    either true lines none = refl
+    either false lines none = none
+
+-- and of one that needs them all they are not looked up again
+pub needed-again : (needs : Bool) (lines : List ℕ) (found again : List Operand) → (needs && some_lacks found) ≡ false → (needs ≡ true → lines ≡ []) → (lines ≡ [] → again ≡ found) → (needs && some_lacks again) ≡ false
+needed-again true lines found again needed none same = ap some_lacks (same (none refl)) ∙ needed
+needed-again false lines found again needed none same = refl
 
 -- so few operands are counted in 32 bits
 pub few-operands : (texts : List (List ℕ)) (operands : List Operand) → length texts ≤ 256 → AreNamed texts operands → length operands + 1 < 2 ^ 32

@@ -1,12 +1,15 @@
 -- What the evaluation of a command says of the state before it and of that behind it: the state that it means, or where it stopped, that
 -- output and errors have grown by what is meant up to there.
-use Rattle.std.specs.Prelude.{◌≡◌, ◌⊎◌, ℕ, ◌≤◌, List, ◌++◌, Bool, true, false, Option, Some, None, IfSome}
+use Rattle.std.specs.Prelude.{◌≡◌, ◌⊎◌, ℕ, ◌≤◌, List, Bool, true, false, Option, Some, None, IfSome}
 use Rattle.std.specs.Option.{option_map}
 use Rattle.ps_world.specs.Paths.{Components}
 use Rattle.ps_world.specs.Counts.{Rose}
 use Rattle.ps_world.specs.Told.{then_bytes, GrewByPrefix}
 use Rattle.ps_world.specs.TreeState.{TreeState, Balanced}
 use Rattle.ps_world.specs.Files.{Files, NoWriterOut, IsFileAt}
+use Rattle.fl_core.specs.Logs.{Log}
+use Rattle.fl_segments.specs.Noted.{Noted}
+use Rattle.fl_commands.specs.Runs.{with_noted}
 use Rattle.sh_expand.specs.Outcomes.{Expansions, AreExpansions}
 use Rattle.sh_eval.specs.declared.flows.Flow.{Flow}
 use Rattle.sh_eval.specs.declared.flows.Flow.TheVariants as flow
@@ -21,12 +24,13 @@ use Rattle.sh_eval.specs.States.{World, State, Ends, Means}
 use Rattle.sh_eval.specs.Commands.{settled}
 use Rattle.sh_eval.specs.Growth.{Adds}
 
--- what a command draws on, where it is told: what is left of the input, and the words of the utilities that the engine has run
+-- what a command draws on, where it is told: what is left of the input, and what the engine tells of its width and of the utilities that it has
+-- run
 pub record Drawn : Type 0 where
   pub left : Option (List ℕ)
-  pub used : Option (List (List (List ℕ)))
+  pub used : Option Log
 
-abbrev pub drawn_of : Option (List ℕ) → Option (List (List (List ℕ))) → Drawn
+abbrev pub drawn_of : Option (List ℕ) → Option Log → Drawn
 drawn_of left used = record { left = left; used = used }
 
 -- what the objects of the outside tell: what is drawn on, and what output and errors have taken
@@ -61,13 +65,13 @@ point_of shell session tree seen faults = record { shell = shell; session = sess
 
 -- what the engine, output and errors told as the run began
 pub record Base : Type 0 where
-  pub used : Option (List (List (List ℕ)))
+  pub used : Option Log
   pub taken : Option (List ℕ)
   pub errors : Option (List ℕ)
 
 -- what the engine tells once these have run
-abbrev pub then_ran : Option (List (List (List ℕ))) → List (List (List ℕ)) → Option (List (List (List ℕ)))
-then_ran used ran = option_map (λ used. used ++ ran) used
+abbrev pub then_ran : Option Log → List Noted → Option Log
+then_ran used ran = option_map (with_noted ran) used
 
 -- what the objects tell in a state
 abbrev pub told : Base → World → Seen

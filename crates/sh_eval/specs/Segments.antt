@@ -1,16 +1,17 @@
 -- Utilities of a pipeline that run as one (own): all that is told of their operands comes first, and then each reads the whole output of the one
 -- before. As stages, one after the other, they mean the same, since a utility tells nothing once it runs.
-use Rattle.std.specs.Prelude.{ℕ, List, [], ◌∷◌, ◌++◌, Bool, true, false, not, ◌&&◌, get_or, if◌then◌else◌}
+use Rattle.std.specs.Prelude.{ℕ, List, [], ◌∷◌, ◌++◌, Bool, true, false, get_or, length}
 use Rattle.std.specs.List.{flat_map, list_any}
 use Rattle.ut_args.specs.Inputs.{operands_by}
 use Rattle.ut_streams.specs.Utilities.{Input}
-use Rattle.fl_commands.specs.Inputs.{status_of}
+use Rattle.fl_segments.specs.Noted.{Noted}
+use Rattle.fl_commands.specs.Inputs.{noted_over, status_of}
 use Rattle.sh_eval.specs.declared.session.Session.{Session}
 use Rattle.sh_eval.specs.declared.streams.From.TheVariants as from
 use Rattle.sh_eval.specs.declared.streams.To.{To}
 use Rattle.sh_eval.specs.declared.streams.To.TheVariants as to
-use Rattle.sh_eval.specs.States.{World, State, Means, in_session, in_world, leaves, on, puts, reading, to_read}
-use Rattle.sh_eval.specs.Utilities.{Called, Given, Pages, deals, given_to, has_input, has_none, inputs_in, is_cat, lines_told, reads_standard, runs_utility, taken_in, tells_some, words_without}
+use Rattle.sh_eval.specs.States.{State, Means, in_session, in_world, leaves, on, puts, reading, to_read}
+use Rattle.sh_eval.specs.Utilities.{Called, Given, Pages, deals, given_to, has_none, inputs_in, lines_told, notes, reads_standard, runs_utility, taken_in, tells_some, words_without}
 
 -- the name of a utility is the first of its words
 abbrev pub name_of : Called → List ℕ
@@ -24,10 +25,9 @@ given_for state member = given_to state (deals member.command) (name_of member) 
 abbrev pub inputs_fed : State → Called → List ℕ → List Input
 inputs_fed state member text = inputs_in (given_for (in_session (reading (from.Kept text)) state) member)
 
--- the words that are noted of it
-abbrev pub words_ran : State → Called → List (List (List ℕ))
-words_ran state member =
-    if not (is_cat member.command) && has_input (inputs_in (given_for state member)) then words_without (has_none state) member ∷ [] else []
+-- what is noted of it
+abbrev pub ran_of : State → Called → List Noted
+ran_of state member = noted_over member.command (words_without (has_none state) member) (length (inputs_in (given_for state member)))
 
 -- the lines of operands without an input
 abbrev pub lines_for : State → Called → List ℕ
@@ -40,9 +40,6 @@ reads_first (first ∷ rest) = reads_standard (operands_by first.command)
 
 abbrev pub no_pipe : Session → Session
 no_pipe session = record session { piped = [] }
-
-abbrev pub notes : List (List (List ℕ)) → World → World
-notes ran world = record world { ran = world.ran ++ ran }
 
 -- what is told goes to the output or errors of the run, or nowhere
 abbrev pub is_plain_place : To → Bool
@@ -80,7 +77,7 @@ module _ (pages : Pages) where
   takes_through members state =
       on (puts (text_through state members (to_read state))
       (leaves (status_through state members (to_read state))
-      (in_world (notes (flat_map (words_ran state) members)) (taken_in (reads_first members) state))))
+      (in_world (notes (flat_map (ran_of state) members)) (taken_in (reads_first members) state))))
 
   abbrev pub runs_through : List Called → Means
   runs_through members state = takes_through members (tells_some (flat_map (lines_for state) members) state)

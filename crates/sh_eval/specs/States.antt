@@ -3,6 +3,7 @@ use Rattle.std.specs.Prelude.{ℕ, zero, suc, List, [], ◌∷◌, ◌++◌, len
 use Rattle.std.specs.FinMap as map
 use Rattle.ps_world.specs.Paths.{Components}
 use Rattle.ps_world.specs.Files.{Files, Bytes, bytes_at}
+use Rattle.fl_segments.specs.Noted.{Noted}
 use Rattle.sh_eval.specs.declared.flows.Flow.{Flow}
 use Rattle.sh_eval.specs.declared.flows.Flow.TheVariants as flow
 use Rattle.sh_eval.specs.declared.refusals.Refusal.{Refusal}
@@ -16,14 +17,14 @@ use Rattle.sh_eval.specs.declared.shell.Shell.{Shell}
 use Rattle.sh_eval.specs.Shells.{with_status}
 
 -- what a run has of the outside: the working directory, files, what is left of the standard input, what was written to the standard output
--- and error, and the words of the utilities that ran
+-- and error, and the utilities that ran
 pub record World : Type 0 where
   pub home : Components
   pub files : Files
   pub input : List ℕ
   pub output : List ℕ
   pub errors : List ℕ
-  pub ran : List (List (List ℕ))
+  pub ran : List Noted
 
 -- the shell's own, what it shares with the shells around it, and the outside
 pub record State : Type 0 where

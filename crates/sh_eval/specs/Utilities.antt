@@ -7,10 +7,12 @@ use Rattle.ps_world.specs.Files.{bytes_at}
 use Rattle.ps_world.specs.declared.places.Place.{Place}
 use Rattle.ps_world.specs.declared.places.Place.TheVariants as place
 use Rattle.ut_args.specs.Inputs.{files_by, is_standard, operands_by}
+pub use Rattle.ut_args.specs.Inputs.{deals}
 use Rattle.ut_args.specs.declared.commands.Command.{Command}
 use Rattle.ut_args.specs.declared.commands.Command.TheVariants as command
 use Rattle.ut_streams.specs.Utilities.{Input}
-use Rattle.fl_commands.specs.Inputs.{status_of}
+use Rattle.fl_segments.specs.Noted.{Noted}
+use Rattle.fl_commands.specs.Inputs.{noted_over, status_of}
 use Rattle.fl_commands.specs.Operands.{lacks, named}
 use Rattle.sh_eval.specs.declared.streams.To.TheVariants as to
 use Rattle.sh_eval.specs.States.{World, State, Means, on, in_world, leaves, puts, tells, to_read, reads_to, write}
@@ -59,11 +61,6 @@ needs_all (command.Paste args) = true
 needs_all (command.Tail args) = true
 needs_all (command.Uniq args) = true
 needs_all other = false
-
--- the lines of the standard input are dealt to all `-`, and so no `-` but the first is an input of its own (XCU paste)
-abbrev pub deals : Command → Bool
-deals (command.Paste args) = not args.serial
-deals other = false
 
 -- the words with the empty text, which names nothing, in place of the operands that have no input. The operands are the last words
 abbrev pub words_without : (List ℕ → Bool) → Called → List (List ℕ)
@@ -152,18 +149,9 @@ abbrev pub write_files : List Components → List ℕ → State → State
 write_files [] text state = state
 write_files (path ∷ paths) text state = write_files paths text (write (to.File path) text state)
 
--- a utility that ran is told by its words, but cat, and but one without an input (own)
-abbrev pub is_cat : Command → Bool
-is_cat (command.Cat args) = true
-is_cat other = false
-
-abbrev pub has_input : List Input → Bool
-has_input [] = false
-has_input (first ∷ rest) = true
-
-abbrev pub noted_run : Bool → List (List ℕ) → World → World
-noted_run false words world = world
-noted_run true words world = record world { ran = world.ran ++ words ∷ [] }
+-- these utilities have run
+abbrev pub notes : List Noted → World → World
+notes ran world = record world { ran = world.ran ++ ran }
 
 -- the standard input is taken to its end, where it is read
 abbrev pub taken_in : Bool → State → State
@@ -191,7 +179,7 @@ module _ (pages : Pages) where
   takes_inputs name called paths is_whole state =
       let operands = operands_by called.command in
       let inputs = inputs_in (given_to state (deals called.command) name operands) in
-      let noted = noted_run (not (is_cat called.command) && has_input inputs) (words_without (has_none state) called) in
+      let noted = notes (noted_over called.command (words_without (has_none state) called) (length inputs)) in
       let status = status_of called.command (not is_whole || list_any (has_none state) operands) (pages.selects called.command inputs) in
       on (write_files paths (texts_joined inputs) (puts (pages.output called.command inputs) (leaves status (in_world noted (taken_in (reads_standard operands) state)))))
 

@@ -2,6 +2,7 @@
 ghost use Rattle.std.specs.Prelude.{◌≡◌, ◌≤◌, nat_le, ℕ, List, Bool, Option, drop, length};
 ghost use Rattle.ps_lines.specs.Texts.{texts_of};
 ghost use Rattle.ut_args.specs.Invocations.{command_of};
+ghost use Rattle.fl_core.specs.Logs.{Log};
 ghost use Rattle.sh_eval.specs.Asking.{builtin, does};
 ghost use Rattle.sh_eval.specs.Builtins.{answers, echoes, exits, fails, leaves_loops, misused, reads, sets, shifts, succeeds, tests, unset_all as unset_all_lem, unsets};
 ghost use Rattle.sh_eval.specs.Contract.{Drawn, Evaluates, IsSound, drawn_of, faults_of, point_of, seen_of};
@@ -37,7 +38,7 @@ pub(crate) fn run_builtin<T: Tree, I: Source, O: Sink, E: Sink>(
     err: &mut E,
 ) -> Played<I, O>
     requires sound { IsSound session.old (T.state tree.old) }
-    ensures { (used : Option (List (List (List ℕ)))) (words : List (List ℕ)) (is_special : Bool) (means : Means) → does name.now words (command_of inv.now) ≡ builtin is_special means
+    ensures { (used : Option Log) (words : List (List ℕ)) (is_special : Bool) (means : Means) → does name.now words (command_of inv.now) ≡ builtin is_special means
         → Evaluates (λ expansions. means)
         (point_of shell.old session.old (T.state tree.old) (seen_of (drawn_of (I.left input) used) (O.taken out) (E.taken err.old))
         (faults_of (I.faults input) (O.faults out) (E.faults err.old) (T.faults tree.old)))
@@ -66,7 +67,7 @@ fn run<T: Tree, I: Source, O: Sink, E: Sink>(
     err: &mut E,
 ) -> How
     requires sound { IsSound session.old (T.state tree.old) }
-    ensures { (used : Option (List (List (List ℕ)))) (words : List (List ℕ)) (is_special : Bool) (means : Means) → does name.now words (command_of inv.now) ≡ builtin is_special means
+    ensures { (used : Option Log) (words : List (List ℕ)) (is_special : Bool) (means : Means) → does name.now words (command_of inv.now) ≡ builtin is_special means
         → Evaluates (λ expansions. means)
         (point_of shell.old session.old (T.state tree.old) (seen_of (drawn_of (I.left input.old) used) (O.taken out.old) (E.taken err.old))
         (faults_of (I.faults input.old) (O.faults out.old) (E.faults err.old) (T.faults tree.old)))

@@ -3,6 +3,7 @@ ghost use Rattle.std.specs.Prelude.{◌≡◌, ℕ, List, Option, IfOk, OnOk, if
 ghost use Rattle.ps_lines.specs.Texts.{texts_of};
 ghost use Rattle.ps_world.specs.Counts.{Counts};
 ghost use Rattle.ps_world.specs.TreeState.{TreeState};
+ghost use Rattle.fl_core.specs.Logs.{Log};
 ghost use Rattle.sh_eval.specs.Builtins.{reads};
 ghost use Rattle.sh_eval.specs.Contract.{Evaluates, drawn_of, faults_of, point_of, seen_of};
 ghost use Rattle.sh_eval.specs.Reading.{TakesLine, all_set, fields_of};
@@ -35,7 +36,7 @@ pub(crate) fn read_names<I: Source>(
     session: &mut Session,
     input: &mut I,
 ) -> How
-    ensures { (tree : TreeState) (taken errors : Option (List ℕ)) (used : Option (List (List (List ℕ)))) (of_output of_errors of_tree : ℕ) → Evaluates (λ expansions. reads names.now)
+    ensures { (tree : TreeState) (taken errors : Option (List ℕ)) (used : Option Log) (of_output of_errors of_tree : ℕ) → Evaluates (λ expansions. reads names.now)
         (point_of shell.old session.old tree (seen_of (drawn_of (I.left input.old) used) taken errors) (faults_of (I.faults input.old) of_output of_errors of_tree))
         result
         (point_of shell.new session.new tree (seen_of (drawn_of (I.left input.new) used) taken errors) (faults_of (I.faults input.new) of_output of_errors of_tree)) }

@@ -187,6 +187,8 @@ fn run_told<T: Tree, I: Source + Send, O: Sink + Send, E: Sink, G: Gate, X: Engi
     requires built { is_built_of inv.now ≡ true }
     requires few { length (operands_of inv.now) ≤ most_operands }
     requires looked { lines.now ≡ [] → IsLooked (T.state tree.old) (operands_of inv.now) found.items }
+    requires needed { skips ≡ false → (needs_all_lem (command_of inv.now) && some_lacks_lem found.items) ≡ false }
+    requires untold { skips ≡ false → needs_all_lem (command_of inv.now) ≡ true → lines.now ≡ [] }
     requires sound { IsSound session.old (T.state tree.old) }
     ensures { (name : List ℕ) → Evaluates (λ expansions. runs_behind skips name inv.now)
         (point_of shell.old session.old (T.state tree.old) (seen_of (drawn_of (I.left input) (X.used engine.old)) (O.taken out) (E.taken err.old))
@@ -231,6 +233,7 @@ fn look_again<T: Tree>(
 ) -> Result<Vec<Operand>, How>
     requires looked { lines.now ≡ [] → IsLooked (T.state tree.old) (operands_of inv.now) found.items }
     ensures looked { IfOk result (λ found. IsLooked (T.state tree.old) (operands_of inv.now) found.items) }
+    ensures same { IfOk result (λ again. lines.now ≡ [] → again.items ≡ found.items) }
     ensures state { T.state tree.new ≡ T.state tree.old }
     ensures ok { OnOk result (T.faults tree.new ≡ T.faults tree.old) }
     ensures err { IfErr result (λ how. LooksInVain how (T.state tree.old) (T.state tree.new) (T.faults tree.old) (T.faults tree.new)) }
@@ -258,6 +261,7 @@ fn take_inputs<T: Tree, I: Source + Send, O: Sink + Send, E: Sink, G: Gate, X: E
     requires built { is_built_of inv.now ≡ true }
     requires few { length (operands_of inv.now) ≤ most_operands }
     requires looked { IsLooked (T.state tree.old) (operands_of inv.now) operands.now }
+    requires needed { (needs_all_lem (command_of inv.now) && some_lacks_lem operands.now) ≡ false }
     requires sound { IsSound session.old (T.state tree.old) }
     ensures { (name : List ℕ) → Evaluates (λ expansions. takes_inputs pages name (called_by inv.now) [] true)
         (point_of shell.old session.old (T.state tree.old) (seen_of (drawn_of (I.left input) (X.used engine.old)) (O.taken out) (E.taken err.old))

@@ -1,5 +1,5 @@
 -- Utilities of a pipeline that are gathered to run as one, for the functions that do so (own).
-use Rattle.std.specs.Prelude.{◌≡◌, ◌≤◌, ◌<◌, ℕ, List, [], ◌∷◌, ◌++◌, ◌&&◌, Bool, true, false, length, map, None, Some, IfSome, Ok}
+use Rattle.std.specs.Prelude.{◌≡◌, ◌≤◌, ◌<◌, ℕ, List, [], ◌∷◌, ◌++◌, ◌&&◌, true, false, length, map, None, Some, IfSome, Ok}
 use Rattle.std.specs.List.{flat_map, list_any}
 use Rattle.ps_world.specs.Files.{Files}
 use Rattle.ps_world.specs.Paths.{Components}

@@ -12,6 +12,7 @@ use Rattle.fl_segments.specs.Stages.{is_shell_input}
 use Rattle.fl_segments.specs.declared.stages.First.{First}
 use Rattle.fl_commands.specs.Inputs.{status_of}
 use Rattle.fl_commands.specs.Operands.{AllStand, AreNamed, named}
+pub use Rattle.fl_commands.specs.Operands.{is_stream_operand}
 use Rattle.fl_commands.specs.declared.operands.Operand.{Operand}
 use Rattle.fl_commands.specs.declared.operands.Operand.TheVariants as operand
 use Rattle.fl_commands.specs.declared.runs.Ended.{Ended}
@@ -62,10 +63,6 @@ pub record IsLooked (tree : TreeState) (texts : List (List ℕ)) (operands : Lis
   pub are : AreNamed texts operands
 
 -- an operand is the standard input, or there is none
-abbrev pub is_stream_operand : Operand → Bool
-is_stream_operand operand.Standard = true
-is_stream_operand (operand.At place) = false
-
 abbrev pub reads_stream : List Operand → Bool
 reads_stream [] = true
 reads_stream (first ∷ rest) = list_any is_stream_operand (first ∷ rest)

@@ -1,5 +1,5 @@
 -- What is run over its inputs, for the functions that run it (own): what it makes of a state, and what is asked for of it.
-use Rattle.std.specs.Prelude.{◌≡◌, ◌≤◌, ◌<◌, ◌+◌, ◌^◌, ℕ, List, [], ◌∷◌, ◌&&◌, Bool, true, false, not, length, Some, IfSome, if◌then◌else◌}
+use Rattle.std.specs.Prelude.{◌≡◌, ◌≤◌, ◌<◌, ◌+◌, ◌^◌, ℕ, List, [], ◌∷◌, ◌&&◌, Bool, true, false, length, Some, IfSome, if◌then◌else◌}
 use Rattle.std.specs.List.{flat_map, list_any}
 use Rattle.ps_world.specs.TreeState.{TreeState}
 use Rattle.ut_args.specs.Built.{is_built_of}
@@ -8,10 +8,11 @@ use Rattle.ut_args.specs.Invocations.{command_of}
 use Rattle.ut_args.specs.declared.invocations.Inv.{Inv}
 use Rattle.ut_streams.specs.Utilities.{Input}
 use Rattle.fl_segments.specs.Chains.{begins_with}
+use Rattle.fl_segments.specs.Noted.{Noted}
 use Rattle.fl_segments.specs.Stages.{is_shell_input}
 use Rattle.fl_segments.specs.declared.stages.First.{First}
 use Rattle.fl_segments.specs.declared.chains.TheConstants.{MAX_STAGES}
-use Rattle.fl_commands.specs.Inputs.{output_for, selects_for, status_of}
+use Rattle.fl_commands.specs.Inputs.{noted_over, output_for, selects_for, status_of}
 use Rattle.fl_commands.specs.Members.{AllCanRun, AllNamesStand}
 use Rattle.fl_commands.specs.Operands.{AllStand, AreNamed}
 use Rattle.fl_commands.specs.Runs.{Asks, command_asks, pipeline_asks}
@@ -20,17 +21,17 @@ use Rattle.fl_commands.specs.declared.operands.Operand.{Operand}
 use Rattle.sh_eval.specs.declared.utilities.Task.{Task}
 use Rattle.sh_eval.specs.declared.utilities.Task.TheVariants as task
 use Rattle.sh_eval.specs.Inner.Inputs.{called_by, is_own_input, reads_stream}
-use Rattle.sh_eval.specs.Segments.{notes, reads_first, status_through, text_through, words_ran}
+use Rattle.sh_eval.specs.Segments.{ran_of, reads_first, status_through, text_through}
 use Rattle.sh_eval.specs.States.{State, Means, on, in_world, leaves, puts, to_read}
 use Rattle.sh_eval.specs.Table.{pages}
-use Rattle.sh_eval.specs.Utilities.{Called, deals, given_to, has_input, has_none, inputs_in, is_cat, reads_standard, taken_in, words_without}
+use Rattle.sh_eval.specs.Utilities.{Called, deals, given_to, has_none, inputs_in, notes, reads_standard, taken_in, words_without}
 
--- what is done to a state in which all lines are told: what is written, the status that is left, the words that are noted, and whether the
--- standard input is read
+-- what is done to a state in which all lines are told: what is written, the status that is left, the utilities that are noted, and whether
+-- the standard input is read
 pub record Does : Type 0 where
   pub written : State → List ℕ
   pub status : State → ℕ
-  pub ran : State → List (List (List ℕ))
+  pub ran : State → List Noted
   pub reads : Bool
 
 -- all but the output
@@ -90,9 +91,6 @@ CanRun (task.Utility inv operands) tree = CanRunUtility inv.now operands.now tre
 CanRun (task.Pipeline members) tree = CanRunPipeline members.now tree
 
 -- WHAT IS DONE by one utility, and by those of a pipeline
-abbrev pub noted_words : Bool → List (List ℕ) → List (List (List ℕ))
-noted_words is words = if is then words ∷ [] else []
-
 abbrev pub inputs_of : List ℕ → Inv → State → List Input
 inputs_of name asked state = inputs_in (given_to state (deals (command_of asked)) name (operands_of asked))
 
@@ -101,7 +99,7 @@ utility_does name asked =
     record {
       written = λ state. output_for (command_of asked) (inputs_of name asked state);
       status = λ state. status_of (command_of asked) (list_any (has_none state) (operands_of asked)) (selects_for (command_of asked) (inputs_of name asked state));
-      ran = λ state. noted_words (not (is_cat (command_of asked)) && has_input (inputs_of name asked state)) (words_without (has_none state) (called_by asked));
+      ran = λ state. noted_over (command_of asked) (words_without (has_none state) (called_by asked)) (length (inputs_of name asked state));
       reads = reads_standard (operands_of asked);
     }
 
@@ -110,6 +108,6 @@ pipeline_does members =
     record {
       written = λ state. text_through pages state members (to_read state);
       status = λ state. status_through pages state members (to_read state);
-      ran = λ state. flat_map (words_ran state) members;
+      ran = λ state. flat_map (ran_of state) members;
       reads = reads_first members;
     }

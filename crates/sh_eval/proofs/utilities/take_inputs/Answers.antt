@@ -1,5 +1,4 @@
 use Rattle.sh_eval.specs.Inner.Runs.{utility_does}
-use Rattle.sh_eval.proofs.SimpleSteps.{deals-not}
 use Rattle.sh_eval.proofs.UtilitySteps.{few-operands, takes-meant, utility-meant}
 use Rattle.sh_eval.proofs.utilities.take_inputs.Goals as goal
 
@@ -10,4 +9,4 @@ run_task-requires-clause-ready g c κs within =
 pub returns : goal.returns
 returns g c = λ name.
     takes-meant name c.args.inv.now _ _ _
-    (c.run_task.ensures (utility_does name c.args.inv.now) (utility-meant name c.args.inv.now c.args.operands.now (g.T.Tree.state c.args.tree.now) (deals-not c.args.inv.now c.requires.built) c.requires.looked.named))
+    (c.run_task.ensures (utility_does name c.args.inv.now) (utility-meant name c.args.inv.now c.args.operands.now (g.T.Tree.state c.args.tree.now) c.requires.needed c.requires.looked.named))

@@ -1,21 +1,22 @@
 -- Runs of commands, from what their parts say.
 use Rattle.std.proofs.Common.{◌≡◌, ℕ, ◌++◌, List, [], Option, Some, None, Result, Ok, Err, OnOk, OnErr, IfOk}
 use Rattle.std.proofs.Common.{refl, sym, ap, subst, ◌∙◌, append-nil, arith, inl, inr}
-use Rattle.std.specs.Option.{IfSome, MatchOption}
+use Rattle.std.specs.Option.{IfSome, MatchOption, option_map}
 use Rattle.ps_world.specs.Files.{Files, NoWriterOut}
 use Rattle.ps_world.specs.Paths.{Components}
 use Rattle.ps_world.specs.Told.{then_bytes, GrewByPrefix}
 use Rattle.ps_world.specs.TreeState.{TreeState, Balanced, OnlyLent}
 use Rattle.ps_world.proofs.ToldLemmas.{grew_by_front, grew_by_more, grew_by_nothing, grew_by_whole, then_bytes-append, then_bytes-nil}
 use Rattle.ps_world.proofs.TreeStateLemmas.{balanced-more, balanced-none, balanced-only_lent}
+use Rattle.fl_core.specs.Logs.{Log, log_of, with_words}
 use Rattle.sh_tree.specs.Views.{script_tree}
 use Rattle.sh_tree.specs.declared.commands.Script.{Script}
 use Rattle.sh_parse.specs.Outcomes.{AreOutcomes, Readings}
 use Rattle.sh_expand.specs.Outcomes.{AreExpansions, Expansions}
-use Rattle.sh_eval.specs.Contract.{Drawn, Faults, HasCause, IsGone, Seen, faults_of, seen_of, then_ran}
+use Rattle.sh_eval.specs.Contract.{Drawn, Faults, HasCause, IsGone, Seen, faults_of, seen_of}
 use Rattle.sh_eval.specs.Meaning.{begun, script_means}
 use Rattle.sh_eval.specs.Scripts as scripts
-use Rattle.sh_eval.specs.Scripts.{Stopped}
+use Rattle.sh_eval.specs.Scripts.{Stopped, ran_at}
 use Rattle.sh_eval.specs.States.{Ends}
 use Rattle.sh_eval.specs.Table.{pages}
 use Rattle.sh_eval.specs.declared.flows.Flow.{Flow}
@@ -27,6 +28,7 @@ use Rattle.pash.specs.Meaning.{Meaning, outside_of, over, run_of, told}
 use Rattle.pash.specs.Runs.{Comes, DrawsNothing, Leaves, Means, OnlyTold, Point, RunsAs, Stops, TellsOnly, came_of, point_of}
 use Rattle.pash.specs.Starts.{EndsWith, IfAnswered, IsAnswered, IsOfCommand, RunsNothing, Start, answered, as_start, runs, start_of}
 use Rattle.pash.specs.Words.{RunCommand}
+use Rattle.pash.specs.declared.starts.Setup.{Setup}
 use Rattle.pash.specs.declared.starts.Start.{Start as ReadStart}
 use Rattle.pash.specs.declared.starts.Start.TheVariants as read
 use Rattle.pash.specs.declared.answers.Outcome.{Outcome}
@@ -51,9 +53,9 @@ told_anyway Holds None left holds = tt
 told_anyway Holds (Some files) None holds = tt
 told_anyway Holds (Some files) (Some text) holds = holds files text refl refl
 
-ran-none : (used : Option (List (List (List ℕ)))) → used ≡ then_ran used []
+ran-none : (used : Option Log) → used ≡ option_map (with_words []) used
 ran-none None = refl
-ran-none (Some used) = ap Some (sym (append-nil used))
+ran-none (Some log) = ap (λ words. Some (log_of log.width words)) (sym (append-nil log.words))
 
 -- nothing stops where there is an answer
 stops-not : (faults : Faults) (outcome : Outcome) → Stops faults faults (Ok outcome)
@@ -80,10 +82,10 @@ run-answered answer at whole =
       lent = balanced-none at.tree;
     }
 
--- A SCRIPT RUNS: what it leaves is its answer with the status, and the world
-module _ (old new : Point) (status : ℕ) (own : Shell) (same : status ≡ own.status) where
-  left-so : (came : Flow) (meant : Ends) → scripts.Left old.seen came own new.tree new.seen meant
-      → Leaves (over meant) (outcome_by came status) new.tree.held old.seen new.seen
+-- A SCRIPT RUNS: what it leaves is its answer with the status, the world, and the utilities that ran
+module _ (old new : Point) (status width : ℕ) (own : Shell) (same : status ≡ own.status) where
+  left-so : (came : Flow) (meant : Ends) → scripts.Left (ran_at width old.seen.drawn.used) old.seen came own new.tree new.seen meant
+      → Leaves (over width meant) (outcome_by came status) new.tree.held old.seen new.seen
   left-so came meant left =
       record {
         outcome_is = ap (λ (flow : Flow). outcome_by flow status) left.flow ∙ ap (outcome_by meant.flow) (same ∙ ap (λ (it : Shell). it.status) left.shell);
@@ -94,8 +96,8 @@ module _ (old new : Point) (status : ℕ) (own : Shell) (same : status ≡ own.s
         used = left.used;
       }
 
-  comes-so : (came : How) (meant : Ends) → scripts.Leaves old.seen came own new.tree new.seen meant
-      → Comes (over meant) (came_of came status) new.tree.held old.seen new.seen
+  comes-so : (came : How) (meant : Ends) → scripts.Leaves (ran_at width old.seen.drawn.used) old.seen came own new.tree new.seen meant
+      → Comes (over width meant) (came_of came status) new.tree.held old.seen new.seen
   comes-so (how.Gone flow) meant left = left-so flow meant left
   comes-so how.ReadFault meant left = left
   comes-so how.WriteFault meant left = left
@@ -116,22 +118,24 @@ module _ (old new : Point) (status : ℕ) (own : Shell) (same : status ≡ own.s
   stops-so how.TreeFault cause = record { ok = tt; read = λ is. cc; write = λ is. cc; tree = λ is. cause }
   stops-so how.Memory cause = record { ok = tt; read = λ is. cc; write = λ is. cc; tree = λ is. cc }
 
-  pub run-script : (start : ReadStart) (script : Script) (shell : Shell) → start ≡ read.Script script shell → (came : How) (result : Result Outcome Stop)
+  pub run-script : (start : ReadStart) (script : Script) (setup : Setup) → start ≡ read.Script script setup → setup.width ≡ width → (came : How) (result : Result Outcome Stop)
       → result ≡ came_of came status
       → ((expansions : Expansions) → AreExpansions expansions → IfSome old.tree.held (λ files. IfSome old.seen.drawn.left (λ text.
-      scripts.Leaves old.seen came own new.tree new.seen (script_means expansions pages (script_tree script) (begun shell old.tree.home files text)))))
+      scripts.Leaves (ran_at width old.seen.drawn.used) old.seen came own new.tree new.seen (script_means expansions pages (script_tree script) (begun setup.shell old.tree.home files text)))))
       → (IsGone came → IfSome new.tree.held NoWriterOut) → HasCause came old.faults new.faults → Balanced old.tree new.tree
       → RunsAs (λ reads. run_of (as_start start)) old result new
-  run-script start script shell start_is came result is meaning whole cause lent =
+  run-script start script setup start_is spread came result is meaning whole cause lent =
       subst (λ (it : ReadStart). RunsAs (λ reads. run_of (as_start it)) old result new) (sym start_is)
-      (subst (λ (it : Result Outcome Stop). RunsAs (λ reads. run_of (runs (script_tree script) shell)) old it new) (sym is) (record {
+      (subst (λ (it : Result Outcome Stop). RunsAs (λ reads. run_of (runs (script_tree script) setup)) old it new) (sym is) (record {
         comes = λ reads are expansions exps.
-            where_told (λ files text. scripts.Leaves old.seen came own new.tree new.seen
-            (script_means expansions pages (script_tree script) (begun shell old.tree.home files text)))
-            (λ files text. Comes (run_of (runs (script_tree script) shell) expansions (outside_of old.tree.home files text))
+            where_told (λ files text. scripts.Leaves (ran_at width old.seen.drawn.used) old.seen came own new.tree new.seen
+            (script_means expansions pages (script_tree script) (begun setup.shell old.tree.home files text)))
+            (λ files text. Comes (run_of (runs (script_tree script) setup) expansions (outside_of old.tree.home files text))
             (came_of came status) new.tree.held old.seen new.seen)
             old.tree.held old.seen.drawn.left
-            (λ files text left. comes-so came (script_means expansions pages (script_tree script) (begun shell old.tree.home files text)) left)
+            (λ files text left.
+            subst (λ (it : ℕ). Comes (over it (script_means expansions pages (script_tree script) (begun setup.shell old.tree.home files text))) (came_of came status) new.tree.held old.seen new.seen)
+            (sym spread) (comes-so came (script_means expansions pages (script_tree script) (begun setup.shell old.tree.home files text)) left))
             (meaning expansions exps);
         whole = whole-so came whole;
         cause = stops-so came cause;
@@ -342,7 +346,7 @@ module _ (Same : Type 0) (old tree new : TreeState) (lent : OnlyLent old tree) (
       → IfOk result (λ outcome. IsWithoutScript outcome.why → Same × OnlyLent old new × OnlyTold outcome.why outcome.status was now)
   without-script (read.Answered answer) (Ok outcome) ends told_so =
       λ without. (told_so.0, stays told_so.1, subst (λ (it : Why). OnlyTold it outcome.status was now) (sym ends) told_so.2)
-  without-script (read.Script script shell) (Ok outcome) ends told_so = λ without. absurd (no-script outcome.why ends without)
+  without-script (read.Script script setup) (Ok outcome) ends told_so = λ without. absurd (no-script outcome.why ends without)
   without-script start (Err stopped) ends told_so = tt
 
   draws-nothing : (answer : Why) (result : Result Outcome Stop) → TellsOnly answer result was now → DrawsNothing was now
@@ -352,7 +356,7 @@ module _ (Same : Type 0) (old tree new : TreeState) (lent : OnlyLent old tree) (
   answered-alone : (start : ReadStart) (result : Result Outcome Stop) → IsAnswered (as_start start)
       → IfAnswered start (λ answer. Same × (new ≡ tree) × TellsOnly answer result was now) → Same × OnlyLent old new × DrawsNothing was now
   answered-alone (read.Answered answer) result is told_so = (told_so.0, stays told_so.1, draws-nothing answer result told_so.2)
-  answered-alone (read.Script script shell) result is told_so = absurd is
+  answered-alone (read.Script script setup) result is told_so = absurd is
 
   is-answered : (reads : Readings) (start : ReadStart) (command : Option RunCommand) (held : Option Files)
       → MatchOption command (start ≡ read.Answered why.Usage) (λ _. IsOfCommand start)
@@ -376,7 +380,7 @@ pub answer-of : (start : ReadStart) (command : Option RunCommand) (result : Resu
     → IfOk result (λ outcome. MatchOption command (outcome.why ≡ why.Usage) (λ _. IsOfScript outcome.why))
 answer-of start None (Ok outcome) ends usage = subst (λ (it : ReadStart). EndsWith it outcome.why) usage ends
 answer-of (read.Answered answer) (Some command) (Ok outcome) ends usage = subst IsOfScript (sym ends) usage
-answer-of (read.Script script shell) (Some command) (Ok outcome) ends usage = of_run outcome.why ends
+answer-of (read.Script script setup) (Some command) (Ok outcome) ends usage = of_run outcome.why ends
   where
     of_run : (why : Why) → IsOfRun why → IsOfScript why
     of_run why.Finished run = tt

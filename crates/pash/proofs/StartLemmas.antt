@@ -12,10 +12,10 @@ use Rattle.sh_lex.specs.declared.refusals.Static.TheVariants.{ScriptTooLong}
 use Rattle.sh_parse.specs.Outcomes.{AreOutcomes, Outcome, HasOutcome, Readings, refused}
 use Rattle.sh_parse.specs.declared.scripts.ParseRefusal.{ParseRefusal}
 use Rattle.sh_parse.specs.declared.scripts.ParseRefusal.TheVariants.{Refused}
-use Rattle.sh_eval.specs.declared.shell.Shell.{Shell}
 use Rattle.pash.specs.Readings.{AreReadAlike, IsUnread}
 use Rattle.pash.specs.Starts.{Start, as_start, start_of_outcome}
 use Rattle.pash.specs.declared.answers.Stop.{Stop}
+use Rattle.pash.specs.declared.starts.Setup.{Setup}
 use Rattle.pash.specs.declared.starts.Start.{Start as ReadStart}
 
 -- a text that is too long is told so
@@ -52,22 +52,22 @@ pub has_refusal : (text : List ℕ) (unread : ParseRefusal) (cause : Static) →
 has_refusal text unread cause is has = subst (λ (one : ParseRefusal). IsUnread text one) is has
 
 -- what a text is read as says what it comes to
-pub started-as : (text : List ℕ) (read : Outcome) (shell : Shell) (start : Start) → HasOutcome text read → start ≡ start_of_outcome shell read
-    → (reads : Readings) → AreOutcomes reads → start ≡ start_of_outcome shell (reads text)
-started-as text read shell start has is reads are = is ∙ ap (start_of_outcome shell) (are.only text read has)
+pub started-as : (text : List ℕ) (read : Outcome) (setup : Setup) (start : Start) → HasOutcome text read → start ≡ start_of_outcome setup read
+    → (reads : Readings) → AreOutcomes reads → start ≡ start_of_outcome setup (reads text)
+started-as text read setup start has is reads are = is ∙ ap (start_of_outcome setup) (are.only text read has)
 
-pub started-so : (text : List ℕ) (read : Outcome) (shell : Shell) (result : Result ReadStart Stop) → HasOutcome text read
-    → IfOk result (λ start. as_start start ≡ start_of_outcome shell read)
-    → IfOk result (λ start. (reads : Readings) → AreOutcomes reads → as_start start ≡ start_of_outcome shell (reads text))
-started-so text read shell (Ok start) has is = started-as text read shell (as_start start) has is
-started-so text read shell (Err stopped) has is = tt
+pub started-so : (text : List ℕ) (read : Outcome) (setup : Setup) (result : Result ReadStart Stop) → HasOutcome text read
+    → IfOk result (λ start. as_start start ≡ start_of_outcome setup read)
+    → IfOk result (λ start. (reads : Readings) → AreOutcomes reads → as_start start ≡ start_of_outcome setup (reads text))
+started-so text read setup (Ok start) has is = started-as text read setup (as_start start) has is
+started-so text read setup (Err stopped) has is = tt
 
 -- and so of a text that is read alike
-pub started-alike : (held : Option Files) (path : Components) (text : List ℕ) (shell : Shell) (result : Result ReadStart Stop)
+pub started-alike : (held : Option Files) (path : Components) (text : List ℕ) (setup : Setup) (result : Result ReadStart Stop)
     → IfSome held (λ files. AreReadAlike text (bytes_at files path))
-    → IfOk result (λ start. (reads : Readings) → AreOutcomes reads → as_start start ≡ start_of_outcome shell (reads text))
+    → IfOk result (λ start. (reads : Readings) → AreOutcomes reads → as_start start ≡ start_of_outcome setup (reads text))
     → IfOk result (λ start. (reads : Readings) → AreOutcomes reads → IfSome held
-    (λ files. as_start start ≡ start_of_outcome shell (reads (bytes_at files path))))
-started-alike None path text shell (Ok start) alike is = λ reads are. tt
-started-alike (Some files) path text shell (Ok start) alike is = λ reads are. is reads are ∙ ap (start_of_outcome shell) (alike.same reads are)
-started-alike held path text shell (Err stopped) alike is = tt
+    (λ files. as_start start ≡ start_of_outcome setup (reads (bytes_at files path))))
+started-alike None path text setup (Ok start) alike is = λ reads are. tt
+started-alike (Some files) path text setup (Ok start) alike is = λ reads are. is reads are ∙ ap (start_of_outcome setup) (alike.same reads are)
+started-alike held path text setup (Err stopped) alike is = tt

@@ -1,7 +1,9 @@
--- What a command means, from its words and what the outside holds. No piece and no call occurs here, and no width.
+-- What a command means, from its words and what the outside holds. No piece and no call occurs here, and a width only where utilities are
+-- counted.
 use Rattle.std.specs.Prelude.{ℕ, List, [], ◌++◌}
 use Rattle.ps_world.specs.Paths.{Components}
 use Rattle.ps_world.specs.Files.{Files}
+use Rattle.fl_segments.specs.Noted.{used_at}
 use Rattle.sh_parse.specs.Outcomes.{Readings}
 use Rattle.sh_expand.specs.Outcomes.{Expansions}
 use Rattle.sh_eval.specs.Meaning.{begun, script_means}
@@ -21,10 +23,11 @@ pub record Outside : Type 0 where
 abbrev pub outside_of : Components → Files → List ℕ → Outside
 outside_of home files input = record { files = files; home = home; input = input }
 
--- what a command leaves: its answer with the status, and the world
+-- what a command leaves: its answer with the status, the world, and the words of the utilities that run at its width
 pub record Meaning : Type 0 where
   pub outcome : Outcome
   pub world : World
+  pub used : List (List (List ℕ))
 
 -- nothing has run
 abbrev pub untouched : Outside → World
@@ -39,13 +42,13 @@ untouched outside =
     }
 
 -- a script is over
-abbrev pub over : Ends → Meaning
-over left = record { outcome = outcome_by left.flow left.state.shell.status; world = left.state.world }
+abbrev pub over : ℕ → Ends → Meaning
+over width left = record { outcome = outcome_by left.flow left.state.shell.status; world = left.state.world; used = used_at width left.state.world.ran }
 
 -- what comes of a start, before the line of the answer is told
 abbrev pub run_of : Start → Expansions → Outside → Meaning
-run_of (answered answer) expansions outside = record { outcome = refusing answer; world = untouched outside }
-run_of (runs script shell) expansions outside = over (script_means expansions pages script (begun shell outside.home outside.files outside.input))
+run_of (answered answer) expansions outside = record { outcome = refusing answer; world = untouched outside; used = [] }
+run_of (runs script setup) expansions outside = over setup.width (script_means expansions pages script (begun setup.shell outside.home outside.files outside.input))
 
 -- the line of the answer is told behind all that was told
 abbrev pub told : Meaning → Meaning

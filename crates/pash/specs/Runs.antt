@@ -1,5 +1,6 @@
 -- What a call on the way of a run says of the objects that it was handed.
 use Rattle.std.specs.Prelude.{◌≡◌, ℕ, ◌⊎◌, Option, Some, Result, Ok, Err, OnOk, IsErrOf, IfSome}
+use Rattle.std.specs.Option.{option_map}
 use Rattle.ps_world.specs.Counts.{Rose}
 use Rattle.ps_world.specs.Told.{then_bytes, GrewByPrefix}
 use Rattle.ps_world.specs.Files.{Files, NoWriterOut}
@@ -8,7 +9,8 @@ use Rattle.ps_world.specs.declared.WorldErr.{WorldErr}
 use Rattle.ps_world.specs.declared.WorldErr.TheVariants as world
 use Rattle.sh_parse.specs.Outcomes.{AreOutcomes, Readings}
 use Rattle.sh_expand.specs.Outcomes.{AreExpansions, Expansions}
-use Rattle.sh_eval.specs.Contract.{Faults, Seen, then_ran}
+use Rattle.fl_core.specs.Logs.{with_words}
+use Rattle.sh_eval.specs.Contract.{Faults, Seen}
 use Rattle.sh_eval.specs.Scripts.{Stopped}
 use Rattle.sh_eval.specs.declared.outcomes.How.{How}
 use Rattle.sh_eval.specs.declared.outcomes.How.TheVariants as how
@@ -44,15 +46,15 @@ pub record Stops {T : Type 0} (old new : Faults) (result : Result T Stop) : Type
   pub write : IsErrOf result stop.Write → Rose old.output new.output ⊎ Rose old.errors new.errors
   pub tree : IsErrOf result stop.Tree → Rose old.tree new.tree
 
--- a command left its meaning: its answer and status are the meaning's, output and errors have grown by the meaning's, and so has what tells
--- which utilities ran; the files are the meaning's, and so is what is left of the input
+-- a command left its meaning: its answer and status are the meaning's, output and errors have grown by the meaning's, and so have the words
+-- of the utilities that the engine has run; the files are the meaning's, and so is what is left of the input
 pub record Leaves (meaning : Meaning) (outcome : Outcome) (held : Option Files) (old new : Seen) : Type 0 where
   pub outcome_is : outcome ≡ meaning.outcome
   pub output : new.taken ≡ then_bytes old.taken meaning.world.output
   pub errors : new.errors ≡ then_bytes old.errors meaning.world.errors
   pub files : held ≡ Some meaning.world.files
   pub input : new.drawn.left ≡ Some meaning.world.input
-  pub used : new.drawn.used ≡ then_ran old.drawn.used meaning.world.ran
+  pub used : new.drawn.used ≡ option_map (with_words meaning.used) old.drawn.used
 
 -- or it stopped, and output and errors have grown by prefixes of the meaning's
 abbrev pub Comes : Meaning → Result Outcome Stop → Option Files → Seen → Seen → Type 0

@@ -8,7 +8,7 @@ pub const MOST_WIDTH: u32 = 16;
 /// A command to run a script at a width: `run W SCRIPT ARG*`.
 #[derive(Drop)]
 pub struct RunCommand<'a> {
-    /// How many parts the work is spread to, 1 to 16. No utility is spread so far.
+    /// Over how many parts utilities are spread whose input may be cut, 1 to 16.
     pub width: u32,
     /// The script's path, as it was given.
     pub script: &'a [u8],

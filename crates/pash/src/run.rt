@@ -13,7 +13,7 @@ ghost use Rattle.pash.specs.Words.{command_of, texts};
 
 use crate::answers::{Outcome, Stop, Why, answered, ended, of_sink};
 use crate::lines::answer_line;
-use crate::starts::{Start, begin};
+use crate::starts::{Setup, Start, begin};
 use fl_core::Engine;
 use ps_world::{Gate, Sink, Source, Tree, write_all};
 use sh_eval::{How, Played, run_script};
@@ -142,10 +142,11 @@ fn run_start<T: Tree, I: Source + Send, O: Sink + Send, E: Sink, G: Gate, X: Eng
             input,
             out,
         },
-        Start::Script(script, shell) => {
+        Start::Script(script, setup) => {
+            let Setup { shell, width } = setup;
             let mut shell = shell;
             let Played { how, input, out } = run_script(
-                alloc, &script, &mut shell, tree, input, out, err, gate, engine,
+                alloc, &script, width, &mut shell, tree, input, out, err, gate, engine,
             );
             Ran {
                 outcome: came_of(how, shell.status()),

@@ -8,7 +8,7 @@ ghost use Rattle.sh_tree.specs.Views.{script_tree};
 ghost use Rattle.sh_eval.specs.Contract.{faults_of};
 ghost use Rattle.pash.specs.Readings.{AreReadAlike};
 ghost use Rattle.pash.specs.Runs.{Stops};
-ghost use Rattle.pash.specs.Starts.{IsOfCommand, as_start, file_of, runs, shell_of, start_of, start_of_file, start_of_outcome, start_of_run};
+ghost use Rattle.pash.specs.Starts.{IsOfCommand, as_start, file_of, runs, setup_of, shell_of, start_of, start_of_file, start_of_outcome, start_of_run};
 ghost use Rattle.pash.specs.Words.{as_run, command_of, texts};
 
 use crate::answers::{Stop, Why, of_tree, refusal_of};
@@ -29,8 +29,17 @@ use ut_options::Texts;
 pub enum Start {
     /// Nothing runs, and this is the answer.
     Answered(Why),
-    /// This script runs, in this shell.
-    Script(Script, Shell),
+    /// This script runs, and begins so.
+    Script(Script, Setup),
+}
+
+/// What a script begins with.
+#[derive(Debug, Drop)]
+pub struct Setup {
+    /// Its shell.
+    pub shell: Shell,
+    /// Over how many parts its graphs are spread, 1 to 16.
+    pub width: u32,
 }
 
 /// Finds out what the words ask for: whether they are a command, and whether SCRIPT is a file, and its text a script.
@@ -115,7 +124,7 @@ fn begin_file<T: Tree>(
     requires whole { IfSome (T.state tree.old).held NoWriterOut }
     requires file { IfSome (T.state tree.old).held (λ files. IsFileAt files path.now) }
     ensures start { IfOk result (λ start. (reads : Readings) → AreOutcomes reads → IfSome (T.state tree.old).held (λ files.
-        as_start start ≡ start_of_outcome (shell_of (as_run command.now)) (reads (bytes_at files path.now)))) }
+        as_start start ≡ start_of_outcome (setup_of (as_run command.now)) (reads (bytes_at files path.now)))) }
     ensures command { IfOk result IsOfCommand }
     ensures lent { OnlyLent (T.state tree.old) (T.state tree.new) }
     ensures cause { Stops (faults_of 0 0 0 (T.faults tree.old)) (faults_of 0 0 0 (T.faults tree.new)) result }
@@ -149,7 +158,7 @@ fn load_script<T: Tree>(alloc: Global, tree: &mut T, path: &Path) -> Result<Vec<
 /// What the text of a command's script comes to.
 fn begin_text(alloc: Global, command: &RunCommand<'_>, text: &[u8]) -> Result<Start, Stop>
     ensures start { IfOk result (λ start. (reads : Readings) → AreOutcomes reads →
-        as_start start ≡ start_of_outcome (shell_of (as_run command.now)) (reads text.now)) }
+        as_start start ≡ start_of_outcome (setup_of (as_run command.now)) (reads text.now)) }
     ensures command { IfOk result IsOfCommand }
     ensures memory { IfErr result (λ stop. stop ≡ Stop.Memory) }
 {
@@ -160,14 +169,20 @@ fn begin_text(alloc: Global, command: &RunCommand<'_>, text: &[u8]) -> Result<St
     }
 }
 
-/// Makes the shell of a command's script.
+/// Makes what a command's script begins with.
 fn begin_script(alloc: Global, command: &RunCommand<'_>, script: Script) -> Result<Start, Stop>
-    ensures start { IfOk result (λ start. as_start start ≡ runs (script_tree script) (shell_of (as_run command.now))) }
+    ensures start { IfOk result (λ start. as_start start ≡ runs (script_tree script) (setup_of (as_run command.now))) }
     ensures command { IfOk result IsOfCommand }
     ensures memory { IfErr result (λ stop. stop ≡ Stop.Memory) }
 {
     match new_shell(alloc, command) {
-        Ok(shell) => Ok(Start::Script(script, shell)),
+        Ok(shell) => Ok(Start::Script(
+            script,
+            Setup {
+                shell,
+                width: command.width,
+            },
+        )),
         Err(_refused) => Err(Stop::Memory),
     }
 }

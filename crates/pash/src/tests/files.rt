@@ -130,8 +130,8 @@ fn texts_are_read(rt: HostRuntime) -> Result<(), Fail> {
             ("abcdef", "tail -c 3 f", "def"),
             (
                 "b:2\na:10\nc:1\n",
-                "sort -t : -k 2n f | cut -d : -f 1",
-                "c\nb\na\n",
+                "sort -t : -k 2n f | cut -d : -f 1 | paste -s -d , -",
+                "c,b,a\n",
             ),
             (
                 "a b\nc",

@@ -281,7 +281,7 @@ fn files_and_input_are_left(rt: HostRuntime) -> Result<(), Fail> {
 fn the_engine_runs_the_utilities(rt: HostRuntime) -> Result<(), Fail> {
     let alloc = rt.alloc();
     let entries: [Entry; 2] = [
-        (b"/w/s", Some(b"echo a; cat b | sort | wc -l")),
+        (b"/w/s", Some(b"echo a; cat b | tr x z | sort | wc -l")),
         (b"/w/b", Some(b"y\nx\n")),
     ];
     let tree = MemTree::of_table(alloc, b"/w", &entries, Vec::new(alloc))?;
@@ -289,7 +289,7 @@ fn the_engine_runs_the_utilities(rt: HostRuntime) -> Result<(), Fail> {
     let mut engine = in_turn(&rt, alloc);
     let ran = run_on(
         alloc,
-        &["run", "1", "s"],
+        &["run", "2", "s"],
         tree,
         Failing::Nothing,
         &mut engine,
@@ -302,7 +302,7 @@ fn the_engine_runs_the_utilities(rt: HostRuntime) -> Result<(), Fail> {
             told.push(b' ')?;
         }
     }
-    assert_eq!(rt; told.as_slice(), b"sort wc -l ".as_slice());
+    assert_eq!(rt; told.as_slice(), b"tr x z tr x z sort wc -l ".as_slice());
     Ok(())
 }
 

@@ -94,6 +94,17 @@ fn a_script_runs_over_objects_that_never_fail(rt: HostRuntime) -> Result<(), Fai
     )?;
     tells(
         &rt,
+        &[
+            (
+                b"/w/s",
+                Some(b"paste -s -d , f; cat f | paste - -; paste f f"),
+            ),
+            (b"/w/f", Some(b"a\nb\n")),
+        ],
+        &finished(b"a,b\na\tb\na\ta\nb\tb\n", b"", 0),
+    )?;
+    tells(
+        &rt,
         &[(b"/w/s", Some(b"echo a; tee f"))],
         &refused(b"a\n", b"pash: refused: NotBuilt\n", Refusal::NotBuilt),
     )

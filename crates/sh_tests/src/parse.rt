@@ -18,9 +18,8 @@ use sh_parse::{
     GrammarRefusal, Item, Look, Refusal, Reserved, Span, WordKind, WordReader, check, parse_items,
     word_kind,
 };
-use sh_tree::{
-    AndOr, Command, How, Join, List, Part, Pipeline, Redir, Script, Simple, Tail, Word, Words,
-};
+use sh_tree::{How, Join, Part, Word};
+use shown::shown;
 use std::alloc::{AllocError, Global};
 use std::process::Abort;
 use std::test::Fail;
@@ -339,12 +338,16 @@ static OWN_NO_SCRIPTS: &[u8] = b"\
 fn expect_all(rt: &impl Abort, alloc: Global, rows: &[u8], scripts: bool) -> Result<(), Fail> {
     for row in rows.split(|byte| *byte == b'\n') {
         let items = items_of(alloc, row)?;
-        let found = check(alloc, items.as_slice());
-        assert_eq!(rt; found.is_ok(), scripts, "{row:?}");
-        let parsed = parse_items(alloc, &Places, items.as_slice());
-        assert_eq!(rt; parsed.err(), found.err(), "{row:?}");
+        assert!(rt; are_judged(alloc, items.as_slice(), scripts), "{row:?}");
     }
     Ok(())
+}
+
+/// Whether items are a script or not, and are parsed or refused as `check` says.
+fn are_judged(alloc: Global, items: &[Item], scripts: bool) -> bool {
+    let found = check(alloc, items);
+    let parsed = parse_items(alloc, &Places, items).err();
+    (found.is_ok() == scripts) & (parsed == found.err())
 }
 
 #[test]
@@ -432,203 +435,76 @@ fn word(alloc: Global, place: u32, first: usize) -> Result<Word, Memory>
     Ok(Word { parts })
 }
 
-/// Words at these places, none behind a substitution.
-fn words(alloc: Global, places: &[u32]) -> Result<Vec<Word>, Memory> {
-    let mut words = Vec::new(alloc);
-    for place in places {
-        words.push(word(alloc, *place, 0)?)?;
-    }
-    Ok(words)
-}
-
-/// A simple command of these words alone.
-fn run(alloc: Global, places: &[u32]) -> Result<Command, Memory> {
-    Ok(Command::Simple(Simple {
-        assigns: Vec::new(alloc),
-        words: words(alloc, places)?,
-        redirs: Vec::new(alloc),
-        subs: Vec::new(alloc),
-    }))
-}
-
-/// A redirection.
-fn redir(alloc: Global, number: u8, how: How, place: u32) -> Result<Redir, Memory> {
-    Ok(Redir {
-        number,
-        how,
-        word: word(alloc, place, 0)?,
-    })
-}
-
-fn no_tail(alloc: Global) -> Tail {
-    Tail {
-        redirs: Vec::new(alloc),
-        subs: Vec::new(alloc),
-    }
-}
-
-/// A pipeline of one command.
-fn alone(alloc: Global, command: Command) -> Result<Pipeline, AllocError> {
-    Ok(Pipeline {
-        negated: false,
-        stages: vec![in alloc; command]?,
-    })
-}
-
-/// An and-or list of one pipeline.
-fn only(alloc: Global, first: Pipeline) -> AndOr {
-    AndOr {
-        first,
-        rest: Vec::new(alloc),
-    }
-}
-
-/// A list of one command.
-fn list(alloc: Global, command: Command) -> Result<List, AllocError> {
-    Ok(List {
-        items: vec![in alloc; only(alloc, alone(alloc, command)?)]?,
-    })
-}
-
-/// A list of one simple command, of one word.
-fn name(alloc: Global, place: u32) -> Result<List, Fail> {
-    Ok(list(alloc, run(alloc, &[place])?)?)
-}
-
-/// Sees that the row is the script with this list.
-fn expect_list(rt: &impl Abort, alloc: Global, row: &[u8], body: Option<List>) -> Result<(), Fail> {
-    let items = items_of(alloc, row)?;
-    match parse_items(alloc, &Places, items.as_slice()) {
-        Ok(found) => {
-            let found = format!(in alloc; "{found:?}")?;
-            let expected = Script { body };
-            let expected = format!(in alloc; "{expected:?}")?;
-            assert_eq!(rt; found, expected, "{row:?}");
-        }
-        Err(refusal) => assert_eq!(rt; Some(refusal), None, "{row:?}"),
+/// Sees that the items of each row are the script whose tree, as `shown` writes it, stands behind ` => `.
+fn expect_trees(rt: &impl Abort, alloc: Global, rows: &str) -> Result<(), Fail> {
+    for row in rows.lines() {
+        let (items, tree) = row.split_once(" => ").unwrap_or((row, ""));
+        assert!(rt;
+            have_tree(alloc, items.as_bytes(), tree.as_bytes())?,
+            "{row}"
+        );
     }
     Ok(())
 }
 
-fn expect(rt: &impl Abort, alloc: Global, row: &[u8], command: Command) -> Result<(), Fail> {
-    let body = list(alloc, command)?;
-    expect_list(rt, alloc, row, Some(body))
+fn have_tree(alloc: Global, row: &[u8], tree: &[u8]) -> Result<bool, Fail> {
+    let items = items_of(alloc, row)?;
+    match parse_items(alloc, &Places, items.as_slice()) {
+        Ok(script) => {
+            let answer = shown(alloc, &script);
+            drop(script);
+            Ok(answer?.as_slice() == tree)
+        }
+        Err(_) => Ok(false),
+    }
 }
+
+/// Lists and pipelines, and scripts of nothing. `(w (s PLACE) (s NUMBER))` is a word, with the number of its first substitution.
+static LISTS: &str = " => none
+NL NL => none
+NL a => (list (simple (w (s 1) (s 0))))
+a b ; c NL => (list (simple (w (s 0) (s 0)) (w (s 1) (s 0))) (simple (w (s 3) (s 0))))
+a && b || NL c => (list (andor (simple (w (s 0) (s 0))) and (simple (w (s 2) (s 0))) or (simple (w (s 5) (s 0)))))
+! a | b | c => (list (not (simple (w (s 1) (s 0))) (simple (w (s 3) (s 0))) (simple (w (s 5) (s 0)))))";
 
 #[test]
 fn lists_and_pipelines_have_their_trees(rt: HostRuntime) -> Result<(), Fail> {
-    let alloc = rt.alloc();
-    expect_list(&rt, alloc, b"", None)?;
-    expect_list(&rt, alloc, b"NL NL", None)?;
-    expect(&rt, alloc, b"NL a", run(alloc, &[1])?)?;
-    let items = vec![in alloc;
-        only(alloc, alone(alloc, run(alloc, &[0, 1])?)?),
-        only(alloc, alone(alloc, run(alloc, &[3])?)?),
-    ]?;
-    expect_list(&rt, alloc, b"a b ; c NL", Some(List { items }))?;
-    let items = vec![in alloc;
-        AndOr {
-            first: alone(alloc, run(alloc, &[0])?)?,
-            rest: vec![in alloc;
-                (Join::And, alone(alloc, run(alloc, &[2])?)?),
-                (Join::Or, alone(alloc, run(alloc, &[5])?)?)
-            ]?,
-        },
-    ]?;
-    expect_list(&rt, alloc, b"a && b || NL c", Some(List { items }))?;
-    let pipeline = Pipeline {
-        negated: true,
-        stages: vec![in alloc; run(alloc, &[1])?, run(alloc, &[3])?, run(alloc, &[5])?]?,
-    };
-    let items = vec![in alloc; only(alloc, pipeline)]?;
-    expect_list(&rt, alloc, b"! a | b | c", Some(List { items }))?;
-    Ok(())
+    expect_trees(&rt, rt.alloc(), LISTS)
 }
+
+/// Simple commands.
+static SIMPLE: &str =
+    r"x=1 a > f #2 >& 1 y=2 < g => (list (simple (= \e (s 0) (s 0)) (w (s 1) (s 0)) (w (s 7) (s 0)) (> 1 (w (s 3) (s 0))) (>& 2 (w (s 6) (s 0))) (< 0 (w (s 9) (s 0)))))
+a $( b NL $) > $( c $) d => (list (simple (w (s 0) (s 0)) (w (s 1) (s 0)) (w (s 11) (s 2)) (> 1 (w (s 7) (s 1))) (list (simple (w (s 3) (s 0)))) (list (simple (w (s 9) (s 0))))))";
 
 #[test]
 fn simple_commands_have_their_trees(rt: HostRuntime) -> Result<(), Fail> {
-    let alloc = rt.alloc();
-    let command = Command::Simple(Simple {
-        assigns: vec![in alloc; (Text::copy_of(alloc, &[])?, word(alloc, 0, 0)?)]?,
-        words: words(alloc, &[1, 7])?,
-        redirs: vec![in alloc;
-            redir(alloc, 1, How::Write, 3)?,
-            redir(alloc, 2, How::Copy, 6)?,
-            redir(alloc, 0, How::Read, 9)?,
-        ]?,
-        subs: Vec::new(alloc),
-    });
-    expect(&rt, alloc, b"x=1 a > f #2 >& 1 y=2 < g", command)?;
-    let command = Command::Simple(Simple {
-        assigns: Vec::new(alloc),
-        words: vec![in alloc; word(alloc, 0, 0)?, word(alloc, 1, 0)?, word(alloc, 11, 2)?]?,
-        redirs: vec![in alloc;
-            Redir {
-                number: 1,
-                how: How::Write,
-                word: word(alloc, 7, 1)?,
-            },
-        ]?,
-        subs: vec![in alloc; name(alloc, 3)?, name(alloc, 9)?]?,
-    });
-    expect(&rt, alloc, b"a $( b NL $) > $( c $) d", command)?;
-    Ok(())
+    expect_trees(&rt, rt.alloc(), SIMPLE)
 }
+
+/// Compound commands.
+static COMPOUNDS: &str =
+    "{ a ; } >> f => (list (group (list (simple (w (s 1) (s 0)))) (>> 1 (w (s 5) (s 0)))))
+( ( a ) ) => (list (subshell (list (subshell (list (simple (w (s 2) (s 0))))))))
+if a ; then b ; elif c ; then d ; else e ; fi => (list (if ((list (simple (w (s 1) (s 0)))) (list (simple (w (s 4) (s 0))))) ((list (simple (w (s 7) (s 0)))) (list (simple (w (s 10) (s 0))))) else (list (simple (w (s 13) (s 0))))))
+if a ; then b ; fi => (list (if ((list (simple (w (s 1) (s 0)))) (list (simple (w (s 4) (s 0)))))))
+while a ; do b ; done => (list (while (list (simple (w (s 1) (s 0)))) (list (simple (w (s 4) (s 0))))))
+until a ; do b ; done => (list (until (list (simple (w (s 1) (s 0)))) (list (simple (w (s 4) (s 0))))))";
 
 #[test]
 fn compound_commands_have_their_trees(rt: HostRuntime) -> Result<(), Fail> {
-    let alloc = rt.alloc();
-    let tail = Tail {
-        redirs: vec![in alloc; redir(alloc, 1, How::Append, 5)?]?,
-        subs: Vec::new(alloc),
-    };
-    let command = Command::Group(name(alloc, 1)?, tail);
-    expect(&rt, alloc, b"{ a ; } >> f", command)?;
-    let inner = Command::Subshell(name(alloc, 2)?, no_tail(alloc));
-    let command = Command::Subshell(list(alloc, inner)?, no_tail(alloc));
-    expect(&rt, alloc, b"( ( a ) )", command)?;
-    let branches = vec![in alloc;
-        (name(alloc, 1)?, name(alloc, 4)?),
-        (name(alloc, 7)?, name(alloc, 10)?),
-    ]?;
-    let command = Command::If(branches, Some(name(alloc, 13)?), no_tail(alloc));
-    expect(
-        &rt,
-        alloc,
-        b"if a ; then b ; elif c ; then d ; else e ; fi",
-        command,
-    )?;
-    let branches = vec![in alloc; (name(alloc, 1)?, name(alloc, 4)?)]?;
-    let command = Command::If(branches, None, no_tail(alloc));
-    expect(&rt, alloc, b"if a ; then b ; fi", command)?;
-    let command = Command::While(name(alloc, 1)?, name(alloc, 4)?, no_tail(alloc));
-    expect(&rt, alloc, b"while a ; do b ; done", command)?;
-    let command = Command::Until(name(alloc, 1)?, name(alloc, 4)?, no_tail(alloc));
-    expect(&rt, alloc, b"until a ; do b ; done", command)?;
-    Ok(())
+    expect_trees(&rt, rt.alloc(), COMPOUNDS)
 }
+
+/// Loops over words.
+static LOOPS: &str =
+    r"for i in a b ; do c ; done => (list (for \e (in (w (s 3) (s 0)) (w (s 4) (s 0))) (list (simple (w (s 7) (s 0))))))
+for i in ; do a ; done => (list (for \e (in) (list (simple (w (s 5) (s 0))))))
+for i NL do a ; done => (list (for \e args (list (simple (w (s 4) (s 0))))))";
 
 #[test]
 fn loops_over_words_have_their_trees(rt: HostRuntime) -> Result<(), Fail> {
-    let alloc = rt.alloc();
-    let among = Words {
-        words: words(alloc, &[3, 4])?,
-        subs: Vec::new(alloc),
-    };
-    let variable = Text::copy_of(alloc, &[])?;
-    let command = Command::For(variable, Some(among), name(alloc, 7)?, no_tail(alloc));
-    expect(&rt, alloc, b"for i in a b ; do c ; done", command)?;
-    let among = Words {
-        words: Vec::new(alloc),
-        subs: Vec::new(alloc),
-    };
-    let variable = Text::copy_of(alloc, &[])?;
-    let command = Command::For(variable, Some(among), name(alloc, 5)?, no_tail(alloc));
-    expect(&rt, alloc, b"for i in ; do a ; done", command)?;
-    let variable = Text::copy_of(alloc, &[])?;
-    let command = Command::For(variable, None, name(alloc, 4)?, no_tail(alloc));
-    expect(&rt, alloc, b"for i NL do a ; done", command)?;
-    Ok(())
+    expect_trees(&rt, rt.alloc(), LOOPS)
 }
 
 /// Words by their bytes, and what they are.

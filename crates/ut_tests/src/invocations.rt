@@ -43,3 +43,9 @@ pub(super) fn words_of(alloc: Global, words: &[&[u8]]) -> Result<Vec<Vec<u8>>, M
     }
     Ok(texts)
 }
+
+/// The invocation of these words, if they are one.
+pub(super) fn read_words(alloc: Global, words: &[&[u8]]) -> Result<Option<Inv>, Memory> {
+    let texts = words_of(alloc, words)?;
+    invocation_of(alloc, texts.as_slice())
+}

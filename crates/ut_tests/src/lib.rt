@@ -18,6 +18,8 @@ mod groups;
 #[cfg(test)]
 mod invocations;
 #[cfg(test)]
+mod pastes;
+#[cfg(test)]
 mod slices;
 #[cfg(test)]
 mod sort;

@@ -1,18 +1,12 @@
 //! Slices of short texts over every cutting; what is wanted is what the standard says, and GNU's tools write in the C locale.
 
 use crate::cuttings::gives;
-use crate::invocations::{invocation_of, words_of};
+use crate::invocations::read_words;
 use ps_lines::Memory;
 use std::alloc::Global;
 use std::test::Fail;
 use ut_args::{CutInv, HeadInv, Inv, TailInv};
 use ut_slices::{Cut, Head, Tail};
-
-/// The invocation of these words.
-fn read_words(alloc: Global, words: &[&[u8]]) -> Result<Option<Inv>, Memory> {
-    let texts = words_of(alloc, words)?;
-    invocation_of(alloc, texts.as_slice())
-}
 
 /// How many lines, text, and what is written.
 static HEADS: [(&str, &str, &str); 7] = [

@@ -1,7 +1,7 @@
 //! Rows of tables: words as trees, what is given, and what they become.
 //!
-//! A row has columns with `|` between them: the words as a script writes them, their trees, what is given, what they become, and
-//! the variables that change. Empty columns at the end are left out.
+//! A row is a line of a table. It has columns with `|` between them: the words as a script writes them, their trees, what is
+//! given, what they become, and the variables that change. Empty columns at the end are left out.
 //!
 //! - Trees: `(w PART..)` is a word. A part is `p:BYTES`, or `q:BYTES` where they are quoted; `(v PARAMETER FORM WORD)`, `(s NUMBER)`
 //!   or `(a PART..)`, with `V`, `S` or `A` where it is quoted.
@@ -63,24 +63,24 @@ struct Open {
 }
 
 /// Whether `expand` answers what each row wants.
-pub(super) fn expect_fields(rt: &impl Abort, alloc: Global, rows: &[&str]) -> Result<(), Fail> {
-    for row in rows {
+pub(super) fn expect_fields(rt: &impl Abort, alloc: Global, rows: &str) -> Result<(), Fail> {
+    for row in rows.lines() {
         assert!(rt; has_fields(alloc, row)?, "{row}");
     }
     Ok(())
 }
 
 /// Whether `expand_one` answers what each row wants.
-pub(super) fn expect_texts(rt: &impl Abort, alloc: Global, rows: &[&str]) -> Result<(), Fail> {
-    for row in rows {
+pub(super) fn expect_texts(rt: &impl Abort, alloc: Global, rows: &str) -> Result<(), Fail> {
+    for row in rows.lines() {
         assert!(rt; has_text(alloc, row)?, "{row}");
     }
     Ok(())
 }
 
 /// Whether `has_pattern` answers what each row wants.
-pub(super) fn expect_patterns(rt: &impl Abort, alloc: Global, rows: &[&str]) -> Result<(), Fail> {
-    for row in rows {
+pub(super) fn expect_patterns(rt: &impl Abort, alloc: Global, rows: &str) -> Result<(), Fail> {
+    for row in rows.lines() {
         assert!(rt; leaves_pattern(alloc, row)?, "{row}");
     }
     Ok(())

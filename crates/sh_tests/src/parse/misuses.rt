@@ -139,23 +139,38 @@ static MIXES: [(&str, u32); 18] = [
     ("{ a ; } NL b = $( c $)", 5),
 ];
 
+/// Whether this is the first misuse in the row.
+fn is_first(alloc: Global, row: &str, wanted: Option<Misuse>) -> Result<bool, Fail> {
+    let items = items_of(alloc, row.as_bytes())?;
+    Ok(first_misuse(alloc, &Marked, items.as_slice())? == wanted)
+}
+
 #[test]
-fn the_first_misuse_is_told(rt: HostRuntime) -> Result<(), Fail> {
-    let alloc = rt.alloc();
+fn no_misuse_is_told_where_there_is_none(rt: HostRuntime) -> Result<(), Fail> {
     for row in UNMISUSED.iter() {
-        let items = items_of(alloc, row.as_bytes())?;
-        let found = first_misuse(alloc, &Marked, items.as_slice())?;
-        assert_eq!(rt; found, None, "{row:?}");
+        assert!(rt; is_first(rt.alloc(), row, None)?, "{row:?}");
     }
+    Ok(())
+}
+
+#[test]
+fn the_first_expansion_without_a_form_is_told(rt: HostRuntime) -> Result<(), Fail> {
     for &(row, offset) in FORMS.iter() {
-        let items = items_of(alloc, row.as_bytes())?;
-        let found = first_misuse(alloc, &Marked, items.as_slice())?;
-        assert_eq!(rt; found, Some(Misuse::Form(offset)), "{row:?}");
+        assert!(rt;
+            is_first(rt.alloc(), row, Some(Misuse::Form(offset)))?,
+            "{row:?}"
+        );
     }
+    Ok(())
+}
+
+#[test]
+fn the_first_command_that_mixes_is_told(rt: HostRuntime) -> Result<(), Fail> {
     for &(row, offset) in MIXES.iter() {
-        let items = items_of(alloc, row.as_bytes())?;
-        let found = first_misuse(alloc, &Marked, items.as_slice())?;
-        assert_eq!(rt; found, Some(Misuse::Mix(offset)), "{row:?}");
+        assert!(rt;
+            is_first(rt.alloc(), row, Some(Misuse::Mix(offset)))?,
+            "{row:?}"
+        );
     }
     Ok(())
 }

@@ -1,7 +1,7 @@
 //! Rows of tables: a text, and what `parse` answers.
 //!
-//! A row is a text, ` => `, and its script as `shown` writes it, or the name of the refusal with its offset. In the text `\n`,
-//! `\t`, `\\` and `\xNN` are bytes, and `\e` is nothing.
+//! A row is a line of a table: a text, ` => `, and its script as `shown` writes it, or the name of the refusal with its offset.
+//! In the text `\n`, `\t`, `\\` and `\xNN` are bytes, and `\e` is nothing.
 use super::shown::shown;
 use ps_lines::{Memory, decimal};
 use sh_lex::{LexRefusal, Static, lex};
@@ -20,14 +20,18 @@ enum At {
 }
 
 /// Expects of each row that `parse` answers what it says.
-pub(super) fn expect_rows(rt: &impl Abort, alloc: Global, rows: &[&str]) -> Result<(), Fail> {
-    for row in rows {
-        let (text, wanted) = row.split_once(" => ").unwrap_or((row, ""));
-        let text = unescaped(alloc, text.as_bytes())?;
-        let answer = answer(alloc, text.as_slice())?;
-        assert_eq!(rt; str::from_utf8(answer.as_slice()), Ok(wanted), "{row}");
+pub(super) fn expect_rows(rt: &impl Abort, alloc: Global, rows: &str) -> Result<(), Fail> {
+    for row in rows.lines() {
+        assert!(rt; is_answered(alloc, row)?, "{row}");
     }
     Ok(())
+}
+
+fn is_answered(alloc: Global, row: &str) -> Result<bool, Memory> {
+    let (text, wanted) = row.split_once(" => ").unwrap_or((row, ""));
+    let text = unescaped(alloc, text.as_bytes())?;
+    let answer = answer(alloc, text.as_slice())?;
+    Ok(answer.as_slice() == wanted.as_bytes())
 }
 
 /// What `parse` answers to a text, as a row writes it.

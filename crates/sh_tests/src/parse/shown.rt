@@ -93,53 +93,55 @@ fn add_command(out: &mut Vec<u8>, command: &Command) -> Result<(), Memory> {
     match command {
         Command::Simple(simple) => add_simple(out, simple)?,
         Command::Group(list, tail) => {
-            add(out, "(group ")?;
-            add_list(out, list)?;
+            add_behind(out, "(group ", list)?;
             add_tail(out, tail)?;
         }
         Command::Subshell(list, tail) => {
-            add(out, "(subshell ")?;
-            add_list(out, list)?;
+            add_behind(out, "(subshell ", list)?;
             add_tail(out, tail)?;
         }
         Command::If(branches, otherwise, tail) => {
             add(out, "(if")?;
             for (condition, body) in branches {
-                add(out, " (")?;
-                add_list(out, condition)?;
-                add(out, " ")?;
-                add_list(out, body)?;
+                add_behind(out, " (", condition)?;
+                add_behind(out, " ", body)?;
                 add(out, ")")?;
             }
             if let Some(list) = otherwise {
-                add(out, " else ")?;
-                add_list(out, list)?;
+                add_behind(out, " else ", list)?;
             }
             add_tail(out, tail)?;
         }
         Command::While(condition, body, tail) => {
-            add(out, "(while ")?;
-            add_list(out, condition)?;
-            add(out, " ")?;
-            add_list(out, body)?;
+            add_behind(out, "(while ", condition)?;
+            add_behind(out, " ", body)?;
             add_tail(out, tail)?;
         }
         Command::Until(condition, body, tail) => {
-            add(out, "(until ")?;
-            add_list(out, condition)?;
-            add(out, " ")?;
-            add_list(out, body)?;
+            add_behind(out, "(until ", condition)?;
+            add_behind(out, " ", body)?;
             add_tail(out, tail)?;
         }
         Command::For(name, words, body, tail) => {
-            add(out, "(for ")?;
-            add_bytes(out, name.as_slice())?;
+            add_for(out, name)?;
             add_for_words(out, words)?;
             add_list(out, body)?;
             add_tail(out, tail)?;
         }
     }
     add(out, ")")
+}
+
+/// Adds the list behind these bytes.
+#[cycle(lists)]
+fn add_behind(out: &mut Vec<u8>, sign: &str, list: &List) -> Result<(), Memory> {
+    add(out, sign)?;
+    add_list(out, list)
+}
+
+fn add_for(out: &mut Vec<u8>, name: &Text) -> Result<(), Memory> {
+    add(out, "(for ")?;
+    add_bytes(out, name.as_slice())
 }
 
 /// Adds the words of a `for`, between blanks.
@@ -275,36 +277,33 @@ fn add_form(out: &mut Vec<u8>, form: &Form) -> Result<(), Memory> {
         Form::Plain => Ok(()),
         Form::Length => add(out, " len"),
         Form::Default { colon, word } => {
-            add(out, if *colon { " :- " } else { " - " })?;
-            add_word(out, word)
+            add_formed(out, if *colon { " :- " } else { " - " }, word)
         }
-        Form::Assign { colon, word } => {
-            add(out, if *colon { " := " } else { " = " })?;
-            add_word(out, word)
-        }
+        Form::Assign { colon, word } => add_formed(out, if *colon { " := " } else { " = " }, word),
         Form::Check { colon, word } => {
             add(out, if *colon { " :?" } else { " ?" })?;
             match word {
-                Some(word) => {
-                    add(out, " ")?;
-                    add_word(out, word)
-                }
+                Some(word) => add_formed(out, " ", word),
                 None => Ok(()),
             }
         }
         Form::Alternate { colon, word } => {
-            add(out, if *colon { " :+ " } else { " + " })?;
-            add_word(out, word)
+            add_formed(out, if *colon { " :+ " } else { " + " }, word)
         }
         Form::CutSuffix { longest, word } => {
-            add(out, if *longest { " %% " } else { " % " })?;
-            add_word(out, word)
+            add_formed(out, if *longest { " %% " } else { " % " }, word)
         }
         Form::CutPrefix { longest, word } => {
-            add(out, if *longest { " ## " } else { " # " })?;
-            add_word(out, word)
+            add_formed(out, if *longest { " ## " } else { " # " }, word)
         }
     }
+}
+
+/// Adds the word behind the sign of its form.
+#[cycle(words)]
+fn add_formed(out: &mut Vec<u8>, sign: &str, word: &Word) -> Result<(), Memory> {
+    add(out, sign)?;
+    add_word(out, word)
 }
 
 /// Adds the bytes of an atom.

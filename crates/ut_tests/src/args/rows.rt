@@ -1,7 +1,7 @@
 //! Rows of tables: words, and what is read of them.
 //!
-//! A row has columns with `|` between them: the words; `ok` or the fault with its details; the options that hold; the operands; how many
-//! inputs there are. The module `columns` says how a column is written.
+//! A row is a line of a table. It has columns with `|` between them: the words; `ok` or the fault with its details; the options that
+//! hold; the operands; how many inputs there are. The module `columns` says how a column is written.
 use super::shown::{operands_of, options_of};
 use crate::columns::items_of;
 use crate::invocations::invocation_of;

@@ -1,6 +1,6 @@
 //! Rows of tables: an invocation of sort, and what it does.
 //!
-//! A row has columns with `|` between them, written as the module `columns` says. The first one has the words.
+//! A row is a line of a table. It has columns with `|` between them, written as the module `columns` says. The first one has the words.
 use crate::columns::{items_of, unescaped};
 use crate::cuttings::gives;
 use crate::invocations::invocation_of;
@@ -148,7 +148,7 @@ fn writes_pieces(alloc: Global, inv: &SortInv, text: &[u8], wanted: &[u8]) -> Re
 }
 
 /// The invocation of a row's words, if it is one of sort.
-fn sort_in(alloc: Global, row: &str) -> Result<Option<SortInv>, Memory> {
+pub(super) fn sort_in(alloc: Global, row: &str) -> Result<Option<SortInv>, Memory> {
     match invocation_in(alloc, row)? {
         Some(Inv::Sort(inv)) => Ok(Some(inv)),
         other => {

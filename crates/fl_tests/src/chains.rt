@@ -19,6 +19,7 @@ use std::thread::Threads;
 /// An engine that writes down the graphs that it runs.
 #[derive(Drop)]
 struct Noting<H> {
+    width: u32,
     noted: String,
     alloc: Global,
     /// It has no threads, so no value of their host.
@@ -32,6 +33,14 @@ impl<H: Threads + Wait + Sync> Engine for Noting<H> {
 
     fn host(&self) -> Option<&H> {
         None
+    }
+
+    fn width(&self) -> u32 {
+        self.width
+    }
+
+    fn spread_over(&mut self, width: u32) {
+        self.width = width;
     }
 
     fn note(&mut self, graph: &Graph) -> Result<(), Memory> {
@@ -65,7 +74,9 @@ fn add_kind(alloc: Global, noted: &mut String, kind: &NodeKind) -> Result<(), Al
         NodeKind::Source(From::Input) => noted.push_str("Source"),
         NodeKind::Source(From::File(path)) => add_source(alloc, noted, path),
         NodeKind::Text(text) => add_text(noted, text),
-        NodeKind::Whole(inv) => add_words(noted, inv.words()),
+        NodeKind::Whole(inv) => add_words(noted, "Whole", inv.words()),
+        NodeKind::Map(inv) => add_words(noted, "Map", inv.words()),
+        NodeKind::Split => noted.push_str("Split"),
         NodeKind::Cat { close: false } => noted.push_str("Cat"),
         NodeKind::Cat { close: true } => noted.push_str("Cat closing"),
         NodeKind::Drain => noted.push_str("Drain"),
@@ -86,9 +97,9 @@ fn add_source(alloc: Global, noted: &mut String, path: &Path) -> Result<(), Allo
     add_bytes(noted, path.spell(alloc)?.as_slice())
 }
 
-/// Writes down the words of a whole.
-fn add_words(noted: &mut String, words: &[Vec<u8>]) -> Result<(), AllocError> {
-    noted.push_str("Whole")?;
+/// Writes down a node of this kind with its words.
+fn add_words(noted: &mut String, kind: &str, words: &[Vec<u8>]) -> Result<(), AllocError> {
+    noted.push_str(kind)?;
     for word in words {
         noted.push(' ')?;
         add_bytes(noted, word.as_slice())?;
@@ -107,13 +118,15 @@ fn add_status(alloc: Global, noted: &mut String, status: &StatusRule) -> Result<
     noted.push_str(rule.as_str())
 }
 
-/// The graph of a pipeline.
+/// The graph of a pipeline at a width.
 fn graph_of<H: Abort + Threads + Wait + Sync>(
     rt: &H,
     alloc: Global,
+    width: u32,
     pipeline: &str,
 ) -> Result<String, WorldErr> {
     let mut engine = Noting::<H> {
+        width,
         noted: String::new(alloc),
         alloc,
         host: PhantomData,
@@ -122,7 +135,7 @@ fn graph_of<H: Abort + Threads + Wait + Sync>(
     Ok(engine.noted)
 }
 
-/// A pipeline, and its graph.
+/// A pipeline, and its graph at width 1.
 static GRAPHS: [(&str, &str); 10] = [
     (
         "cat f g | wc -l",
@@ -169,7 +182,60 @@ static GRAPHS: [(&str, &str); 10] = [
 #[test]
 fn stages_have_their_nodes_in_order(rt: HostRuntime) -> Result<(), Fail> {
     for &(pipeline, graph) in GRAPHS.iter() {
-        let noted = graph_of(&rt, rt.alloc(), pipeline)?;
+        let noted = graph_of(&rt, rt.alloc(), 1, pipeline)?;
+        let is_right = noted.as_str() == graph;
+        assert!(rt; is_right, "{pipeline}: {noted}");
+    }
+    Ok(())
+}
+
+/// A width, a pipeline, and its graph at the width.
+static SPREAD: [(u32, &str, &str); 7] = [
+    // Parts that are closed go on to the next stage as they are.
+    (
+        2,
+        "tr a b | grep x",
+        "0 Source [] [0]; 0 Split [0] [1, 2]; 0 Map tr a b [1] [3]; 0 Map tr a b [2] [4]; 1 Map grep x [3] [5]; 1 Map grep x [4] [6]; 1 Cat [5, 6] [7]; 1 Sink [7] []; status of [4, 5] 0 1",
+    ),
+    // They are joined where the next stage isn't spread.
+    (
+        2,
+        "cat f | cut -c 1 | sort",
+        "0 Source /w/f [] [0]; 1 Split [0] [1, 2]; 1 Map cut -c 1 [1] [3]; 1 Map cut -c 1 [2] [4]; 1 Cat [3, 4] [5]; 2 Whole sort [5] [6]; 2 Sink [6] []; status 0",
+    ),
+    (
+        3,
+        "grep x f | wc -l",
+        "0 Source /w/f [] [0]; 0 Split [0] [1, 2, 3]; 0 Map grep x f [1] [4]; 0 Map grep x f [2] [5]; 0 Map grep x f [3] [6]; 0 Cat [4, 5, 6] [7]; 1 Whole wc -l [7] [8]; 1 Sink [8] []; status 0",
+    ),
+    // Parts that need not end in a newline are joined for a utility that reads lines, and taken by one that reads bytes.
+    (
+        2,
+        "tr -d '\\n' | grep x",
+        "0 Source [] [0]; 0 Split [0] [1, 2]; 0 Map tr -d '\\n' [1] [3]; 0 Map tr -d '\\n' [2] [4]; 0 Cat [3, 4] [5]; 1 Split [5] [6, 7]; 1 Map grep x [6] [8]; 1 Map grep x [7] [9]; 1 Cat [8, 9] [10]; 1 Sink [10] []; status of [6, 7] 0 1",
+    ),
+    (
+        2,
+        "tr -d '\\n' | tr a b",
+        "0 Source [] [0]; 0 Split [0] [1, 2]; 0 Map tr -d '\\n' [1] [3]; 0 Map tr -d '\\n' [2] [4]; 1 Map tr a b [3] [5]; 1 Map tr a b [4] [6]; 1 Cat [5, 6] [7]; 1 Sink [7] []; status 0",
+    ),
+    // Several inputs are not cut.
+    (
+        2,
+        "grep x f g",
+        "0 Source /w/f [] [0]; 0 Source /w/g [] [1]; 0 Whole grep x f g [0, 1] [2]; 0 Sink [2] []; status of [2] 0 1",
+    ),
+    (
+        16,
+        "wc -l",
+        "0 Source [] [0]; 0 Whole wc -l [0] [1]; 0 Sink [1] []; status 0",
+    ),
+];
+
+#[test]
+fn utilities_are_spread_over_parts(rt: HostRuntime) -> Result<(), Fail> {
+    for &(width, pipeline, graph) in SPREAD.iter() {
+        let noted = graph_of(&rt, rt.alloc(), width, pipeline)?;
         let is_right = noted.as_str() == graph;
         assert!(rt; is_right, "{pipeline}: {noted}");
     }

@@ -11,7 +11,7 @@ use std::thread::Threads;
 use ut_options::Texts;
 
 /// An engine that has run nothing, for the host that a test has.
-fn in_turn<H: Threads + Wait + Sync>(_rt: &H, alloc: Global) -> InTurn<H> {
+pub(crate) fn in_turn<H: Threads + Wait + Sync>(_rt: &H, alloc: Global) -> InTurn<H> {
     InTurn::new(alloc)
 }
 
@@ -82,7 +82,7 @@ fn run_on<X: Engine>(
     run_graph(rt, engine, &graph, ends)
 }
 
-fn run_graph<X: Engine>(
+pub(crate) fn run_graph<X: Engine>(
     rt: &(impl Abort + AllocGlobal),
     engine: &mut X,
     graph: &Graph,

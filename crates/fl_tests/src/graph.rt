@@ -196,7 +196,7 @@ fn expect_all(
     Ok(())
 }
 
-static VALID: [(&str, &str); 21] = [
+static VALID: [(&str, &str); 24] = [
     ("input - 0|output 0 -", "-"),
     ("read=/f - 0|write=/g 0 -", "-"),
     ("text - 0|drain 0 -", "-"),
@@ -204,6 +204,9 @@ static VALID: [(&str, &str); 21] = [
     ("input - 0|whole=wc,-l 0 1|output 1 -", "-"),
     ("input - 0|whole=wc,-w 0 1|output 1 -", "-"),
     ("input - 0|text - 1|whole=wc,a,b 01 2|output 2 -", "-"),
+    ("input - 0|text - 1|whole=paste,a,b 01 2|output 2 -", "-"),
+    ("input - 0|whole=paste,-,- 0 1|output 1 -", "-"),
+    ("input - 0|text - 1|whole=paste,-s,-,- 01 2|output 2 -", "-"),
     ("input - 0|whole=tr,-s,a 0 1|output 1 -", "-"),
     ("input - 0|whole=grep,-n,w 0 1|output 1 -", "1"),
     ("input - 0|map=tail 0 1|output 1 -", "-"),
@@ -310,7 +313,7 @@ fn sinks_take_one_edge_and_each_end_has_one_node(rt: HostRuntime) -> Result<(), 
     expect_all(&rt, rt.alloc(), ENDS.as_slice(), false)
 }
 
-static CLASSES: [(&str, &str); 6] = [
+static CLASSES: [(&str, &str); 8] = [
     ("input - 0|map=cat, 0 1|output 1 -", "-"),
     (
         "input - 0|split 0 12|map=grep,-F,w 1 3|map=grep,-F,w 2 4|agg=grep,-F,w 34 5|output 5 -",
@@ -326,6 +329,11 @@ static CLASSES: [(&str, &str); 6] = [
     ),
     ("input - 0|map=cat 0 1|finish=cat 1 2|output 2 -", "-"),
     ("input - 0|map=tail,-n,+2 0 1|output 1 -", "-"),
+    ("input - 0|map=paste,- 0 1|output 1 -", "-"),
+    (
+        "input - 0|split 0 12|map=paste,- 1 3|map=paste,- 2 4|agg=paste,- 34 5|output 5 -",
+        "-",
+    ),
 ];
 
 #[test]
@@ -333,15 +341,9 @@ fn invocations_read_one_input_and_have_their_class(rt: HostRuntime) -> Result<()
     expect_all(&rt, rt.alloc(), CLASSES.as_slice(), false)
 }
 
-static BUILT: [(&str, &str); 5] = [
-    ("input - 0|whole=paste,- 0 1|output 1 -", "-"),
-    ("input - 0|whole=tee 0 1|output 1 -", "-"),
-    ("input - 0|text - 1|whole=paste,a,b 01 2|output 2 -", "-"),
+static BUILT: [(&str, &str); 2] = [
     ("text - 0|drain 0 -|whole=echo - 1|output 1 -", "-"),
-    (
-        "input - 0|split 0 12|map=paste,- 1 3|map=paste,- 2 4|agg=paste,- 34 5|output 5 -",
-        "-",
-    ),
+    ("input - 0|whole=tee 0 1|output 1 -", "-"),
 ];
 
 #[test]

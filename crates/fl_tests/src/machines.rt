@@ -97,11 +97,14 @@ fn expect_put(
 }
 
 /// The words, what a node of them puts, and whether it selects a line.
-static RUNS: [(&[&str], &str, bool); 4] = [
+static RUNS: [(&[&str], &str, bool); 7] = [
     (&["grep", "-F", "a"], "b a\nab\nxa\n.", true),
     (&["grep", "-F", "q"], ".", false),
     (&["wc", "-l"], "3\n.", false),
     (&["cat", "f"], "b a\nab\nc\nxa.", false),
+    (&["paste"], "b a\nab\nc\nxa\n.", false),
+    (&["paste", "-", "-"], "b a\tab\nc\txa\n.", false),
+    (&["paste", "-s", "-d", ",;"], "b a,ab;c,xa\n.", false),
 ];
 
 #[test]

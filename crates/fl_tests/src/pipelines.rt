@@ -22,7 +22,7 @@ use std::thread::Threads;
 use ut_args::{is_built, read_inv};
 
 /// The parts of a text with these bytes between them, but for the empty ones.
-fn parts(alloc: Global, text: &[u8], between: u8) -> Result<Vec<Vec<u8>>, AllocError> {
+pub(crate) fn parts(alloc: Global, text: &[u8], between: u8) -> Result<Vec<Vec<u8>>, AllocError> {
     let mut parts = Vec::new(alloc);
     for part in text.split(|byte| *byte == between) {
         if !part.is_empty() {
@@ -125,13 +125,16 @@ pub(crate) fn run<X: Engine>(
     })
 }
 
-/// Whether a pipeline writes this, and leaves this status and this of the input.
+/// Whether a pipeline at a width writes this, and leaves this status and this of the input.
 fn runs_so<H: Abort + Threads + Wait + Sync>(
     rt: &H,
     alloc: Global,
+    width: u32,
     (pipeline, output, status, left): (&str, &str, u8, &str),
 ) -> Result<bool, WorldErr> {
-    let ran = run(rt, alloc, pipeline, &mut InTurn::<H>::new(alloc))?;
+    let mut engine = InTurn::<H>::new(alloc);
+    engine.spread_over(width);
+    let ran = run(rt, alloc, pipeline, &mut engine)?;
     Ok(
         ran.ended == Ended::Done(status)
             && ran.output.as_slice() == output.as_bytes()
@@ -198,8 +201,10 @@ static PIPELINES: [(&str, &str, u8, &str); 19] = [
 #[test]
 fn members_run_over_what_the_ones_before_write(rt: HostRuntime) -> Result<(), Fail> {
     for &row in PIPELINES.iter() {
-        let is_right = runs_so(&rt, rt.alloc(), row)?;
-        assert!(rt; is_right, "{}", row.0);
+        for width in [1, 2, 16] {
+            let is_right = runs_so(&rt, rt.alloc(), width, row)?;
+            assert!(rt; is_right, "{} at {width}", row.0);
+        }
     }
     Ok(())
 }

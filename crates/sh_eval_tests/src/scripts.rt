@@ -41,13 +41,25 @@ pub(crate) fn run<H: Threads + Wait + Sync>(
     text: &str,
     input: &str,
 ) -> Result<Option<Ran>, Memory> {
-    run_in(rt, alloc, Shell::new(alloc, b"s", &[])?, text, input)
+    run_at(rt, alloc, 1, text, input)
 }
 
-/// Runs a script in a shell, over an input, in a tree where `g` is a file, `d` a directory, and `f` missing.
+/// Runs a script at a width over an input, in a shell without arguments.
+fn run_at<H: Threads + Wait + Sync>(
+    rt: &H,
+    alloc: Global,
+    width: u32,
+    text: &str,
+    input: &str,
+) -> Result<Option<Ran>, Memory> {
+    run_in(rt, alloc, width, Shell::new(alloc, b"s", &[])?, text, input)
+}
+
+/// Runs a script at a width in a shell, over an input, in a tree where `g` is a file, `d` a directory, and `f` missing.
 fn run_in<H: Threads + Wait + Sync>(
     _rt: &H,
     alloc: Global,
+    width: u32,
     mut shell: Shell,
     text: &str,
     input: &str,
@@ -69,6 +81,7 @@ fn run_in<H: Threads + Wait + Sync>(
     let Played { how, input: _, out } = run_script(
         alloc,
         &script,
+        width,
         &mut shell,
         &mut tree,
         MemSource::new(input, Vec::new(alloc)),
@@ -97,7 +110,7 @@ fn is_as(ran: &Ran, output: &str, errors: &str, status: u8) -> bool {
         && ran.status == status
 }
 
-/// A script over an input writes and tells this, and leaves this status.
+/// A script over an input writes and tells this, and leaves this status, at every width.
 pub(crate) fn expect<H: Abort + Threads + Wait + Sync>(
     rt: &H,
     alloc: Global,
@@ -107,13 +120,15 @@ pub(crate) fn expect<H: Abort + Threads + Wait + Sync>(
     errors: &str,
     status: u8,
 ) -> Result<(), Fail> {
-    let ran = run(rt, alloc, text, input)?.expect(rt, text);
-    let is_right = is_as(&ran, output, errors, status);
-    assert!(rt;
-        is_right,
-        "{text}: {:?} wrote {:?}, told {:?} and left {}",
-        ran.how, ran.output, ran.errors, ran.status
-    );
+    for width in [1, 3] {
+        let ran = run_at(rt, alloc, width, text, input)?.expect(rt, text);
+        let is_right = is_as(&ran, output, errors, status);
+        assert!(rt;
+            is_right,
+            "{text} at {width}: {:?} wrote {:?}, told {:?} and left {}",
+            ran.how, ran.output, ran.errors, ran.status
+        );
+    }
     Ok(())
 }
 
@@ -124,7 +139,7 @@ fn a_shell_begins(rt: HostRuntime) -> Result<(), Fail> {
     let shell = Shell::new(alloc, b"script", &args)?;
     assert_eq!(rt; shell.status(), 0);
     let text = r#"echo "$0" "$#" "$1" "${IFS-none}""#;
-    let ran = run_in(&rt, alloc, shell, text, "")?.expect(&rt, text);
+    let ran = run_in(&rt, alloc, 1, shell, text, "")?.expect(&rt, text);
     assert_eq!(rt; ran.output.as_slice(), b"script 1 a b none\n".as_slice());
     Ok(())
 }
@@ -439,6 +454,27 @@ fn utilities_are_run(rt: HostRuntime) -> Result<(), Fail> {
 }
 
 #[test]
+fn lines_are_pasted(rt: HostRuntime) -> Result<(), Fail> {
+    for (text, input, output, errors, status) in [
+        ("paste g - g", "a\n", "1\ta\t1\n2\t\t2\n", "", 0),
+        ("cat g | paste - -", "", "1\t2\n", "", 0),
+        ("paste -d , - g -", "a\nb\nc\n", "a,1,b\nc,2,\n", "", 0),
+        ("paste -s -d , - g", "a\nb\n", "a,b\n1,2\n", "", 0),
+        (
+            "paste g no; echo $?",
+            "",
+            "1\n",
+            "paste: no: No such file or directory\n",
+            0,
+        ),
+        ("paste - - < g > f; paste -s f g", "", "1\t2\n1\t2\n", "", 0),
+    ] {
+        expect(&rt, rt.alloc(), text, input, output, errors, status)?;
+    }
+    Ok(())
+}
+
+#[test]
 fn busy_paths_are_refused(rt: HostRuntime) -> Result<(), Fail> {
     for text in [
         "cat g > g",
@@ -466,7 +502,7 @@ fn busy_paths_are_refused(rt: HostRuntime) -> Result<(), Fail> {
 fn what_is_refused_ends_the_run(rt: HostRuntime) -> Result<(), Fail> {
     let texts = [
         "echo a; sleep 1; echo b",
-        "echo a; (paste g g); echo b",
+        "echo a; (tee g); echo b",
         "echo a; x=$(tr -Q a); echo b",
         "echo a; i=0; x=; while test $i -lt 257; do x=\"$x g\"; i=$((i+1)); done; cat $x",
     ];

@@ -49,28 +49,3 @@ fn complement_words(words: [u64; 4]) -> [u64; 4]
 {
     [!words[0], !words[1], !words[2], !words[3]]
 }
-
-#[cfg(test)]
-mod tests {
-    use super::ByteSet;
-
-    #[test]
-    fn holds_what_was_added_and_its_complement_the_rest(rt: HostRuntime) {
-        let mut set = ByteSet::empty();
-        for byte in [0, 63, 64, 255] {
-            set.add(byte);
-        }
-        let rest = set.complement();
-        for (byte, held) in [
-            (0, true),
-            (1, false),
-            (63, true),
-            (64, true),
-            (128, false),
-            (255, true),
-        ] {
-            assert_eq!(rt; set.has(byte), held, "{byte}");
-            assert_eq!(rt; rest.has(byte), !held, "{byte}");
-        }
-    }
-}

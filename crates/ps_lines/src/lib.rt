@@ -15,8 +15,6 @@ mod memory;
 mod newlines;
 mod numbers;
 mod seek;
-#[cfg(test)]
-mod tests;
 mod text;
 
 pub use byte_set::ByteSet;

@@ -84,30 +84,3 @@ fn lowest(bits: u64) -> Option<usize>
         Some(bits.trailing_zeros() as usize)
     }
 }
-
-#[cfg(test)]
-mod tests {
-    use super::{AHEAD, newline_in};
-    use crate::newlines::NEWLINE;
-    use memchr::memchr;
-
-    /// The same as the library's, in texts of every length with a newline at every place, and with one ahead or none.
-    #[test]
-    fn finds_what_the_library_finds(rt: HostRuntime) {
-        for ahead in [b'a', NEWLINE] {
-            let mut text = [b'a'; 400];
-            text[AHEAD] = ahead;
-            for place in 0..400 {
-                let before = text[place];
-                text[place] = NEWLINE;
-                for end in [place, place + 1, 400] {
-                    let part = &text[..end];
-                    assert_eq!(rt; newline_in(part), memchr(NEWLINE, part), "{place} of {end}");
-                }
-                text[place] = before;
-                let part = &text[..place];
-                assert_eq!(rt; newline_in(part), memchr(NEWLINE, part), "in {place}");
-            }
-        }
-    }
-}

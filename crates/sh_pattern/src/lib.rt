@@ -20,10 +20,8 @@ pub mod laws;
 mod marks;
 mod matching;
 mod reading;
-#[cfg(test)]
-mod tests;
 mod trims;
-mod trying;
+pub mod trying;
 
 pub use elements::{Element, Item, Items, Pattern};
 pub use expansion::expand_paths;

@@ -1,4 +1,5 @@
-//! Beginnings and endings of a text that fit a pattern, each place tried by itself: the plain form of `trims`.
+//! The plain program: beginnings and endings of a text that fit a pattern, each place tried by itself. [`trimmed`](crate::trimmed), which
+//! goes over the text once, is held against it.
 
 ghost use Rattle.std.specs.Prelude.{◌≡◌, ◌↔◌, ◌≤◌, ◌<◌, ℕ, length, IsTrue, MatchOption, IfSome, drop, take};
 ghost use Rattle.sh_pattern.specs.Trims.{FitsAt, IsFirst, IsLast, IsNowhere, IsBest, Cuts};
@@ -7,9 +8,12 @@ use crate::elements::Pattern;
 use crate::matching::matches;
 use crate::trims::{Side, left_of};
 
-/// The same as `trimmed`, without memory: each place is tried by itself, and costs a match of what is cut off there.
+/// What is left of the text where a beginning or an ending that the pattern fits is cut off, the shortest or the longest, and the whole
+/// text where there is none (XCU 2.6.2).
+///
+/// It takes no memory, and is slow: each place is tried by itself, and costs a match of what is cut off there.
 #[tactic(auto, using(crate::proofs::TrimLemmas::cuts))]
-pub(crate) fn trimmed_by_trying<'a>(
+pub fn trimmed_by_trying<'a>(
     pattern: &Pattern,
     text: &'a [u8],
     side: Side,

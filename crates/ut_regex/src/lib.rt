@@ -20,6 +20,7 @@ mod cuts;
 mod expansion;
 mod fault;
 mod finder;
+mod fixed;
 mod folded;
 mod idle;
 mod intervals;
@@ -28,7 +29,7 @@ mod literals;
 mod machine;
 mod matcher;
 mod pieces;
-mod plain;
+pub mod plain;
 mod program;
 mod reading;
 mod search;
@@ -37,10 +38,6 @@ mod starts;
 mod stuck;
 mod sweep;
 mod table;
-#[cfg(test)]
-mod tests;
-#[cfg(test)]
-mod text_tests;
 mod texts;
 mod tree;
 mod twins;

@@ -1,37 +1,26 @@
-//! Expressions of bytes as they stand.
-ghost use Rattle.std.specs.Prelude.{◌≡◌, [], ◌∷◌, OnOk};
-ghost use Rattle.ut_regex.specs.Tree.{Tree, leaf, sequence, with_nodes};
-ghost use Rattle.ut_regex.specs.declared.tree.Leaf.TheVariants as leaves;
+//! The plain program: an expression and a line, answered by the machine alone. A [`Matcher`](crate::Matcher), which goes by a table and
+//! looks for a literal where it can, is held against it.
+ghost use Rattle.std.specs.Prelude.{◌↔◌, IfOk, IsTrue};
+ghost use Rattle.ut_regex.specs.Spans.{Has};
+ghost use Rattle.ut_regex.specs.Tree.{tree};
 
-use crate::tree::{Leaf, Node, Regex};
+use crate::expansion::program_of;
+use crate::machine::Machine;
+use crate::tree::Regex;
 use ps_lines::Memory;
 use std::alloc::Global;
 
-impl Regex {
-    ghost use Rattle.std.specs.Prelude.{◌≡◌, IfOk};
-    ghost use Rattle.ut_regex.specs.Several.{in_order};
-    ghost use Rattle.ut_regex.specs.Tree.{tree};
-
-    /// The expression of bytes as they stand, each an ordinary one (XCU grep, -F).
-    pub fn of_bytes(alloc: Global, bytes: &[u8]) -> Result<Regex, Memory>
-        ensures { IfOk result (λ re. tree re ≡ in_order bytes.now) }
-    {
-        let mut nodes = vec![in alloc; Node::Empty]?;
-        let mut left = bytes;
-        while let [byte, rest @ ..] = left {
-            add_byte(&mut nodes, *byte)?;
-            left = rest;
-        }
-        Ok(Regex { nodes })
-    }
-}
-
-/// Adds a byte behind the one expression that there is.
-#[tactic(auto, using(crate::proofs::NodeLemmas::with_nodes_one))]
-fn add_byte(nodes: &mut Vec<Node>, byte: u8) -> Result<(), Memory>
-    ensures { OnOk result ((re : Tree) → with_nodes [] nodes.old.items ≡ re ∷ [] → with_nodes [] nodes.new.items ≡ sequence re (leaf (leaves.Byte byte)) ∷ []) }
+/// Whether the line has the expression (XBD 9.1): with `fold` letters are compared in both cases, and with `whole` the expression has to
+/// be the whole line.
+///
+/// The machine is made anew for each line, and goes over the whole expression at each byte. What is wanted of memory is room for the
+/// expression with its repetitions written out; `Err` says that there was none, and leaves nothing.
+pub fn has(alloc: Global, re: &Regex, fold: bool, whole: bool, line: &[u8]) -> Result<bool, Memory>
+    ensures has { IfOk result (λ had. IsTrue had ↔ Has fold whole line.now (tree re.now)) }
 {
-    nodes.push(Node::Leaf(Leaf::Byte(byte)))?;
-    nodes.push(Node::Sequence)?;
-    Ok(())
+    let steps = program_of(alloc, &re.nodes)?;
+    let mut machine = Machine::running(alloc, steps, fold, whole)?;
+    let had = machine.has(line);
+    drop(machine);
+    Ok(had)
 }

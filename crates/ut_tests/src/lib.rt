@@ -20,6 +20,8 @@ mod invocations;
 #[cfg(test)]
 mod pastes;
 #[cfg(test)]
+mod regex;
+#[cfg(test)]
 mod slices;
 #[cfg(test)]
 mod sort;

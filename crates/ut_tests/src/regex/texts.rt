@@ -1,31 +1,31 @@
 //! Lines of texts that have an expression; what is wanted is what GNU grep prints in the C locale.
 
-use crate::{Matcher, ReFault, Regex, compile, compile_any, read_bre, read_ere};
+use crate::columns::unescaped;
 use ps_lines::{Memory, is_closed};
 use std::alloc::{AllocError, Global};
 use std::test::Fail;
+use ut_regex::{Matcher, ReFault, Regex, compile, compile_any, read_bre, read_ere};
 
-/// Options (`E` for an extended expression, `i` for both cases, `x` for the whole line), expression, text, and what is printed of it.
-static TEXTS: [(&str, &str, &str, &str); 18] = [
-    ("-", "b", "a\nb\n\nab\nc\n", "b\nab\n"),
-    ("-", "^a*$", "a\nb\n\naa\nab\n", "a\n\naa\n"),
-    ("-", "q", "a\nb\n", ""),
-    ("-", "a", "", ""),
-    ("-", "^$", "\n\na\n\n", "\n\n\n"),
-    ("-", "", "a\n\nb\n", "a\n\nb\n"),
-    ("-", "b$", "ba\nab\nb\n", "ab\nb\n"),
-    ("-", "a.b", "a\nb\nacb\na\n", "acb\n"),
-    ("-", "a[^c]b", "a\nbb\nacb\nab\n", ""),
-    ("-", "x[^a]*y", "x\ny\nxy\nxby\nxay\n", "xy\nxby\n"),
-    ("E", "a|bc", "b\nc\nbc\nca\n", "bc\nca\n"),
-    ("E", "(ab){2}", "ab\nab\nabab\n", "abab\n"),
-    ("i", "lazy", "LAZY\nlaz\nxlAzYx\n", "LAZY\nxlAzYx\n"),
-    ("i", "zoo", "zo\nzoo\nZOo\nxZo\noZOO\n", "zoo\nZOo\noZOO\n"),
-    ("i", "a.*Z9", "z9A\nAz9\naZ\n", "Az9\n"),
-    ("i", "[a]b", "xB\nAB\nb\n", "AB\n"),
-    ("x", "ab*", "a\nabc\nabb\n", "a\nabb\n"),
-    ("-", "[^a]", "a\n\u{e9}\na!\n", "\u{e9}\na!\n"),
-];
+/// A row a line: options (`E` for an extended expression, `i` for both cases, `x` for the whole line), expression, text, and what is
+/// printed of it, with `;` between them. The last two are written as the module `columns` says.
+static TEXTS: &str = r"-;b;a\nb\n\nab\nc\n;b\nab\n
+-;^a*$;a\nb\n\naa\nab\n;a\n\naa\n
+-;q;a\nb\n;\e
+-;a;\e;\e
+-;^$;\n\na\n\n;\n\n\n
+-;;a\n\nb\n;a\n\nb\n
+-;b$;ba\nab\nb\n;ab\nb\n
+-;a.b;a\nb\nacb\na\n;acb\n
+-;a[^c]b;a\nbb\nacb\nab\n;\e
+-;x[^a]*y;x\ny\nxy\nxby\nxay\n;xy\nxby\n
+E;a|bc;b\nc\nbc\nca\n;bc\nca\n
+E;(ab){2};ab\nab\nabab\n;abab\n
+i;lazy;LAZY\nlaz\nxlAzYx\n;LAZY\nxlAzYx\n
+i;zoo;zo\nzoo\nZOo\nxZo\noZOO\n;zoo\nZOo\noZOO\n
+i;a.*Z9;z9A\nAz9\naZ\n;Az9\n
+i;[a]b;xB\nAB\nb\n;AB\n
+x;ab*;a\nabc\nabb\n;a\nabb\n
+-;[^a];a\n\xc3\xa9\na!\n;\xc3\xa9\na!\n";
 
 /// What is read of an expression.
 fn read(alloc: Global, options: &str, expression: &str) -> Result<Regex, ReFault> {
@@ -79,19 +79,51 @@ fn finds(
     options: &str,
     expression: &str,
     text: &[u8],
-    wanted: &str,
+    wanted: &[u8],
 ) -> Result<bool, Fail> {
     let mut matcher = matcher_of(alloc, options, expression)?;
-    let holds = prints(alloc, &mut matcher, text, wanted.as_bytes());
+    let holds = prints(alloc, &mut matcher, text, wanted);
     drop(matcher);
     Ok(holds?)
 }
 
+/// The lines, each behind so many others, of which none has an expression of a row.
+fn spread(alloc: Global, lines: &[u8], distance: usize) -> Result<Vec<u8>, Fail> {
+    let mut text = Vec::new(alloc);
+    let mut begins = true;
+    for byte in lines.iter() {
+        if begins {
+            for _ in 0..distance {
+                text.extend_from_slice(b"aaa bbb ccc ddd\n")?;
+            }
+        }
+        text.push(*byte)?;
+        begins = *byte == b'\n';
+    }
+    Ok(text)
+}
+
+/// Whether exactly what a row wants is printed of its lines, each behind so many others.
+fn holds(alloc: Global, row: &str, distance: usize) -> Result<bool, Fail> {
+    let mut columns = row.split(';');
+    let options = columns.next().unwrap_or("");
+    let expression = columns.next().unwrap_or("");
+    let lines = unescaped(alloc, columns.next().unwrap_or("").as_bytes())?;
+    let wanted = unescaped(alloc, columns.next().unwrap_or("").as_bytes())?;
+    let text = spread(alloc, lines.as_slice(), distance)?;
+    finds(
+        alloc,
+        options,
+        expression,
+        text.as_slice(),
+        wanted.as_slice(),
+    )
+}
+
 #[test]
 fn lines_that_have_an_expression_are_found_in_order(rt: HostRuntime) -> Result<(), Fail> {
-    for &(options, expression, text, wanted) in TEXTS.iter() {
-        let holds = finds(rt.alloc(), options, expression, text.as_bytes(), wanted)?;
-        assert!(rt; holds, "{expression} in {text}");
+    for row in TEXTS.lines() {
+        assert!(rt; holds(rt.alloc(), row, 0)?, "{row}");
     }
     Ok(())
 }
@@ -142,53 +174,28 @@ fn several_expressions_are_sought_together(rt: HostRuntime) -> Result<(), Fail> 
     Ok(())
 }
 
-/// Options, expression, lines, and which of them are printed, as in `TEXTS`. No line of the filler has any of the expressions.
-static SPREAD: [(&str, &str, &str, &str); 16] = [
-    ("-", "[xyz]fo*", "xfoo\nfoo\nyxf\nx\nz f\n", "xfoo\nyxf\n"),
-    ("-", "[x][12]", "x\nax1\nx 1\nxx2\n", "ax1\nxx2\n"),
-    ("E", "x1|y2", "x2y1\ny2\nx1y2\nx\n", "y2\nx1y2\n"),
-    ("E", "x1|y2|z3", "z2x\nz3\n3z\nyx1\n", "z3\nyx1\n"),
-    ("-", "[vwxyz][1-3]", "v\nv1\n1v\n zz3\n", "v1\n zz3\n"),
-    ("-", "^[xyz]f", "axf\nxf\nfx\nyfx\n", "xf\nyfx\n"),
-    ("-", "[xyz]$", "xa\nax\n\nz\n", "ax\nz\n"),
-    ("-", "^[xyz]$", "x\nxx\nzx\ny\n", "x\ny\n"),
-    ("-", "^xb*c", "xbbc\nxbbd\nxbc1\naxbc\n", "xbbc\nxbc1\n"),
-    (
-        "-",
-        "^x.*[12]$",
-        "x\nx1\nx12 \n1x1\n x2\nx x2\n",
-        "x1\nx x2\n",
-    ),
-    ("-", "^$", "x\n\ny\n\n", "\n\n"),
-    ("E", "^x?$", "x\n\nxx\n", "x\n\n"),
-    ("i", "[xyz]q*[12]", "X1\nx\nyQq2\nq1\n", "X1\nyQq2\n"),
-    ("x", "[xyz]b*", "axb\nxb\nxbx\ny\n", "xb\ny\n"),
-    ("-", "[^ -~]1*", "x\n\t\nx1\n\u{e9}1\n", "\t\n\u{e9}1\n"),
-    ("-", "[^a-d ]e*f", "af\nf\nef\nxeef\n", "ef\nxeef\n"),
-];
-
-/// The lines, each behind so many others that the next byte at which an expression may begin is looked for.
-fn spread(alloc: Global, lines: &[u8]) -> Result<Vec<u8>, Fail> {
-    let mut text = Vec::new(alloc);
-    let mut begins = true;
-    for byte in lines.iter() {
-        if begins {
-            for _ in 0..100 {
-                text.extend_from_slice(b"aaa bbb ccc ddd\n")?;
-            }
-        }
-        text.push(*byte)?;
-        begins = *byte == b'\n';
-    }
-    Ok(text)
-}
+/// The same of lines that are far apart: so far that the next byte at which an expression may begin is looked for.
+static SPREAD: &str = r"-;[xyz]fo*;xfoo\nfoo\nyxf\nx\nz f\n;xfoo\nyxf\n
+-;[x][12];x\nax1\nx 1\nxx2\n;ax1\nxx2\n
+E;x1|y2;x2y1\ny2\nx1y2\nx\n;y2\nx1y2\n
+E;x1|y2|z3;z2x\nz3\n3z\nyx1\n;z3\nyx1\n
+-;[vwxyz][1-3];v\nv1\n1v\n zz3\n;v1\n zz3\n
+-;^[xyz]f;axf\nxf\nfx\nyfx\n;xf\nyfx\n
+-;[xyz]$;xa\nax\n\nz\n;ax\nz\n
+-;^[xyz]$;x\nxx\nzx\ny\n;x\ny\n
+-;^xb*c;xbbc\nxbbd\nxbc1\naxbc\n;xbbc\nxbc1\n
+-;^x.*[12]$;x\nx1\nx12 \n1x1\n x2\nx x2\n;x1\nx x2\n
+-;^$;x\n\ny\n\n;\n\n
+E;^x?$;x\n\nxx\n;x\n\n
+i;[xyz]q*[12];X1\nx\nyQq2\nq1\n;X1\nyQq2\n
+x;[xyz]b*;axb\nxb\nxbx\ny\n;xb\ny\n
+-;[^ -~]1*;x\n\t\nx1\n\xc3\xa91\n;\t\n\xc3\xa91\n
+-;[^a-d ]e*f;af\nf\nef\nxeef\n;ef\nxeef\n";
 
 #[test]
 fn lines_far_apart_are_found(rt: HostRuntime) -> Result<(), Fail> {
-    for &(options, expression, lines, wanted) in SPREAD.iter() {
-        let text = spread(rt.alloc(), lines.as_bytes())?;
-        let holds = finds(rt.alloc(), options, expression, text.as_slice(), wanted)?;
-        assert!(rt; holds, "{expression} in {lines}");
+    for row in SPREAD.lines() {
+        assert!(rt; holds(rt.alloc(), row, 100)?, "{row}");
     }
     Ok(())
 }
@@ -201,7 +208,7 @@ fn a_line_behind_many_candidates_is_found(rt: HostRuntime) -> Result<(), Fail> {
         text.extend_from_slice(b"aab\n")?;
     }
     text.extend_from_slice(b"abb\naab\nab\n")?;
-    assert!(rt; finds(rt.alloc(), "-", "^ab", text.as_slice(), "abb\nab\n")?);
+    assert!(rt; finds(rt.alloc(), "-", "^ab", text.as_slice(), b"abb\nab\n")?);
     Ok(())
 }
 

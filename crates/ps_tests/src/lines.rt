@@ -1,4 +1,11 @@
-use super::*;
+//! Lines of texts, closing, numbers, comparison, and classes of bytes.
+ghost use Rattle.std.specs.Prelude.{◌<◌};
+
+use memchr::memchr;
+use ps_lines::{
+    ByteSet, Class, Memory, NEWLINE, Text, closing, cut_line, decimal, is_closed, is_name_byte,
+    is_name_start, is_white_space, lines, next_line, read_decimal,
+};
 use std::alloc::Global;
 use std::test::Fail;
 
@@ -184,4 +191,62 @@ fn goes_over(alloc: Global, bytes: &[u8]) -> Result<bool, Memory> {
 fn takes_a_vector_over(rt: HostRuntime) -> Result<(), Fail> {
     assert!(rt; goes_over(rt.alloc(), b"a\nb")?);
     Ok(())
+}
+
+/// How far ahead of itself a search for a newline reads a byte.
+const AHEAD: usize = 320;
+
+/// Whether the first line of a text ends where the library finds the first newline.
+fn ends_alike(text: &[u8]) -> bool {
+    match cut_line(text) {
+        Some((line, _)) => memchr(NEWLINE, text) == Some(line.len()),
+        None => memchr(NEWLINE, text).is_none(),
+    }
+}
+
+/// The same with a newline put at a place of a text, which ends there, behind it, or where it did.
+fn ends_alike_at(text: &mut [u8; 400], place: usize) -> bool
+    requires { place < 400 }
+{
+    let before = text[place];
+    text[place] = NEWLINE;
+    let mut alike = ends_alike(&text[..place]);
+    alike &= ends_alike(&text[..=place]);
+    alike &= ends_alike(text.as_slice());
+    text[place] = before;
+    alike & ends_alike(&text[..place])
+}
+
+/// In texts of every length with a newline at every place, and with one ahead or none.
+#[test]
+fn finds_what_the_library_finds(rt: HostRuntime) {
+    for ahead in [b'a', NEWLINE] {
+        let mut text = [b'a'; 400];
+        text[AHEAD] = ahead;
+        for place in 0..400 {
+            assert!(rt; ends_alike_at(&mut text, place), "{place}");
+        }
+    }
+}
+
+/// Bytes, and whether the set has them.
+static HELD: [(u8, bool); 6] = [
+    (0, true),
+    (1, false),
+    (63, true),
+    (64, true),
+    (128, false),
+    (255, true),
+];
+
+#[test]
+fn a_set_holds_what_was_added_and_its_complement_the_rest(rt: HostRuntime) {
+    let mut set = ByteSet::empty();
+    for byte in [0, 63, 64, 255] {
+        set.add(byte);
+    }
+    let rest = set.complement();
+    for &(byte, held) in HELD.iter() {
+        assert!(rt; set.has(byte) == held && rest.has(byte) != held, "{byte}");
+    }
 }

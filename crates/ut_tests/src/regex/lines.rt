@@ -1,26 +1,24 @@
 //! Expressions and lines: by the standard's text, and as GNU grep answers where the rule isn't our own.
 
-use crate::expansion::program_of;
-use crate::machine::Machine;
-use crate::{MAX_PLACES, ReFault, Regex, compile, read_bre, read_ere};
 use ps_lines::Memory;
 use std::alloc::Global;
 use std::test::Fail;
+use ut_regex::{MAX_PLACES, ReFault, Regex, compile, plain, read_bre, read_ere};
 
 /// What is answered for an expression and a line.
 #[derive(Clone, Copy, Debug, PartialEq, Eq)]
 enum Answer {
     Has,
     Lacks,
-    /// The matcher and its machine don't agree.
+    /// The matcher and the plain program don't agree.
     Differs,
     Refused(ReFault),
 }
 
-use crate::ReFault::{BackReference, NotARegex, RepeatTooLarge, TooLarge};
 use Answer::{Differs, Has, Lacks, Refused};
+use ut_regex::ReFault::{BackReference, NotARegex, RepeatTooLarge, TooLarge};
 
-/// What the matcher and its machine answer with these options: `i` for both cases, `x` for the whole line.
+/// What the matcher and the plain program answer with these options: `i` for both cases, `x` for the whole line.
 fn told_of(
     alloc: Global,
     basic: bool,
@@ -48,7 +46,7 @@ fn told_by(alloc: Global, re: &Regex, options: &str, line: &[u8]) -> Result<Answ
     let fold = options == "i" || options == "ix";
     let whole = options == "x" || options == "ix";
     let told = matcher_has(alloc, re, fold, whole, line)?;
-    if told != machine_has(alloc, re, fold, whole, line)? {
+    if told != plain::has(alloc, re, fold, whole, line)? {
         return Ok(Differs);
     }
     if told { Ok(Has) } else { Ok(Lacks) }
@@ -65,20 +63,6 @@ fn matcher_has(
     let told = matcher.has(line);
     // A matcher is let go by a call: going out of scope is proved a part at a time.
     drop(matcher);
-    Ok(told)
-}
-
-fn machine_has(
-    alloc: Global,
-    re: &Regex,
-    fold: bool,
-    whole: bool,
-    line: &[u8],
-) -> Result<bool, Memory> {
-    let program = program_of(alloc, &re.nodes)?;
-    let mut machine = Machine::running(alloc, program, fold, whole)?;
-    let told = machine.has(line);
-    drop(machine);
     Ok(told)
 }
 

@@ -4,8 +4,8 @@
 mod paths;
 mod trims;
 
-use crate::{Mark, matches, read_pattern};
 use ps_lines::Memory;
+use sh_pattern::{Mark, matches, read_pattern};
 use std::alloc::{AllocError, Global};
 use std::test::Fail;
 

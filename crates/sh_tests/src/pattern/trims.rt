@@ -1,8 +1,8 @@
 //! The walk that cuts a text beside its plain form, over all short texts.
 use super::marked;
-use crate::trying::trimmed_by_trying;
-use crate::{Pattern, Side, read_pattern, trimmed};
 use ps_lines::Memory;
+use sh_pattern::trying::trimmed_by_trying;
+use sh_pattern::{Pattern, Side, read_pattern, trimmed};
 use std::alloc::Global;
 use std::test::Fail;
 

@@ -19,8 +19,6 @@ mod levels;
 mod operators;
 mod parsing;
 mod syntax;
-#[cfg(test)]
-mod tests;
 mod tokens;
 mod variables;
 

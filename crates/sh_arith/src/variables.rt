@@ -1,12 +1,13 @@
 //! Variables: a finite map from names to texts.
 
-ghost use Rattle.std.specs.Prelude.{◌≡◌, ◌↔◌, ℕ, List, Some, None, IsTrue, IfOk, OnOk, OnErr, MatchOption};
+ghost use Rattle.std.specs.Prelude.{◌≡◌, ◌<◌, ◌≤◌, ◌↔◌, ℕ, List, length, IsTrue, IfErr, IfOk, OnOk, OnErr};
 ghost use Rattle.std.specs.Option.{option_copied};
 ghost use Rattle.std.specs.FinMap as map;
 ghost use Rattle.std.specs.FinMap.{find};
 
 use ps_lines::{Memory, Text};
 use std::alloc::Global;
+use std::cmp::Ordering;
 use std::marker::Model;
 
 /// A variable that is set.
@@ -19,7 +20,7 @@ pub(crate) struct Variable {
 /// The variables of a shell (XCU 2.5), each with its text. Contracts see a map from names to texts.
 #[derive(Debug, Drop)]
 pub struct Env {
-    /// No two have one name, though nothing rests on that: the first counts.
+    /// In the order of their names, of which no two are the same.
     variables: Vec<Variable>,
 }
 
@@ -33,9 +34,11 @@ impl Model for Env {
 
     ghost coded = { map.code (coded_list coded_ℕ) (coded_list coded_ℕ) };
 
-    ghost use Rattle.sh_arith.specs.Variables.{variables_of};
+    ghost use Rattle.sh_arith.specs.Variables.{AreOrdered, variables_of};
 
     ghost view = { λ env. variables_of env.variables.items };
+
+    ghost invariant = { λ env. AreOrdered env.variables.items };
 }
 
 impl Env {
@@ -63,11 +66,11 @@ impl Env {
         ensures err { OnErr result (self.new ≡ self.old) }
     {
         let value = Text::copy_of(alloc, text)?;
-        match place_of(self.variables.as_slice(), name) {
-            Some(place) => self.variables[place].value = value,
-            None => {
+        match search(self.variables.as_slice(), name) {
+            Ok(place) => self.variables[place].value = value,
+            Err(place) => {
                 let name = Text::copy_of(alloc, name)?;
-                self.variables.push(Variable { name, value })?;
+                self.variables.insert(place, Variable { name, value })?;
             }
         }
         Ok(())
@@ -96,33 +99,36 @@ impl Env {
 }
 
 ghost use Rattle.sh_arith.specs.Names.{name_cmp};
-ghost use Rattle.sh_arith.specs.Variables.{pairs, IsFirst};
+ghost use Rattle.sh_arith.specs.Variables.{AreOrdered, IsAt, IsGapFor, pairs};
 ghost use Rattle.std.specs.Ordering.{eq_by_cmp};
 
-/// The text of the first variable of this name.
+/// The text of the variable of this name.
 fn value_of<'a>(variables: &'a [Variable], name: &[u8]) -> Option<&'a [u8]>
+    requires ordered { AreOrdered variables.now }
     ensures { option_copied result ≡ find name_cmp name.now (pairs variables.now) }
 {
-    for variable in variables {
-        if is_named(variable, name) {
-            return Some(variable.value.as_slice());
-        }
+    match search(variables, name) {
+        Ok(place) => Some(variables[place].value.as_slice()),
+        Err(_) => None,
     }
-    None
 }
 
-/// The place of the first variable of this name.
-fn place_of(variables: &[Variable], name: &[u8]) -> Option<usize>
-    ensures { MatchOption result
-        (find name_cmp name.now (pairs variables.now) ≡ None)
-        (λ place. IsFirst name.now variables.now place) }
+/// The place of the variable of this name, or that at which it would stand.
+fn search(variables: &[Variable], name: &[u8]) -> Result<usize, usize>
+    requires ordered { AreOrdered variables.now }
+    ensures found { IfOk result (IsAt name.now variables.now) }
+    ensures within { IfOk result (λ place. place < length variables.now) }
+    ensures absent { IfErr result (IsGapFor name.now variables.now) }
+    ensures inside { IfErr result (λ place. place ≤ length variables.now) }
 {
-    for (place, variable) in variables.iter().enumerate() {
-        if is_named(variable, name) {
-            return Some(place);
-        }
-    }
-    None
+    variables.binary_search_by(|variable| order(variable, name))
+}
+
+/// How a variable's name compares with this one.
+fn order(variable: &Variable, name: &[u8]) -> Ordering
+    ensures { result ≡ name_cmp variable.now.name name.now }
+{
+    variable.name.as_slice().cmp(name)
 }
 
 fn is_named(variable: &Variable, name: &[u8]) -> bool

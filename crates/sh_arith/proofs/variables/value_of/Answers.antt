@@ -1,15 +1,11 @@
-use Rattle.std.proofs.Common.{ap, ◌∙◌, Some, sym, arith}
-use Rattle.std.proofs.lemmas.Bool.{false≢true}
-use Rattle.sh_arith.proofs.VariableLemmas.{scan_here, scan_past}
+use Rattle.std.proofs.Common.{Some, ap, ◌∙◌, sym}
+use Rattle.sh_arith.proofs.VariableLemmas.{find_at, find_gap}
 use Rattle.sh_arith.proofs.variables.value_of.Goals as goal
 
-pub returns-then-is_named : goal.returns-then-is_named
-returns-then-is_named c =
+pub returns-in-Ok : goal.returns-in-Ok
+returns-in-Ok c =
     ap (λ text. Some text) c.as_slice.ensures
-    ∙ sym (scan_here c.args.variables.now c.loop-variable.variable-index c.variable-item.result c.args.name.now (omega arith) c.variable-item.is (c.is_named.ensures.named.0 c.if-is_named.true))
-    ∙ c.loop-variable.invariant
+    ∙ sym (find_at c.args.variables.now c.in-Ok.place c.args.name.now _ c.requires.ordered c.in-Ok.ensures.found)
 
-pub loop-variable-preserved : goal.loop-variable-preserved
-loop-variable-preserved c =
-    sym (scan_past c.args.variables.now c.loop-variable.variable-index c.variable-item.result c.args.name.now (omega arith) c.variable-item.is (λ same. false≢true (sym c.if-is_named.false ∙ c.is_named.ensures.named.1 same)))
-    ∙ c.loop-variable.invariant
+pub returns-in-Err : goal.returns-in-Err
+returns-in-Err c = sym (find_gap c.args.variables.now _ c.args.name.now c.in-Err.ensures.absent)

@@ -16,7 +16,15 @@ pub mod OneList
 pub mod TextItems
 pub mod ManyWords
 pub mod OneOutcome
+pub mod Cuts
+pub mod Takings
+pub mod Agreeings
+pub mod Scannings
+pub mod Continuing
+pub mod Splits
+pub mod Shifts
+pub mod Numbers
+pub mod WordCounts
 pub mod Parsings
 pub mod Seekings
 pub mod Misusing
-pub mod NumberingLemmas

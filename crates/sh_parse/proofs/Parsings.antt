@@ -1,6 +1,7 @@
 -- A text is what its items are.
 use Rattle.std.proofs.Common.{ℕ, List, Result, Ok, Err, IfOk, IfErr}
 use Rattle.sh_tree.specs.Views.{script_tree}
+use Rattle.sh_tree.specs.Numbering.{IsNumberedScript}
 use Rattle.sh_tree.specs.declared.commands.Script.{Script}
 use Rattle.sh_lex.specs.Lexes.{Lexes, HasRefusal}
 use Rattle.sh_lex.specs.declared.refusals.Static.{Static}
@@ -10,6 +11,7 @@ use Rattle.sh_parse.specs.Texts.{HasItems}
 use Rattle.sh_parse.specs.Outcomes.{Reading, IsSound, EndsAt, IsScript, IsStopped}
 use Rattle.sh_parse.specs.Inner.WordsOf.{words_of}
 use Rattle.sh_parse.proofs.ManyWords.{some_words}
+use Rattle.sh_parse.proofs.WordCounts.{script_is_numbered}
 use Rattle.sh_parse.specs.Stops.{Refuses as RefusesGrammar}
 use Rattle.sh_parse.specs.Parses.{Refuses}
 use Rattle.sh_parse.specs.Inner.Parses.{RefusesItems, of_grammar}
@@ -28,6 +30,11 @@ module _ (text : List ℕ) (items : List Item) (has : HasItems text items) where
       → IfOk result (λ script. IsSound (script_tree script) (words_of text) items) → IfOk result (λ script. IsScript text (script_tree script))
   script_of_text (Ok script) sound = read_as {Is = IsSound (script_tree script)} sound
   script_of_text (Err refusal) sound = tt
+
+  pub numbered_text : (result : Result Script ParseRefusal)
+      → IfOk result (λ script. IsSound (script_tree script) (words_of text) items) → IfOk result (λ script. IsNumberedScript (script_tree script))
+  numbered_text (Ok script) sound = script_is_numbered text (script_tree script) (read_as {Is = IsSound (script_tree script)} sound)
+  numbered_text (Err refusal) sound = tt
 
   refusal_told : (refusal : ParseRefusal) → RefusesItems (words_of text) items refusal → Refuses text refusal
   refusal_told (parse.Refused told) ends = read_as {Is = EndsAt told} ends

@@ -17,7 +17,6 @@ mod kinds;
 pub mod laws;
 mod levels;
 mod misuses;
-mod numbering;
 mod parsing;
 mod parts;
 mod pieces;

@@ -11,7 +11,6 @@ ghost use Rattle.sh_parse.specs.Inner.Parses.{RefusesItems, of_misuse, of_gramma
 use crate::checking::check;
 use crate::items::Item;
 use crate::misuses::{Misuse, first_misuse};
-use crate::numbering::check_numbers;
 use crate::parsing::build;
 use crate::readers::WordReader;
 use crate::refusals::{GrammarRefusal, Refusal};
@@ -37,26 +36,11 @@ pub enum ParseRefusal {
 /// `TooDeep` where the 65th level opens; and of a script the first, by offset, of `ParameterForm` and `SubstitutionMix`.
 /// The words of each of its commands name the command's substitutions, from 0 on and each once.
 /// The tokens of substitutions aren't among `tokens`: so the text is read once more, and `tokens` says that it can be.
+#[tactic(auto, using(crate::proofs::Parsings::refusal_of_text, crate::proofs::Parsings::not_refused))]
 pub fn parse(alloc: Global, text: &[u8], tokens: &[Token]) -> Result<Script, ParseRefusal>
     requires { Lexes text.now tokens.now }
     ensures script { IfOk result (λ script. IsScript text.now (script_tree script)) }
     ensures numbered { IfOk result (λ script. IsNumberedScript (script_tree script)) }
-    ensures refusal { IfErr result (λ refusal. Refuses text.now refusal) }
-{
-    match read_script(alloc, text, tokens) {
-        Ok(script) => match check_numbers(alloc, &script) {
-            Ok(()) => Ok(script),
-            Err(Memory) => Err(ParseRefusal::Memory),
-        },
-        Err(refusal) => Err(refusal),
-    }
-}
-
-/// The script of a text that has these tokens, or its refusal.
-#[tactic(auto, using(crate::proofs::Parsings::refusal_of_text, crate::proofs::Parsings::not_refused))]
-fn read_script(alloc: Global, text: &[u8], tokens: &[Token]) -> Result<Script, ParseRefusal>
-    requires { Lexes text.now tokens.now }
-    ensures script { IfOk result (λ script. IsScript text.now (script_tree script)) }
     ensures refusal { IfErr result (λ refusal. Refuses text.now refusal) }
 {
     let _ = tokens;

@@ -2,7 +2,10 @@
 use Rattle.std.proofs.Common.{◌≡◌, ◌==◌, ℕ, List, [], ◌∷◌, ◌++◌, Bool, true, false, Option, None, Some, refl, ap, sym, ◌∙◌, if◌then◌else◌}
 use Rattle.std.proofs.lemmas.Bool.{and_parts, eqb-true, true≢false}
 use Rattle.ps_lines.specs.Lines.{is_closed}
+use Rattle.ut_args.specs.declared.commands.TrArgs.{TrArgs}
+use Rattle.ut_options.specs.Rows.{is_among}
 use Rattle.ut_bytes.specs.Steps.{is_repeat, squeezed_behind}
+use Rattle.ut_bytes.specs.Tr.{last_string, squeezed}
 
 module _ (set : ℕ → Bool) where
   -- the byte that a text leaves before what comes
@@ -65,6 +68,24 @@ module _ (set : ℕ → Bool) where
       ∙ ap (λ front'. front' ++ squeezed_behind (last_byte None (squeezed_behind None set front)) set (squeezed_behind None set back)) (squeezed-again None front)
       ∙ ap (λ last. squeezed_behind None set front ++ squeezed_behind last set (squeezed_behind None set back)) (squeezed-last None front)
       ∙ ap (λ back. squeezed_behind None set front ++ back) (squeezed-begun (last_byte None front) back))
+
+-- and what comes behind a text that is squeezed is squeezed as behind the text
+pub squeezed-front : (set : ℕ → Bool) (front back : List ℕ)
+    → squeezed_behind None set (squeezed_behind None set front ++ back) ≡ squeezed_behind None set (front ++ back)
+squeezed-front set front back =
+    squeezed-append set None (squeezed_behind None set front) back
+    ∙ (λ i. squeezed-again set None front i ++ squeezed_behind (squeezed-last set None front i) set back)
+    ∙ sym (squeezed-append set None front back)
+
+pub squeezed-on : (args : TrArgs) (front back : List ℕ) → squeezed args (squeezed args front ++ back) ≡ squeezed args (front ++ back)
+squeezed-on args front back = by_option args.squeezes
+  where
+    by_option : (squeezes : Bool)
+        → (if squeezes then squeezed_behind None (is_among (last_string args.from args.to)) ((if squeezes then squeezed_behind None (is_among (last_string args.from args.to)) front else front) ++ back)
+        else (if squeezes then squeezed_behind None (is_among (last_string args.from args.to)) front else front) ++ back)
+        ≡ (if squeezes then squeezed_behind None (is_among (last_string args.from args.to)) (front ++ back) else front ++ back)
+    by_option true = squeezed-front (is_among (last_string args.from args.to)) front back
+    by_option false = refl
 
 -- a text is closed where its last byte, if it has one, is a newline
 ends_line : Option ℕ → Bool

@@ -2,7 +2,7 @@
 ghost use Rattle.std.specs.Prelude.{◌≡◌, ◌++◌, ◌≤◌, ℕ, List, false, true, length, take, drop, IfOk, OnOk, OnErr};
 ghost use Rattle.ut_streams.specs.Streams.{Wrote};
 ghost use Rattle.ut_bytes.specs.Inner.Edits.{edited_by, squeezed_by};
-ghost use Rattle.ut_bytes.specs.Tr.{edited, tr_output};
+ghost use Rattle.ut_bytes.specs.Tr.{edited, squeezed, tr_output};
 
 use crate::edits::Edit;
 use crate::steps::{NO_BYTE, append, put_deleted, put_translated, squeeze_behind};
@@ -37,6 +37,20 @@ impl Tr {
             spent: false,
         })
     }
+
+    /// The stream of its aggregate, which is fed the outputs for the parts of an input, one after another: they are squeezed where they meet.
+    pub fn of_parts(alloc: Global, inv: &TrInv) -> Result<Tr, Memory>
+        ensures due { IfOk result (λ tr. (text : List ℕ) → ⟦<Tr as Stream>⟧.due tr text ≡ squeezed inv.now.args text) }
+        ensures unspent { IfOk result (λ tr. ⟦<Tr as Stream>⟧.spent tr ≡ false) }
+    {
+        let squeezed = squeezed_of(alloc, &inv.args)?;
+        Ok(Tr {
+            edit: Edit::Nothing,
+            squeezed,
+            last: NO_BYTE,
+            spent: false,
+        })
+    }
 }
 
 /// What is done to each byte: those of the first string are deleted, or become those of the second, if there is one.
@@ -55,7 +69,7 @@ fn edit_of(alloc: Global, args: &TrArgs) -> Result<Edit, Memory>
 
 /// The bytes that are squeezed, where some are: those of the last string.
 fn squeezed_of(alloc: Global, args: &TrArgs) -> Result<Option<Marks>, Memory>
-    ensures { IfOk result (λ squeezed. (text : List ℕ) → squeezed_by squeezed NO_BYTE (edited args.now text) ≡ tr_output args.now text) }
+    ensures { IfOk result (λ set. (text : List ℕ) → squeezed_by set NO_BYTE text ≡ squeezed args.now text) }
 {
     if !args.squeezes {
         return Ok(None);

@@ -1,11 +1,11 @@
 -- The groups of two parts, joined, are those of the whole: also where each part's are written and read again between.
-use Rattle.std.proofs.Common.{◌≡◌, ℕ, ◌+◌, ◌-◌, ◌^◌, ◌<◌, ◌==◌, ◌&&◌, ◌||◌, Bool, true, false, not, List, [], ◌∷◌, ◌++◌, map, decimal, if◌then◌else◌, refl, ap, sym, ◌∙◌, append_assoc, append-nil, arith, subst}
+use Rattle.std.proofs.Common.{◌≡◌, ℕ, ◌+◌, ◌-◌, ◌^◌, ◌<◌, ◌==◌, ◌&&◌, ◌||◌, Bool, true, false, not, List, [], ◌∷◌, ◌++◌, map, drop, decimal, zero, suc, if◌then◌else◌, refl, ap, sym, ◌∙◌, append_assoc, append-nil, arith, subst}
 use Rattle.std.proofs.lemmas.Bool.{and_parts, cond-true, cond-false, true≢false}
 use Rattle.std.proofs.lemmas.Bool.Decides.{nat_tests}
 use Rattle.std.proofs.lemmas.List.{map-append}
 use Rattle.std.specs.Prelude.{⊤}
 use Rattle.std.specs.Char.{is_ascii_digit}
-use Rattle.std.specs.List.{flat_map, list_all, list_any}
+use Rattle.std.specs.List.{flat_map, list_all, list_any, position_or_len}
 use Rattle.std.specs.Str.{all_ascii_digits}
 use Rattle.ps_lines.specs.Lines.{are_lines, has_newline, is_cutlist, lines, text_of_lines}
 use Rattle.ps_lines.proofs.LineLemmas.{are_lines-lines, lines-text_of_lines, lines_of_cut}
@@ -17,7 +17,7 @@ use Rattle.ut_groups.specs.declared.forms.Form.{Form}
 use Rattle.ut_groups.specs.declared.forms.Form.TheVariants as form
 use Rattle.ut_groups.specs.Counting.{saturated}
 use Rattle.ut_groups.specs.Groups.{Group, before_groups, group_of, group_text, grouped, is_same, line_of}
-use Rattle.ut_groups.specs.Columns.{number_before}
+use Rattle.ut_groups.specs.Columns.{is_space, number_before}
 use Rattle.ut_groups.specs.Inner.Open.{group_held}
 use Rattle.ut_groups.specs.Uniq.{each_counted, form_kept, groups_kept, groups_of_lines, skip_of, uniq_finish, uniq_joined, uniq_output, uniq_part}
 use Rattle.ut_groups.proofs.ColumnLemmas.{behind-number, decimal-digits, number-before}
@@ -268,6 +268,29 @@ module _ (shape : Form) (skip : Skip) where
       ∙ sym (read-back (map (group_of shape) (lines (written shape (grouped skip (of_text front))))) (of_text back) (of_text-lines back))
       ∙ ap (λ all. written shape (grouped skip all)) (sym (map-append (group_of shape) (lines (written shape (grouped skip (of_text front)))) (lines (written shape (grouped skip (of_text back))))))
 
+-- lines that are counted groups are groups of lines too
+newline-behind : (text : List ℕ) (count : ℕ) → has_newline text ≡ false → has_newline (drop count text) ≡ false
+newline-behind text zero plain = plain
+newline-behind [] (suc count) plain = plain
+newline-behind (byte ∷ text) (suc count) plain = newline-behind text count (rest (byte == 10) plain)
+  where
+    rest : (test : Bool) → (test || has_newline text) ≡ false → has_newline text ≡ false
+    rest true never = absurd (true≢false never)
+    rest false is = is
+
+are-of-lines : (shape : Form) (texts : List (List ℕ)) → are_lines texts ≡ true → AreOfLines (map (group_of shape) texts)
+are-of-lines shape [] are = tt
+are-of-lines shape (line ∷ texts) are =
+    let parts = and_parts (not (has_newline line)) (are_lines texts) are in (by_form shape (plain (has_newline line) parts.0), are-of-lines shape texts parts.1)
+  where
+    plain : (test : Bool) → not test ≡ true → test ≡ false
+    plain true never = absurd (true≢false (sym never))
+    plain false is = refl
+
+    by_form : (shape : Form) → has_newline line ≡ false → has_newline (group_of shape line).first ≡ false
+    by_form form.Plain is = is
+    by_form form.Counted is = newline-behind line (position_or_len is_space line + 1) is
+
 kept-as : (groups : Groups) → groups_kept groups ≡ written_as (form_kept groups)
 kept-as groups.All = refl
 kept-as groups.Counted = refl
@@ -281,6 +304,24 @@ uniq-joins args front back cut =
     ≡ groups_of_lines (skip_of args) (form_kept args.groups) groups
     (lines (groups_of_lines (skip_of args) form.Plain groups (lines front)) ++ lines (groups_of_lines (skip_of args) form.Plain groups (lines back))))
     (sym (kept-as args.groups)) (parts-joined (form_kept args.groups) (skip_of args) front back cut)
+
+-- lines that were grouped are grouped with others as if they hadn't been
+pub groups-again : (args : UniqArgs) (front back : List (List ℕ)) → are_lines front ≡ true
+    → groups_of_lines (skip_of args) (form_kept args.groups) (groups_kept args.groups)
+    (lines (groups_of_lines (skip_of args) (form_kept args.groups) (groups_kept args.groups) front) ++ back)
+    ≡ groups_of_lines (skip_of args) (form_kept args.groups) (groups_kept args.groups) (front ++ back)
+groups-again args front back are =
+    subst (λ groups. groups_of_lines (skip_of args) (form_kept args.groups) groups
+    (lines (groups_of_lines (skip_of args) (form_kept args.groups) groups front) ++ back)
+    ≡ groups_of_lines (skip_of args) (form_kept args.groups) groups (front ++ back))
+    (sym (kept-as args.groups)) (again (form_kept args.groups) (skip_of args))
+  where
+    again : (shape : Form) (skip : Skip)
+        → groups_of_lines skip shape (written_as shape) (lines (groups_of_lines skip shape (written_as shape) front) ++ back) ≡ groups_of_lines skip shape (written_as shape) (front ++ back)
+    again shape skip =
+        ap (λ all. written shape (grouped skip all)) (map-append (group_of shape) (lines (written shape (grouped skip (map (group_of shape) front)))) back)
+        ∙ read-front shape skip (map (group_of shape) front) (map (group_of shape) back) (are-of-lines shape front are)
+        ∙ ap (λ all. written shape (grouped skip all)) (sym (map-append (group_of shape) front back))
 
 -- and the finish chooses by the counts
 module _ (kind : Groups) where

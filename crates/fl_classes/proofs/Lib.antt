@@ -4,3 +4,4 @@ pub mod PartLemmas
 pub mod FlowLemmas
 pub mod CutLemmas
 pub mod OperandLemmas
+pub mod KindLemmas

@@ -11,10 +11,13 @@ ghost use Rattle.ut_args.specs.declared.classes.Seam.{Seam as Seams};
 ghost use Rattle.ut_args.specs.declared.commands.Command.{Command};
 ghost use Rattle.ut_args.specs.declared.invocations.Inv.{Inv};
 ghost use Rattle.ut_streams.specs.Utilities.{Input};
+ghost use Rattle.fl_graph.specs.Kinds.{has_its_class};
 ghost use Rattle.fl_graph.specs.Net.{gives};
 ghost use Rattle.fl_graph.specs.Valid.{Valid};
+ghost use Rattle.fl_graph.specs.declared.kinds.NodeKind.{NodeKind};
 ghost use Rattle.fl_classes.specs.Flow.{flow, placed, Solves};
 ghost use Rattle.fl_classes.specs.Aggregates.{aggregate_of, map_of};
+ghost use Rattle.fl_classes.specs.Kinds.{is_run};
 ghost use Rattle.fl_classes.specs.Parts.{parts_of};
 ghost use Rattle.fl_classes.specs.Utilities.{names_of, utility_by, utility_of};
 ghost use Rattle.fl_classes.specs.Laws.{IsOfClass, IsParallel, IsStateless, KeepsClosed};
@@ -68,4 +71,10 @@ pub fn every_solution_is_the_flow(graph: &Graph)
     requires { Valid graph.now.nodes graph.now.status }
     ensures { (sources : List (List ℕ)) (texts : ℕ → List ℕ) → Solves sources (placed graph.now.nodes) texts →
         (edge : ℕ) → edge < length (gives graph.now.nodes) → flow graph.now.nodes sources edge ≡ texts edge }
+{}
+
+/// Each node of a valid graph has a machine: of the classes that validity asks of a map, an aggregate and a finish.
+#[tactic(auto, using(crate::proofs::KindLemmas::kind_laws))]
+pub fn what_validity_allows_is_run()
+    ensures { (kind : NodeKind) → has_its_class kind ≡ true → is_run kind ≡ true }
 {}

@@ -5,4 +5,7 @@ pub mod SumLemmas
 pub mod PartLemmas
 pub mod SplitLemmas
 pub mod TeeLemmas
+pub mod GatherLemmas
+pub mod EndLemmas
+pub mod AggregateLemmas
 pub mod MakerLemmas

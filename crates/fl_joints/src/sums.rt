@@ -1,20 +1,23 @@
 //! A node that aggregates counts.
 ghost use Rattle.std.specs.Prelude.{◌≡◌, ◌≤◌, ◌++◌, ℕ, List, [], true, false, IfOk, OnOk};
-ghost use Rattle.ut_groups.specs.Columns.{counts_line, counts_on};
+ghost use Rattle.ut_groups.specs.Columns.{counts_line};
 ghost use Rattle.ut_groups.specs.Counting.{no_counts};
+ghost use Rattle.fl_joints.specs.Joints.{counts_by};
+ghost use Rattle.fl_joints.specs.declared.readings.Reading.{Reading};
 
+use crate::readings::{Reading, columns_by, read_by};
 use fl_graph::{Act, Bytes, Machine, Piece};
 use ps_lines::Memory;
 use std::alloc::Global;
-use ut_groups::{Columns, Counts, MOST_BYTES, add_counts, put_counts, read_counts};
+use ut_groups::{Columns, Counts, MOST_BYTES, add_counts, put_counts};
 
-/// The machine of an aggregate of `wc`: the sums of the counts that its ins bring, each on a line, column by column.
+/// The machine of an aggregate of `wc` or of `grep -c`: the sums of the counts that its ins bring, each on a line, column by column.
 ///
 /// Of the text of an in it holds no more than tells whether it is a line of counts.
 #[derive(Drop)]
 pub struct CountSum {
     alloc: Global,
-    columns: Columns,
+    reading: Reading,
     ins: u32,
     /// The in whose turn it is.
     at: u32,
@@ -30,8 +33,8 @@ pub struct CountSum {
 
 impl CountSum {
     /// The machine of a node with so many ins, before its first piece.
-    pub fn new(alloc: Global, columns: Columns, ins: u32) -> CountSum
-        ensures columns { result.columns ≡ columns }
+    pub(crate) fn new(alloc: Global, reading: Reading, ins: u32) -> CountSum
+        ensures reading { result.reading ≡ reading }
         ensures ins { result.ins ≡ ins }
         ensures at { result.at ≡ 0 }
         ensures line { result.line.items ≡ [] }
@@ -42,7 +45,7 @@ impl CountSum {
     {
         CountSum {
             alloc,
-            columns,
+            reading,
             ins,
             at: 0,
             line: Vec::new(alloc),
@@ -58,7 +61,7 @@ impl Machine for CountSum {
     ghost use Rattle.std.specs.Prelude.{◌+◌, ◌-◌, ◌==◌, ◌&&◌, nat_le, nat_lt, if◌then◌else◌};
     ghost use Rattle.fl_graph.specs.declared.pieces.Act.TheVariants.{Take, Put, Stop};
     ghost use Rattle.ut_groups.specs.Counting.{added};
-    ghost use Rattle.fl_joints.specs.Joints.{counts_from};
+    ghost use Rattle.fl_joints.specs.Joints.{columns_by as columns_by_lem, counts_from};
 
     ghost state = { λ machine. record {
       act =
@@ -72,7 +75,7 @@ impl Machine for CountSum {
       broken = machine.broken;
       due = λ texts port.
           if port == 0 then (if machine.given then [] else
-          counts_line machine.columns (added machine.sum (counts_from machine.columns machine.line.items texts machine.at (machine.ins - machine.at))) []) else [];
+          counts_line (columns_by_lem machine.reading) (added machine.sum (counts_from machine.reading machine.line.items texts machine.at (machine.ins - machine.at))) []) else [];
       selects = λ texts. false;
     } };
 
@@ -98,7 +101,7 @@ impl Machine for CountSum {
             }
             Piece::Mark => Ok(()),
             Piece::End => {
-                self.sum = add_counts(self.sum, read_counts(self.columns, self.line.as_slice()));
+                self.sum = add_counts(self.sum, read_by(self.reading, self.line.as_slice()));
                 self.line.clear();
                 self.at += 1;
                 Ok(())
@@ -121,7 +124,7 @@ impl Machine for CountSum {
             self.putting = false;
             return Ok(Piece::End);
         }
-        match count_piece(self.alloc, self.columns, self.sum) {
+        match count_piece(self.alloc, columns_by(self.reading), self.sum) {
             Ok(bytes) => {
                 self.given = true;
                 Ok(Piece::Bytes(bytes))
@@ -145,7 +148,7 @@ impl Machine for CountSum {
 /// Adds the piece to the beginning of a text, as far as that tells which counts the text has.
 #[tactic(auto, using(crate::proofs::SumLemmas::holds))]
 fn hold(piece: &[u8], line: &mut Vec<u8>) -> Result<(), Memory>
-    ensures { OnOk result ((columns : Columns) (rest : List ℕ) → counts_on columns (line.new.items ++ rest) ≡ counts_on columns (line.old.items ++ (piece.now ++ rest))) }
+    ensures { OnOk result ((reading : Reading) (rest : List ℕ) → counts_by reading (line.new.items ++ rest) ≡ counts_by reading (line.old.items ++ (piece.now ++ rest))) }
 {
     if line.len() > MOST_BYTES {
         return Ok(());

@@ -10,6 +10,7 @@
 
 mod gates;
 mod listing;
+mod meet_gate;
 mod no_fail;
 mod plan;
 mod reads;
@@ -21,6 +22,7 @@ mod stored;
 mod tree;
 
 pub use gates::OpenGate;
+pub use meet_gate::MeetGate;
 pub use no_fail::{NoFailSink, NoFailSource, NoFailTree, are_bounded};
 pub use sink::MemSink;
 pub use source::MemSource;

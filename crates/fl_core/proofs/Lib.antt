@@ -32,5 +32,3 @@ pub mod OutputLemmas
 pub mod RanLemmas
 pub mod FileLemmas
 pub mod HistoryLemmas
-pub mod OwnLemmas
-pub mod OwnRunLemmas

@@ -9,8 +9,6 @@ pub mod Starts
 pub mod Moves
 pub mod Inputs
 pub mod EndLists
-pub mod Logs
-pub mod Engines
-pub mod OwnEnds
+pub mod GraphRuns
 pub mod Roles
 pub mod Stuck

@@ -1,12 +1,9 @@
 //! The engine over lists of ends.
-ghost use Rattle.std.specs.Prelude.{◌≡◌, ℕ, List, true};
-ghost use Rattle.ps_world.specs.Told.{then_bytes, GrewByPrefix};
+ghost use Rattle.std.specs.Prelude.{◌≡◌, true};
 ghost use Rattle.fl_graph.specs.Valid.{Valid};
-ghost use Rattle.fl_classes.specs.Flow.{outcome};
-ghost use Rattle.fl_core.specs.EndLists.{Blames, HasItsEnds, IfDone, KeepsOthers, faults_at, given_back, left_at, taken_at, file_nodes, GrewByFiles};
-ghost use Rattle.fl_core.specs.Ends.{HasRead, HasWritten, HasWrittenFronts};
 ghost use Rattle.fl_classes.specs.Kinds.{are_run};
-ghost use Rattle.fl_core.specs.Plans.{AreTold};
+ghost use Rattle.fl_core.specs.EndLists.{HasItsEnds};
+ghost use Rattle.fl_core.specs.GraphRuns.{HasRun};
 
 use crate::engine::{Ending, run_over_ends};
 use crate::numbered_ends::NumberedEnds;
@@ -55,23 +52,7 @@ pub fn run_in_turn<R: Source, W: Sink, I: Source, O: Sink>(
     requires valid { Valid graph.now.nodes graph.now.status }
     requires kinds { are_run graph.now.nodes ≡ true }
     requires ends { HasItsEnds graph.now.nodes ends }
-    ensures written { IfDone result (λ _. HasWritten graph.now.nodes (left_at R.left I.left graph.now.nodes ends)
-        (taken_at W.taken O.taken graph.now.nodes ends) (taken_at W.taken O.taken graph.now.nodes (given_back result))) }
-    ensures output { IfDone result (λ _. (sources : List (List ℕ)) → AreTold sources graph.now.nodes (left_at R.left I.left graph.now.nodes ends) →
-        O.taken (given_back result).out ≡ then_bytes (O.taken ends.out) (outcome graph.now sources).output) }
-    ensures files { IfDone result (λ _. (sources : List (List ℕ)) → AreTold sources graph.now.nodes (left_at R.left I.left graph.now.nodes ends) →
-        GrewByFiles (taken_at W.taken O.taken graph.now.nodes ends) (taken_at W.taken O.taken graph.now.nodes (given_back result))
-        (file_nodes 0 graph.now.nodes) (outcome graph.now sources).files) }
-    ensures read { IfDone result (λ _. HasRead graph.now.nodes (left_at R.left I.left graph.now.nodes ends) (left_at R.left I.left graph.now.nodes (given_back result))) }
-    ensures status { IfDone result (λ status. (sources : List (List ℕ)) → AreTold sources graph.now.nodes (left_at R.left I.left graph.now.nodes ends) →
-        status ≡ (outcome graph.now sources).status) }
-    ensures front { HasWrittenFronts graph.now.nodes (left_at R.left I.left graph.now.nodes ends)
-        (taken_at W.taken O.taken graph.now.nodes ends) (taken_at W.taken O.taken graph.now.nodes (given_back result)) }
-    ensures part { (sources : List (List ℕ)) → AreTold sources graph.now.nodes (left_at R.left I.left graph.now.nodes ends) →
-        GrewByPrefix (O.taken ends.out) (O.taken (given_back result).out) (outcome graph.now sources).output }
-    ensures cause { Blames (faults_at R.faults W.faults I.faults O.faults graph.now.nodes ends)
-        (faults_at R.faults W.faults I.faults O.faults graph.now.nodes (given_back result)) result }
-    ensures kept { KeepsOthers graph.now.nodes ends (given_back result) }
+    ensures { HasRun R.left I.left W.taken O.taken R.faults W.faults I.faults O.faults graph.now ends result }
 {
     let roles = match roles_of(alloc, graph, &ends) {
         Ok(roles) => roles,

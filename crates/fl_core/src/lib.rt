@@ -8,14 +8,11 @@
 //! `specs/Laws.antt` says what the pieces on a graph's edges carry, `specs/Steps.antt` what comes of a step, `specs/Runs.antt` and
 //! `specs/Points.antt` how far a network has run, `specs/Inputs.antt` what a network over texts is, `specs/Moves.antt` how many
 //! pieces its steps move, and `specs/EndLists.antt` which end of the lists each node has. Which nodes have a machine stands in fl_classes.
-//!
-//! `Engine` is what a caller is given to run graphs on: `specs/Engines.antt` says what comes of a graph that it runs.
 #![tactic(auto)]
 
 mod end_lists;
 mod ends;
 mod engine;
-mod engines;
 mod finish;
 mod graph_nets;
 mod inputs;
@@ -25,22 +22,18 @@ mod machines;
 mod nets;
 mod numbered_ends;
 mod outside;
-mod own_ends;
 mod roles;
 mod steps;
 mod wires;
-mod words;
 
 pub use end_lists::{Ends, Ran, run_in_turn};
 pub use ends::NodeEnds;
 pub use engine::{Ending, run_over_ends};
-pub use engines::{Engine, InTurn};
 pub use graph_nets::{edge_count, machine_of, net_of, rooms_of};
 pub use kinds::{are_run, is_run};
 pub use machines::{NodeMachine, node_machine};
 pub use nets::{Net, Ports};
 pub use outside::Halt;
-pub use own_ends::{Came, Over, number_ends, run_own};
 pub use roles::{Role, have_ends, roles_of};
 pub use steps::Progress;
 pub use wires::Wire;

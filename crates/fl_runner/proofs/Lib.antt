@@ -1,0 +1,15 @@
+pub mod RunLemmas
+pub mod JobLemmas
+pub mod LendLemmas
+pub mod OwnLemmas
+pub mod PutLemmas
+pub mod TakeLemmas
+pub mod ReadyLemmas
+pub mod DoneLemmas
+pub mod StartLemmas
+pub mod TogetherLemmas
+pub mod BackLemmas
+pub mod PreparedLemmas
+pub mod PassLemmas
+pub mod ComeLemmas
+pub mod TellLemmas

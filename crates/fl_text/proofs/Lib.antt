@@ -1,0 +1,9 @@
+pub mod ReadLemmas
+pub mod MemberLemmas
+pub mod InverseLemmas
+pub mod PathLemmas
+pub mod KindLemmas
+pub mod CellLemmas
+pub mod GraphLemmas
+pub mod PrintLemmas
+pub mod AnswerLemmas

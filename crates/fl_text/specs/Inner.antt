@@ -1,0 +1,5 @@
+-- Words that only proofs need.
+pub mod Members
+pub mod Kinds
+pub mod Drafts
+pub mod Written

@@ -1,0 +1,5 @@
+pub mod Names
+pub mod Parts
+pub mod Values
+pub mod Texts
+pub mod Inner

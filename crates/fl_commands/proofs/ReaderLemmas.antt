@@ -7,7 +7,7 @@ use Rattle.ps_world.specs.Counts.{Rose}
 use Rattle.ps_world.specs.Files.{Files, bytes_at}
 use Rattle.ps_world.specs.TreeState.{AreOut, TreeState, lend, take_back}
 use Rattle.ps_world.proofs.TreeStateLemmas.{balanced-none, out-lend, out-take_back}
-use Rattle.fl_core.specs.OwnEnds.{each_of}
+use Rattle.fl_engines.specs.OwnEnds.{each_of}
 use Rattle.fl_segments.specs.Stages.{file_in, files_read, ins_of}
 use Rattle.fl_segments.specs.declared.stages.Stage.{Stage}
 use Rattle.fl_segments.specs.declared.stages.In.{In}

@@ -28,13 +28,13 @@ use Rattle.fl_classes.specs.Kinds.{are_run}
 use Rattle.fl_classes.specs.Used.{words_used}
 use Rattle.fl_classes.specs.Sources.{source_texts}
 use Rattle.fl_core.specs.EndLists.{file_nodes, file_sources, numbers_of, reads_file, writes_file}
-use Rattle.fl_core.specs.Engines.{then_used}
-use Rattle.fl_core.specs.Logs.{Log, with_words}
-use Rattle.fl_core.specs.OwnEnds.{EndCounts, IfCame, IsTold, RoseAmong, RunsOwn, counts_by, each_of, has_input}
-use Rattle.fl_core.specs.OwnEnds.{HasCause as CauseOf}
+use Rattle.fl_engines.specs.Engines.{then_used}
+use Rattle.fl_engines.specs.Logs.{Log, with_words}
+use Rattle.fl_engines.specs.OwnEnds.{EndCounts, IfCame, IsTold, RoseAmong, RunsOwn, counts_by, each_of, has_input}
+use Rattle.fl_engines.specs.OwnEnds.{HasCause as CauseOf}
 use Rattle.fl_core.specs.declared.end_lists.Ends.{Ends}
-use Rattle.fl_core.specs.declared.own_ends.Came.{Came}
-use Rattle.fl_core.specs.declared.own_ends.Came.TheVariants as came
+use Rattle.fl_engines.specs.declared.own_ends.Came.{Came}
+use Rattle.fl_engines.specs.declared.own_ends.Came.TheVariants as came
 use Rattle.fl_segments.specs.Chains.{begins_with, chain_means}
 use Rattle.fl_segments.specs.Noted.{noted_in, used_at}
 use Rattle.fl_segments.specs.Stages.{files_read, files_written, reads_input, words_at}

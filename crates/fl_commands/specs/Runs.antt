@@ -10,7 +10,7 @@ use Rattle.ut_args.specs.Inputs.{operands_of}
 use Rattle.ut_args.specs.Invocations.{command_of}
 use Rattle.ut_args.specs.declared.invocations.Inv.{Inv}
 use Rattle.ut_streams.specs.Utilities.{Input}
-use Rattle.fl_core.specs.Logs.{Log, with_words}
+use Rattle.fl_engines.specs.Logs.{Log, with_words}
 use Rattle.fl_segments.specs.Chains.{begins_with}
 use Rattle.fl_segments.specs.Noted.{Noted, used_at}
 use Rattle.fl_segments.specs.Stages.{is_shell_input, is_stream}

@@ -4,7 +4,7 @@ ghost use Rattle.std.specs.List.{filter_map};
 ghost use Rattle.ps_world.specs.Counts.{Counts, Rose};
 ghost use Rattle.ps_world.specs.Files.{Files, IsFileAt, bytes_at};
 ghost use Rattle.ps_world.specs.TreeState.{AreOut, Balanced, TreeState};
-ghost use Rattle.fl_core.specs.OwnEnds.{each_of};
+ghost use Rattle.fl_engines.specs.OwnEnds.{each_of};
 ghost use Rattle.fl_segments.specs.Stages.{file_in, files_read, ins_of};
 ghost use Rattle.fl_commands.specs.Inner.Overs.{Opens};
 ghost use Rattle.fl_commands.specs.Inner.Segments.{AllThere};

@@ -1,20 +1,21 @@
 -- Nodes that are added one behind the other are drawn as one list of steps.
-use Rattle.std.proofs.Common.{◌≡◌, ℕ, ◌+◌, ◌-◌, ◌≤◌, List, [], ◌∷◌, ◌++◌, Bool, length, get_or, take, drop, ap, sym, subst, ◌∙◌, append_assoc, length-append, arith}
+use Rattle.std.proofs.Common.{◌≡◌, ℕ, ◌+◌, ◌-◌, ◌≤◌, List, [], ◌∷◌, ◌++◌, Bool, length, get_or, take, drop, ap, sym, subst, ◌∙◌, append_assoc, length-append, arith, append-nil}
 use Rattle.std.specs.Prelude.{Result, Ok, Err, OnOk}
 use Rattle.std.proofs.lemmas.List.{take_all}
 use Rattle.ut_args.specs.declared.invocations.Inv.{Inv}
 use Rattle.fl_graph.specs.declared.graphs.Cell.{Cell}
 use Rattle.fl_graph.specs.declared.kinds.NodeKind.{NodeKind}
+use Rattle.fl_graph.specs.declared.kinds.NodeKind.TheVariants as kind
 use Rattle.fl_segments.specs.Stages.{is_reader}
-use Rattle.fl_segments.specs.Inner.Drawing.{Step, drawn, behind}
-use Rattle.fl_segments.specs.Inner.Steps.{begins, chain_nodes, chain_rule, chain_steps, comes_behind, comes_cut, comes_from, does_nodes, does_parts, does_steps, done_next, done_parts, done_steps, drain_steps, earlier_steps, ends_from, first_parts, first_steps, front_edges, front_steps, goes_from, in_edges, in_steps, join_steps, joined_edges, last_steps, main_nodes, main_parts, main_steps, parts_on, read_edges, read_steps}
+use Rattle.fl_segments.specs.Inner.Drawing.{Step, drawn, behind, step}
+use Rattle.fl_segments.specs.Inner.Steps.{begins, chain_nodes, chain_rule, chain_steps, comes_behind, comes_cut, comes_from, does_nodes, does_parts, does_steps, done_next, done_parts, done_steps, drain_steps, earlier_steps, ends_from, first_parts, first_steps, front_edges, front_steps, goes_from, in_edges, in_steps, join_steps, joined_edges, last_steps, main_nodes, main_parts, main_steps, parts_on, read_edges, read_steps, Tree, Leaf, Join, half_of, joins_of, tree_edge, tree_over, tree_steps, finish_edge, finish_steps, fold_parts, fold_steps, folded_edge, folded_steps, mapped_parts, mapped_steps, spread_parts, spread_steps}
 use Rattle.fl_segments.specs.declared.parts.Coming.{Coming}
 use Rattle.fl_segments.specs.declared.parts.Parts.{Parts}
 use Rattle.fl_segments.specs.declared.stages.Does.TheVariants as does
 use Rattle.fl_segments.specs.declared.stages.In.{In}
 use Rattle.fl_segments.specs.declared.stages.Stage.{Stage}
 use Rattle.fl_segments.proofs.DrawingLemmas.{behind-append, drawn-append}
-use Rattle.fl_segments.proofs.StageLemmas.{drain-behind}
+use Rattle.fl_segments.proofs.StageLemmas.{drain-behind, over-few, over-halves, tree-behind}
 use Rattle.fl_segments.proofs.StatusLemmas.{drawn-length}
 
 pub on_ok : {Value Refused One Other : Type 0} (result : Result Value Refused) → OnOk result One → (One → Other) → OnOk result Other
@@ -92,6 +93,115 @@ module _ (number : ℕ) (comes : Coming) (inv : Inv) (ins : List In) (next on : 
   inputs-edges joined is =
       is ∙ ap (λ (leads : Bool). joined_edges leads inv ins edges on) leads_is ∙ ap (λ (edges : List ℕ). joined_edges (begins comes) inv ins edges on) edges_are
       ∙ ap (joined_edges (begins comes) inv ins (in_edges number comes ins next)) on_is
+
+-- THE TREE OF AGGREGATES
+module _ (number : ℕ) (inv : Inv) (edges : List ℕ) (next : ℕ) where
+  abbrev tree_so : List Step
+  tree_so = tree_steps number inv (tree_over edges) next
+
+  -- there is one edge at most
+  module _ (few : length edges ≤ 1) where
+    few-leaf : tree_over edges ≡ Leaf (get_or edges 0 0)
+    few-leaf = over-few edges few
+
+    pub few-adds : (old : List (Cell NodeKind)) → old ≡ old ++ drawn next tree_so
+    few-adds old = sym (append-nil old) ∙ ap (λ (tree : Tree). old ++ drawn next (tree_steps number inv tree next)) (sym few-leaf)
+
+    pub few-next : next ≡ behind next tree_so
+    few-next = ap (λ (tree : Tree). behind next (tree_steps number inv tree next)) (sym few-leaf)
+
+    pub few-edge : (edge : ℕ) → edge ≡ get_or edges 0 0 → edge ≡ tree_edge (tree_over edges) next
+    few-edge edge is = is ∙ ap (λ (tree : Tree). tree_edge tree next) (sym few-leaf)
+
+  -- two halves are added, and then what joins them
+  pub record Halves (front back : List ℕ) (old one two : List (Cell NodeKind)) (to_one to_two first second : ℕ) : Type 0 where
+    pub front_is : front ≡ take (half_of (length edges)) edges
+    pub back_is : back ≡ drop (half_of (length edges)) edges
+    pub many : 2 ≤ length edges
+    pub left : one ≡ old ++ drawn next (tree_steps number inv (tree_over front) next)
+    pub to_left : to_one ≡ behind next (tree_steps number inv (tree_over front) next)
+    pub first_is : first ≡ tree_edge (tree_over front) next
+    pub right : two ≡ one ++ drawn to_one (tree_steps number inv (tree_over back) to_one)
+    pub to_right : to_two ≡ behind to_one (tree_steps number inv (tree_over back) to_one)
+    pub second_is : second ≡ tree_edge (tree_over back) to_one
+
+  module _ (front back : List ℕ) (old one two : List (Cell NodeKind)) (to_one to_two first second : ℕ) (halves : Halves front back old one two to_one to_two first second) where
+    abbrev on : ℕ
+    on = next + joins_of (tree_over front)
+
+    abbrev left_steps : List Step
+    left_steps = tree_steps number inv (tree_over front) next
+
+    abbrev right_steps : List Step
+    right_steps = tree_steps number inv (tree_over back) on
+
+    abbrev agg_steps : List ℕ → List Step
+    agg_steps ins = step (kind.Agg inv) ins number ∷ []
+
+    abbrev joined_ins : List ℕ
+    joined_ins = tree_edge (tree_over front) next ∷ tree_edge (tree_over back) on ∷ []
+
+    join-is : Join (tree_over front) (tree_over back) ≡ tree_over edges
+    join-is =
+        ap (λ (front : List ℕ). Join (tree_over front) (tree_over back)) halves.front_is
+        ∙ ap (λ (back : List ℕ). Join (tree_over (take (half_of (length edges)) edges)) (tree_over back)) halves.back_is ∙ sym (over-halves edges halves.many)
+
+    on-is : to_one ≡ on
+    on-is = halves.to_left ∙ tree-behind number inv (tree_over front) next
+
+    right-next : to_two ≡ behind to_one right_steps
+    right-next = halves.to_right ∙ ap (λ (from : ℕ). behind to_one (tree_steps number inv (tree_over back) from)) on-is
+
+    both-add : two ≡ old ++ drawn next (left_steps ++ right_steps)
+    both-add =
+        adds-append next left_steps right_steps old one two to_one halves.left halves.to_left (halves.right ∙ ap (λ (from : ℕ). one ++ drawn to_one (tree_steps number inv (tree_over back) from)) on-is)
+
+    both-next : to_two ≡ behind next (left_steps ++ right_steps)
+    both-next = next-append next left_steps right_steps to_one to_two halves.to_left right-next
+
+    ins-are : (first ∷ second ∷ []) ≡ joined_ins
+    ins-are = ap (λ (one : ℕ). one ∷ second ∷ []) halves.first_is ∙ ap (λ (other : ℕ). tree_edge (tree_over front) next ∷ other ∷ []) (halves.second_is ∙ ap (tree_edge (tree_over back)) on-is)
+
+    pub tree-adds : (new : List (Cell NodeKind)) → new ≡ two ++ drawn to_two (step (kind.Agg inv) (first ∷ second ∷ []) number ∷ []) → new ≡ old ++ drawn next tree_so
+    tree-adds new is =
+        adds-append next (left_steps ++ right_steps) (agg_steps joined_ins) old two new to_two both-add both-next (is ∙ ap (λ (ins : List ℕ). two ++ drawn to_two (agg_steps ins)) ins-are)
+        ∙ ap (λ (tree : Tree). old ++ drawn next (tree_steps number inv tree next)) join-is
+
+    pub tree-next : (last : ℕ) → last ≡ to_two + 1 → last ≡ behind next tree_so
+    tree-next last is =
+        next-append next (left_steps ++ right_steps) (agg_steps joined_ins) to_two last both-next is ∙ ap (λ (tree : Tree). behind next (tree_steps number inv tree next)) join-is
+
+    pub tree-edge-is : (edge : ℕ) → edge ≡ to_two → edge ≡ tree_edge (tree_over edges) next
+    tree-edge-is edge is =
+        is ∙ halves.to_right ∙ tree-behind number inv (tree_over back) to_one ∙ ap (λ (from : ℕ). from + joins_of (tree_over back)) on-is ∙ ap (λ (tree : Tree). tree_edge tree next) join-is
+
+  -- and what is behind it
+  module _ (on edge : ℕ) (on_is : on ≡ behind next tree_so) (edge_is : edge ≡ tree_edge (tree_over edges) next) where
+    pub folded-adds : (old mid new : List (Cell NodeKind)) → mid ≡ old ++ drawn next tree_so → new ≡ mid ++ drawn on (finish_steps number inv edge) → new ≡ old ++ drawn next (folded_steps number inv edges next)
+    folded-adds old mid new mid_is new_is =
+        adds-both next tree_so (λ (edge from : ℕ). finish_steps number inv edge) (tree_edge (tree_over edges) next) on edge on_is edge_is old mid new mid_is new_is
+
+    pub folded-next : (last : ℕ) → last ≡ behind on (finish_steps number inv edge) → last ≡ behind next (folded_steps number inv edges next)
+    folded-next last is = next-both next tree_so (λ (edge from : ℕ). finish_steps number inv edge) (tree_edge (tree_over edges) next) on edge on_is edge_is last is
+
+    pub folded-edge : (last : ℕ) → last ≡ finish_edge inv edge on → last ≡ folded_edge number inv edges next
+    folded-edge last is = gives-both next tree_so (λ (edge from : ℕ). finish_steps number inv edge) (tree_edge (tree_over edges) next) on edge on_is edge_is (finish_edge inv) last is
+
+-- a utility that is spread: its maps, and what is made of them
+module _ (width number : ℕ) (inv : Inv) (taken : Parts) (next on : ℕ) (maps : Parts)
+    (on_is : on ≡ behind next (mapped_steps width number inv taken.edges next)) (maps_are : maps ≡ mapped_parts width number inv taken.edges next taken.cut) where
+  pub spread-adds : (old mid new : List (Cell NodeKind)) → mid ≡ old ++ drawn next (mapped_steps width number inv taken.edges next) → new ≡ mid ++ drawn on (fold_steps number inv maps.edges on)
+      → new ≡ old ++ drawn next (spread_steps width number inv taken.edges next)
+  spread-adds old mid new mid_is new_is =
+      adds-both next (mapped_steps width number inv taken.edges next) (λ (maps : Parts) (from : ℕ). fold_steps number inv maps.edges from) (mapped_parts width number inv taken.edges next taken.cut) on maps on_is maps_are old mid new mid_is new_is
+
+  pub spread-next : (last : ℕ) → last ≡ behind on (fold_steps number inv maps.edges on) → last ≡ behind next (spread_steps width number inv taken.edges next)
+  spread-next last is =
+      next-both next (mapped_steps width number inv taken.edges next) (λ (maps : Parts) (from : ℕ). fold_steps number inv maps.edges from) (mapped_parts width number inv taken.edges next taken.cut) on maps on_is maps_are last is
+
+  pub spread-gives : (parts : Parts) → parts ≡ fold_parts number inv maps on → parts ≡ spread_parts width number inv taken next
+  spread-gives parts is =
+      gives-both next (mapped_steps width number inv taken.edges next) (λ (maps : Parts) (from : ℕ). fold_steps number inv maps.edges from) (mapped_parts width number inv taken.edges next taken.cut) on maps on_is maps_are (fold_parts number inv) parts is
 
 -- A STAGE
 module _ (width number : ℕ) (comes : Coming) (stage : Stage) (next : ℕ) where

@@ -17,11 +17,11 @@ use Rattle.fl_graph.specs.declared.graphs.StatusRule.{StatusRule}
 use Rattle.fl_graph.specs.declared.kinds.NodeKind.{NodeKind}
 use Rattle.fl_graph.specs.declared.kinds.NodeKind.TheVariants as kind
 use Rattle.fl_graph.specs.declared.kinds.To.{To}
-use Rattle.fl_graph.proofs.EdgeLemmas.{joins_maps-each}
 use Rattle.fl_classes.specs.Flow.{outcome, status_by as status_by_rule, to_file, to_output, writes_of}
 use Rattle.fl_classes.specs.Kinds.{are_run, is_run}
 use Rattle.fl_classes.specs.Sources.{source_texts}
 use Rattle.fl_classes.specs.Used.{words_by as words_of_node, words_used}
+use Rattle.fl_classes.proofs.KindLemmas.{runs-of_class}
 use Rattle.fl_segments.specs.Chains.{begins_with, chain_means}
 use Rattle.fl_segments.specs.Spread.{IsSpread}
 use Rattle.fl_segments.specs.Stages.{files_read, files_written, gives_output, is_stage, may_spread, reads_input, reads_stream, words_at}
@@ -30,7 +30,8 @@ use Rattle.fl_segments.specs.Inner.Steps.{chain_nodes, chain_rule, chain_steps}
 use Rattle.fl_segments.specs.declared.parts.Coming.TheVariants as coming
 use Rattle.fl_segments.specs.declared.stages.First.{First}
 use Rattle.fl_segments.specs.declared.stages.Stage.{Stage}
-use Rattle.fl_segments.proofs.DrawingLemmas.{AreBelow, AreTaken, all-drawn, any-drawn, count-drawn, edges-drawn, fits_ports, found-drawn, joins_none, maps-none, ports-drawn, told-drawn}
+use Rattle.fl_segments.proofs.DrawingLemmas.{AreBelow, AreTaken, all-drawn, any-drawn, count-drawn, edges-drawn, fits_ports, found-drawn, ports-drawn, told-drawn}
+use Rattle.fl_segments.proofs.HoldLemmas.{chain-joins}
 use Rattle.fl_segments.proofs.FoundLemmas.{Pass, shell-is, chain-all, chain-input, chain-inputs, chain-output, chain-outputs, chain-reads, chain-words, chain-writes, of-kinds}
 use Rattle.fl_segments.proofs.MeaningLemmas.{told-all}
 use Rattle.fl_segments.proofs.OutcomeLemmas.{chain-told}
@@ -79,19 +80,16 @@ module _ (width : ℕ) (begin : Bor First) (stage : Stage) (stages : List Stage)
   kinds-pass test pass sink = chain-all width (λ kind ins outs. test kind) pass sink 0 (coming.Begins begin) segment 0 is tt
 
   run-all : list_all (λ (it : Step). is_run it.kind) steps ≡ true
-  run-all = kinds-pass is_run (of-kinds width is_run (λ text. refl) (λ close. refl) refl (λ source. refl) (λ inv built. refl) refl (λ inv built spread. refl)) (λ sink. refl)
+  run-all = kinds-pass is_run (of-kinds width is_run (λ text. refl) (λ close. refl) refl (λ source. refl) (λ inv built. refl) refl (λ inv built spread. refl) (λ inv built spread folds. runs-of_class (kind.Agg inv) folds) (λ inv built spread folds. refl)) (λ sink. refl)
 
   inputs-all : list_all (λ (it : Step). reads_one_input it.kind) steps ≡ true
-  inputs-all = kinds-pass reads_one_input (of-kinds width reads_one_input (λ text. refl) (λ close. refl) refl (λ source. refl) (λ inv built. refl) refl (λ inv built spread. eq-eqb (inputs_of inv) 1 (spread-one width inv spread))) (λ sink. refl)
+  inputs-all = kinds-pass reads_one_input (of-kinds width reads_one_input (λ text. refl) (λ close. refl) refl (λ source. refl) (λ inv built. refl) refl (λ inv built spread. eq-eqb (inputs_of inv) 1 (spread-one width inv spread)) (λ inv built spread folds. eq-eqb (inputs_of inv) 1 (spread-one width inv spread)) (λ inv built spread folds. refl)) (λ sink. refl)
 
   classes-all : list_all (λ (it : Step). has_its_class it.kind) steps ≡ true
-  classes-all = kinds-pass has_its_class (of-kinds width has_its_class (λ text. refl) (λ close. refl) refl (λ source. refl) (λ inv built. refl) refl (λ inv built spread. spread-map (class_of inv) (spread-class width inv spread))) (λ sink. refl)
+  classes-all = kinds-pass has_its_class (of-kinds width has_its_class (λ text. refl) (λ close. refl) refl (λ source. refl) (λ inv built. refl) refl (λ inv built spread. spread-map (class_of inv) (spread-class width inv spread)) (λ inv built spread folds. folds) (λ inv built spread folds. folds)) (λ sink. refl)
 
   built-all : list_all (λ (it : Step). runs_what_is_built it.kind) steps ≡ true
-  built-all = kinds-pass runs_what_is_built (of-kinds width runs_what_is_built (λ text. refl) (λ close. refl) refl (λ source. refl) (λ inv built. built) refl (λ inv built spread. built)) (λ sink. refl)
-
-  joins-all : list_all (λ (it : Step). joins_none it.kind) steps ≡ true
-  joins-all = kinds-pass joins_none (of-kinds width joins_none (λ text. refl) (λ close. refl) refl (λ source. refl) (λ inv built. refl) refl (λ inv built spread. refl)) (λ sink. refl)
+  built-all = kinds-pass runs_what_is_built (of-kinds width runs_what_is_built (λ text. refl) (λ close. refl) refl (λ source. refl) (λ inv built. built) refl (λ inv built spread. built) (λ inv built spread folds. built) (λ inv built spread folds. built)) (λ sink. refl)
 
   ports-pass : Pass width ports_by
   ports-pass = record {
@@ -102,6 +100,8 @@ module _ (width : ℕ) (begin : Bor First) (stage : Stage) (stages : List Stage)
     whole = λ inv count built inputs. and_from (count == inputs_of inv) true (eq-eqb count (inputs_of inv) (sym inputs)) refl;
     split = λ wide. le-leb 1 width (omega (arith, wide));
     map = λ inv built spread. refl;
+    agg = λ inv built spread folds. refl;
+    finish = λ inv built spread folds. refl;
   }
 
   ports-all : list_all fits_ports steps ≡ true
@@ -132,7 +132,7 @@ module _ (width : ℕ) (begin : Bor First) (stage : Stage) (stages : List Stage)
     inputs = all-drawn reads_one_input 0 steps ∙ inputs-all;
     classes = all-drawn has_its_class 0 steps ∙ classes-all;
     built = all-drawn runs_what_is_built 0 steps ∙ built-all;
-    maps = joins_maps-each cells ∙ maps-none [] cells (all-drawn joins_none 0 steps ∙ joins-all);
+    maps = chain-joins width (coming.Begins begin) stage stages is refl below-all;
     paths = subst (λ (read : List Components). ArePathsApart read (paths_written cells)) (sym reads-are) (subst (ArePathsApart (files_read segment)) (sym writes-are) apart);
     named = chain-named width [] 0 (coming.Begins begin) stage stages 0;
   }

@@ -1,13 +1,13 @@
 -- Graphs that are made node by node: their edges, and what is found among their nodes.
 use Rattle.std.proofs.Common.{◌≡◌, ℕ, zero, suc, ◌+◌, List, [], ◌∷◌, ◌++◌, Bool, true, false, ◌&&◌, ◌||◌, Option, if◌then◌else◌, nat_lt, length, refl, ap, sym, ◌∙◌, append-nil, arith}
 use Rattle.std.specs.List.{range_with_len, list_all, list_any, count_by, filter_map, flat_map, cons_option}
-use Rattle.std.proofs.lemmas.Bool.{true≢false, and_from, and_parts, ltb-true}
+use Rattle.std.proofs.lemmas.Bool.{and_from, ltb-true}
 use Rattle.std.proofs.lemmas.Grind.{flat_map-append}
 use Rattle.std.proofs.lemmas.List.FromFn.{length-range_with_len}
 use Rattle.std.proofs.lemmas.List.Sums.{sum_by-cons}
 use Rattle.fl_graph.specs.Net.{has, count, takes, gives}
 use Rattle.fl_graph.specs.declared.graphs.Cell.{Cell}
-use Rattle.fl_graph.specs.Checks.{takes_given, each_after, joins_its_maps, may_join}
+use Rattle.fl_graph.specs.Checks.{takes_given, each_after}
 use Rattle.fl_graph.specs.Kinds.{may_have, has_its_ports}
 use Rattle.fl_graph.specs.Valid.{HasEdges}
 use Rattle.fl_graph.specs.declared.kinds.NodeKind.{NodeKind}
@@ -143,27 +143,8 @@ ports-drawn next (it ∷ steps) =
     ap (λ (outs : ℕ). may_have it.kind (length it.ins) outs && list_all has_its_ports (drawn (next_of it.outs next) steps)) (length-range_with_len next it.outs)
     ∙ ap (λ rest. fits_ports it && rest) (ports-drawn (next_of it.outs next) steps)
 
--- where none joins maps
+-- it joins no maps
 abbrev pub joins_none : NodeKind → Bool
 joins_none (kind.Agg inv) = false
 joins_none (kind.Finish inv) = false
 joins_none other = true
-
-none-joins : (before : List (Cell NodeKind)) (cell : Cell NodeKind) (it : NodeKind) → cell.kind ≡ it → joins_none it ≡ true → joins_its_maps before cell ≡ true
-none-joins before cell (kind.Agg inv) is none = absurd (true≢false (sym none))
-none-joins before cell (kind.Finish inv) is none = absurd (true≢false (sym none))
-none-joins before cell (kind.Source source) is none = ap (λ (it : NodeKind). may_join it before cell.ins) is
-none-joins before cell (kind.Text text) is none = ap (λ (it : NodeKind). may_join it before cell.ins) is
-none-joins before cell kind.Split is none = ap (λ (it : NodeKind). may_join it before cell.ins) is
-none-joins before cell (kind.Map inv) is none = ap (λ (it : NodeKind). may_join it before cell.ins) is
-none-joins before cell (kind.Whole inv) is none = ap (λ (it : NodeKind). may_join it before cell.ins) is
-none-joins before cell (kind.Cat close) is none = ap (λ (it : NodeKind). may_join it before cell.ins) is
-none-joins before cell (kind.TeeFile path mode) is none = ap (λ (it : NodeKind). may_join it before cell.ins) is
-none-joins before cell kind.Drain is none = ap (λ (it : NodeKind). may_join it before cell.ins) is
-none-joins before cell (kind.Sink sink) is none = ap (λ (it : NodeKind). may_join it before cell.ins) is
-
-pub maps-none : (before cells : List (Cell NodeKind)) → list_all (λ (cell : Cell NodeKind). joins_none cell.kind) cells ≡ true → each_after joins_its_maps before cells ≡ true
-maps-none before [] none = refl
-maps-none before (cell ∷ cells) none =
-    let parts = and_parts (joins_none cell.kind) (list_all (λ (cell : Cell NodeKind). joins_none cell.kind) cells) none in
-    and_from (joins_its_maps before cell) (each_after joins_its_maps (before ++ cell ∷ []) cells) (none-joins before cell cell.kind refl parts.0) (maps-none (before ++ cell ∷ []) cells parts.1)

@@ -1,7 +1,8 @@
 -- What is gathered over the nodes of a segment, by the kind of each and the number of its ins: tests, paths, ends and words.
-use Rattle.std.proofs.Common.{◌≡◌, ℕ, zero, suc, ◌+◌, ◌≤◌, ◌==◌, List, [], ◌∷◌, ◌++◌, ◌⊎◌, inl, inr, Bool, true, false, ◌&&◌, ◌||◌, not, Option, Some, None, if◌then◌else◌, length, nat_lt, replicate, refl, ap, sym, subst, ◌∙◌, append-nil, append_assoc, length-append, arith}
+use Rattle.std.proofs.Common.{◌≡◌, ℕ, zero, suc, ◌+◌, ◌-◌, ◌≤◌, ◌==◌, List, [], ◌∷◌, ◌++◌, ◌⊎◌, inl, inr, Bool, true, false, ◌&&◌, ◌||◌, not, Option, Some, None, if◌then◌else◌, length, nat_lt, replicate, refl, ap, sym, subst, ◌∙◌, append-nil, append_assoc, length-append, arith}
 use Rattle.std.specs.List.{list_all, list_any, count_by, filter_map, flat_map, cons_option}
 use Rattle.std.proofs.lemmas.Bool.{true≢false, and_from, and_parts, eq-eqb, leb-true, lt-ltb, ltb-true, ne_eqb}
+use Rattle.std.proofs.lemmas.List.FromFn.{length-range_with_len}
 use Rattle.std.proofs.lemmas.List.Sums.{sum_by-cons}
 use Rattle.ps_lines.specs.Lines.{is_empty}
 use Rattle.ps_world.specs.Paths.{Components}
@@ -9,7 +10,7 @@ use Rattle.ut_args.specs.Built.{is_built_of}
 use Rattle.ut_args.specs.Inputs.{inputs_of}
 use Rattle.ut_args.specs.Invocations.{words_of}
 use Rattle.ut_args.specs.declared.invocations.Inv.{Inv}
-use Rattle.fl_graph.specs.Kinds.{is_input, is_output}
+use Rattle.fl_graph.specs.Kinds.{is_input, is_output, has_aggregator}
 use Rattle.fl_graph.specs.Paths.{path_read, path_written}
 use Rattle.fl_graph.specs.declared.kinds.NodeKind.{NodeKind}
 use Rattle.fl_graph.specs.declared.kinds.NodeKind.TheVariants as kind
@@ -20,9 +21,9 @@ use Rattle.fl_graph.specs.declared.kinds.To.TheVariants as to
 use Rattle.fl_graph.proofs.ListLemmas.{and-true}
 use Rattle.fl_classes.specs.Used.{is_cat, words_by as words_of_node, words_with}
 use Rattle.fl_classes.proofs.ClassLemmas.{or-none}
-use Rattle.fl_segments.specs.Stages.{closes_before, file_in, file_out, files_read, files_written, gives_output, goes_on, ins_of, ins_read, is_none, is_reader, is_shell_input, is_spread, is_stage, is_stream, joins_before, read_of, reads_stream, words_at, words_by}
+use Rattle.fl_segments.specs.Stages.{closes_before, file_in, file_out, files_read, files_written, gives_output, goes_on, ins_of, ins_read, is_none, is_reader, is_shell_input, is_spread, is_stage, is_stream, joins_before, read_of, reads_stream, words_at, words_by, has_finish}
 use Rattle.fl_segments.specs.Inner.Drawing.{Step, step, split_step, behind}
-use Rattle.fl_segments.specs.Inner.Steps.{begins, chain_steps, comes_behind, comes_on, does_steps, done_parts, done_steps, drain_steps, each_ended, earlier_steps, end_edge, end_next, first_steps, front_edges, front_next, front_steps, goes_steps, hands_on, in_edges, in_steps, input_edges, input_steps, is_joined, is_leading_cat, is_next, join_steps, joined_edges, kind_first, kind_in, last_steps, main_parts, main_steps, map_steps, on_steps, out_steps, piped_steps, read_edges, read_steps, split_edges, split_steps, spread_steps, stands, stream_steps, takes_parts, util_steps, whole_steps}
+use Rattle.fl_segments.specs.Inner.Steps.{begins, chain_steps, comes_behind, comes_on, does_steps, done_parts, done_steps, drain_steps, each_ended, earlier_steps, end_edge, end_next, first_steps, front_edges, front_next, front_steps, goes_steps, hands_on, in_edges, in_steps, input_edges, input_steps, is_joined, is_leading_cat, is_next, join_steps, joined_edges, kind_first, kind_in, last_steps, main_parts, main_steps, map_steps, on_steps, out_steps, piped_steps, read_edges, read_steps, split_edges, split_steps, spread_steps, stands, stream_steps, takes_parts, util_steps, whole_steps, Tree, Leaf, Join, finish_steps, fold_steps, joins_of, mapped_parts, tree_edge, tree_of, tree_steps, folded_steps, tree_over}
 use Rattle.fl_segments.specs.declared.parts.Coming.{Coming}
 use Rattle.fl_segments.specs.declared.parts.Coming.TheVariants as coming
 use Rattle.fl_segments.specs.declared.parts.Parts.{Parts}
@@ -37,7 +38,8 @@ use Rattle.fl_segments.specs.declared.stages.Out.TheVariants as out
 use Rattle.fl_segments.specs.declared.stages.Stage.{Stage}
 use Rattle.fl_segments.proofs.ComingLemmas.{IsSingle, IsTaken, MayBegin, MayCome, goes-may, lone-edges, same-util, taken-of}
 use Rattle.fl_segments.proofs.FitLemmas.{Fits, few-streams, no-tees, parts-of}
-use Rattle.fl_segments.proofs.StageLemmas.{split-count, spread-one, spread-wide}
+use Rattle.fl_segments.proofs.StageLemmas.{split-count, spread-one, spread-wide, tree-joins}
+use Rattle.ut_args.specs.Classes.{class_of}
 
 -- HOW MANY EDGES A UTILITY TAKES
 input-count : (comes : Coming) (it : In) (next : ℕ) → IsSingle comes → length (input_edges comes it next) ≡ 1
@@ -155,10 +157,18 @@ module _ {Found : Type 0} (width : ℕ) (none : Found) (both : Found → Found �
   ins_value stream [] = none
   ins_value stream (it ∷ ins) = both (in_value stream it) (ins_value stream ins)
 
+  -- the aggregates of so many maps, and a finish
+  abbrev pub finish_value : Inv → Found
+  finish_value inv = if has_finish inv then value (kind.Finish inv) 1 1 else none
+
+  abbrev pub folds_value : Inv → Found
+  folds_value inv = both (repeated (width - 1) (value (kind.Agg inv) 2 1)) (finish_value inv)
+
   abbrev pub util_value : Bool → Does → ℕ → Found
   util_value leads does.Skip count = none
   util_value leads (does.Util inv) count =
-      if is_leading_cat leads inv then none else if is_spread width inv then repeated width (value (kind.Map inv) 1 1) else value (kind.Whole inv) count 1
+      if is_leading_cat leads inv then none
+      else if is_spread width inv then both (repeated width (value (kind.Map inv) 1 1)) (if has_aggregator (class_of inv) then folds_value inv else none) else value (kind.Whole inv) count 1
 
   abbrev pub file_value : Out → Found
   file_value out.Next = none
@@ -275,6 +285,40 @@ module _ {Found : Type 0} (width : ℕ) (none : Found) (both : Found → Found �
     maps-gathered number inv [] = refl
     maps-gathered number inv (edge ∷ edges) = ap (both (value (kind.Map inv) 1 1)) (maps-gathered number inv edges)
 
+    repeated-both : (one other : ℕ) (it : Found) → both (repeated one it) (repeated other it) ≡ repeated (one + other) it
+    repeated-both zero other it = let none_is : 0 + other ≡ other = omega arith in gathers.left (repeated other it) ∙ ap (λ (count : ℕ). repeated count it) (sym none_is)
+    repeated-both (suc one) other it =
+        let more : suc one + other ≡ suc (one + other) = omega arith in
+        gathers.assoc it (repeated one it) (repeated other it) ∙ ap (both it) (repeated-both one other it) ∙ ap (λ (count : ℕ). repeated count it) (sym more)
+
+    tree-gathered : (number : ℕ) (inv : Inv) (tree : Tree) (next : ℕ) → gathered (tree_steps number inv tree next) ≡ repeated (joins_of tree) (value (kind.Agg inv) 2 1)
+    tree-gathered number inv (Leaf edge) next = refl
+    tree-gathered number inv (Join one other) next =
+        let left : List Step = tree_steps number inv one next in
+        let right : List Step = tree_steps number inv other (next + joins_of one) in
+        let agg : Found = value (kind.Agg inv) 2 1 in
+        gathered-append (left ++ right) (step (kind.Agg inv) (tree_edge one next ∷ tree_edge other (next + joins_of one) ∷ []) number ∷ [])
+        ∙ ap (λ (front : Found). both front (both agg none)) (gathered-append left right ∙ ap (λ (one : Found). both one (gathered right)) (tree-gathered number inv one next)
+        ∙ ap (both (repeated (joins_of one) agg)) (tree-gathered number inv other (next + joins_of one)) ∙ repeated-both (joins_of one) (joins_of other) agg)
+        ∙ repeated-both (joins_of one + joins_of other) 1 agg
+
+    fold-gathered : (number : ℕ) (inv : Inv) (parts : Parts) (next : ℕ) → length parts.edges ≡ width → 2 ≤ width → gathered (fold_steps number inv parts.edges next) ≡ (if has_aggregator (class_of inv) then folds_value inv else none)
+    fold-gathered number inv parts next size wide = by_test (has_aggregator (class_of inv))
+      where
+        by_finish : (edge : ℕ) (finishes : Bool) → gathered (if finishes then step (kind.Finish inv) (edge ∷ []) number ∷ [] else []) ≡ (if finishes then value (kind.Finish inv) 1 1 else none)
+        by_finish edge true = gathers.right (value (kind.Finish inv) 1 1)
+        by_finish edge false = refl
+
+        by_test : (folds : Bool)
+            → gathered (if folds then folded_steps number inv parts.edges next else []) ≡ (if folds then folds_value inv else none)
+        by_test false = refl
+        by_test true =
+            let tree : Tree = tree_of (length parts.edges) parts.edges in
+            let joins : joins_of tree ≡ width - 1 = (let count = tree-joins (length parts.edges) parts.edges (omega (arith, size, wide)) (omega arith) in omega (arith, count, size)) in
+            gathered-append (tree_steps number inv tree next) (finish_steps number inv (tree_edge (tree_over parts.edges) next))
+            ∙ ap (λ (aggs : Found). both aggs (gathered (finish_steps number inv (tree_edge (tree_over parts.edges) next)))) (tree-gathered number inv tree next ∙ ap (λ (count : ℕ). repeated count (value (kind.Agg inv) 2 1)) joins)
+            ∙ ap (both (repeated (width - 1) (value (kind.Agg inv) 2 1))) (by_finish (tree_edge (tree_over parts.edges) next) (has_finish inv))
+
     util-gathered : (number : ℕ) (leads : Bool) (inv : Inv) (edges : List ℕ) (next count : ℕ) → TakesSo width leads inv count edges → (is_spread width inv ≡ true → count ≡ 1)
         → gathered (util_steps width number leads inv edges next) ≡ util_value leads (does.Util inv) count
     util-gathered number leads inv edges next count takes one = by_test (is_leading_cat leads inv) refl (is_spread width inv) refl
@@ -293,17 +337,45 @@ module _ {Found : Type 0} (width : ℕ) (none : Found) (both : Found → Found �
 
         by_test : (cat : Bool) → is_leading_cat leads inv ≡ cat → (spread : Bool) → is_spread width inv ≡ spread
             → gathered (if cat then (if is_none edges then step (kind.Text []) [] number ∷ [] else []) else if spread then spread_steps width number inv edges next else step (kind.Whole inv) edges number ∷ [])
-            ≡ (if cat then none else if spread then repeated width (value (kind.Map inv) 1 1) else value (kind.Whole inv) count 1)
+            ≡ (if cat then none else if spread then both (repeated width (value (kind.Map inv) 1 1)) (if has_aggregator (class_of inv) then folds_value inv else none) else value (kind.Whole inv) count 1)
         by_test true cat spread is = by_none (is_none edges)
         by_test false cat true is =
             let split : List Step = split_steps width number edges in
             let maps : List Step = map_steps number inv (split_edges width edges next) in
+            let on : ℕ = behind next (split ++ maps) in
+            let parts : Parts = mapped_parts width number inv edges next false in
             let wide = leb-true 2 width (spread-wide width inv is) in
-            gathered-append split maps
+            gathered-append (split ++ maps) (fold_steps number inv parts.edges on)
+            ∙ ap (λ (here : Found). both here (gathered (fold_steps number inv parts.edges on)))
+            (gathered-append split maps
             ∙ ap (λ (here : Found). both here (gathered maps)) (split-gathered number edges wide (single is (takes cat)))
             ∙ gathers.left (gathered maps) ∙ maps-gathered number inv (split_edges width edges next)
-            ∙ ap (λ (count : ℕ). repeated count (value (kind.Map inv) 1 1)) (split-count width edges next)
+            ∙ ap (λ (count : ℕ). repeated count (value (kind.Map inv) 1 1)) (split-count width edges next))
+            ∙ ap (both (repeated width (value (kind.Map inv) 1 1))) (fold-gathered number inv parts on (length-range_with_len (behind next split) width) wide)
         by_test false cat false is = gathers.right (value (kind.Whole inv) (length edges) 1) ∙ whole is (takes cat)
+
+    -- where its nodes add nothing
+    none-repeated : (it : Found) → it ≡ none → (count : ℕ) → repeated count it ≡ none
+    none-repeated it is zero = refl
+    none-repeated it is (suc count) = ap (λ (here : Found). both here (repeated count it)) is ∙ gathers.left (repeated count it) ∙ none-repeated it is count
+
+    pub folds-none : (inv : Inv) → value (kind.Agg inv) 2 1 ≡ none → value (kind.Finish inv) 1 1 ≡ none → (if has_aggregator (class_of inv) then folds_value inv else none) ≡ none
+    folds-none inv agg finish = by_test (has_aggregator (class_of inv))
+      where
+        by_finish : (finishes : Bool) → (if finishes then value (kind.Finish inv) 1 1 else none) ≡ none
+        by_finish true = finish
+        by_finish false = refl
+
+        by_test : (folds : Bool) → (if folds then folds_value inv else none) ≡ none
+        by_test true =
+            ap (λ (here : Found). both here (finish_value inv)) (none-repeated (value (kind.Agg inv) 2 1) agg (width - 1)) ∙ gathers.left (finish_value inv) ∙ by_finish (has_finish inv)
+        by_test false = refl
+
+    pub spread-none : (inv : Inv) → value (kind.Map inv) 1 1 ≡ none → value (kind.Agg inv) 2 1 ≡ none → value (kind.Finish inv) 1 1 ≡ none
+        → both (repeated width (value (kind.Map inv) 1 1)) (if has_aggregator (class_of inv) then folds_value inv else none) ≡ none
+    spread-none inv map agg finish =
+        ap (λ (here : Found). both here (if has_aggregator (class_of inv) then folds_value inv else none)) (none-repeated (value (kind.Map inv) 1 1) map width)
+        ∙ gathers.left (if has_aggregator (class_of inv) then folds_value inv else none) ∙ folds-none inv agg finish
 
     does-gathered : (number : ℕ) (comes : Coming) (stage : Stage) (next : ℕ) → is_stage stage ≡ true → MayCome width comes stage
         → gathered (done_steps width number comes stage next) ≡ util_value (begins comes) stage.does (read_count stage.does (length stage.ins))
@@ -456,6 +528,8 @@ module _ (width : ℕ) where
       pub whole : (inv : Inv) (count : ℕ) → is_built_of inv ≡ true → inputs_of inv ≡ count → value (kind.Whole inv) count 1 ≡ true
       pub split : 2 ≤ width → value kind.Split 1 width ≡ true
       pub map : (inv : Inv) → is_built_of inv ≡ true → is_spread width inv ≡ true → value (kind.Map inv) 1 1 ≡ true
+      pub agg : (inv : Inv) → is_built_of inv ≡ true → is_spread width inv ≡ true → has_aggregator (class_of inv) ≡ true → value (kind.Agg inv) 2 1 ≡ true
+      pub finish : (inv : Inv) → is_built_of inv ≡ true → is_spread width inv ≡ true → has_aggregator (class_of inv) ≡ true → value (kind.Finish inv) 1 1 ≡ true
 
     module _ (pass : Pass) where
       and-assoc : (one two three : Bool) → ((one && two) && three) ≡ (one && (two && three))
@@ -490,10 +564,20 @@ module _ (width : ℕ) where
           all-repeated zero it pass = refl
           all-repeated (suc count) it pass = and_from it (repeated width true both_pass value count it) pass (all-repeated count it pass)
 
+          folds-pass : is_spread width inv ≡ true → (folds finishes : Bool) → has_aggregator (class_of inv) ≡ folds
+              → (if folds then repeated width true both_pass value (width - 1) (value (kind.Agg inv) 2 1) && (if finishes then value (kind.Finish inv) 1 1 else true) else true) ≡ true
+          folds-pass is false finishes so = refl
+          folds-pass is true true so =
+              and_from (repeated width true both_pass value (width - 1) (value (kind.Agg inv) 2 1)) (value (kind.Finish inv) 1 1) (all-repeated (width - 1) (value (kind.Agg inv) 2 1) (pass.agg inv fits.built is so)) (pass.finish inv fits.built is so)
+          folds-pass is true false so =
+              and_from (repeated width true both_pass value (width - 1) (value (kind.Agg inv) 2 1)) true (all-repeated (width - 1) (value (kind.Agg inv) 2 1) (pass.agg inv fits.built is so)) refl
+
           by_cat : (cat spread : Bool) → is_spread width inv ≡ spread
-              → (if cat then true else if spread then repeated width true both_pass value width (value (kind.Map inv) 1 1) else value (kind.Whole inv) (read_of inv (length stage.ins)) 1) ≡ true
+              → (if cat then true else if spread then repeated width true both_pass value width (value (kind.Map inv) 1 1) && (if has_aggregator (class_of inv) then folds_value width true both_pass value inv else true) else value (kind.Whole inv) (read_of inv (length stage.ins)) 1) ≡ true
           by_cat true spread is = refl
-          by_cat false true is = all-repeated width (value (kind.Map inv) 1 1) (pass.map inv fits.built is)
+          by_cat false true is =
+              and_from (repeated width true both_pass value width (value (kind.Map inv) 1 1)) (if has_aggregator (class_of inv) then folds_value width true both_pass value inv else true)
+              (all-repeated width (value (kind.Map inv) 1 1) (pass.map inv fits.built is)) (folds-pass is (has_aggregator (class_of inv)) (has_finish inv) refl)
           by_cat false false is = pass.whole inv (read_of inv (length stage.ins)) fits.built fits.inputs
 
       main-pass : (leads : Bool) (stage : Stage) → is_stage stage ≡ true → main_value width true both_pass value true leads stage ≡ true
@@ -551,8 +635,10 @@ module _ (width : ℕ) where
   pub of-kinds : (test : NodeKind → Bool) → ((text : List ℕ) → test (kind.Text text) ≡ true) → ((close : Bool) → test (kind.Cat close) ≡ true) → test kind.Drain ≡ true
       → ((source : From) → test (kind.Source source) ≡ true) → ((inv : Inv) → is_built_of inv ≡ true → test (kind.Whole inv) ≡ true)
       → test kind.Split ≡ true → ((inv : Inv) → is_built_of inv ≡ true → is_spread width inv ≡ true → test (kind.Map inv) ≡ true)
+      → ((inv : Inv) → is_built_of inv ≡ true → is_spread width inv ≡ true → has_aggregator (class_of inv) ≡ true → test (kind.Agg inv) ≡ true)
+      → ((inv : Inv) → is_built_of inv ≡ true → is_spread width inv ≡ true → has_aggregator (class_of inv) ≡ true → test (kind.Finish inv) ≡ true)
       → Pass (λ kind ins outs. test kind)
-  of-kinds test text cat drain source whole split map = record {
+  of-kinds test text cat drain source whole split map agg finish = record {
     text = text;
     cat = λ close count some. cat close;
     drain = drain;
@@ -560,6 +646,8 @@ module _ (width : ℕ) where
     whole = λ inv count built inputs. whole inv built;
     split = λ some. split;
     map = map;
+    agg = agg;
+    finish = finish;
   }
 
   -- WHAT IS LISTED
@@ -619,13 +707,9 @@ module _ (width : ℕ) where
   util-read leads does.Skip count = refl
   util-read leads (does.Util inv) count = by_cat (is_leading_cat leads inv) (is_spread width inv)
     where
-      none-repeated : (count : ℕ) → repeated width [] joined_paths path_of_read count [] ≡ []
-      none-repeated zero = refl
-      none-repeated (suc count) = none-repeated count
-
-      by_cat : (cat spread : Bool) → (if cat then [] else if spread then repeated width [] joined_paths path_of_read width [] else []) ≡ []
+      by_cat : (cat spread : Bool) → (if cat then [] else if spread then repeated width [] joined_paths path_of_read width [] ++ (if has_aggregator (class_of inv) then folds_value width [] joined_paths path_of_read inv else []) else []) ≡ []
       by_cat true spread = refl
-      by_cat false true = none-repeated width
+      by_cat false true = spread-none width [] joined_paths path_of_read (list-gathers path_of_read (λ text. refl) (λ close count. refl) refl refl) inv refl refl refl
       by_cat false false = refl
 
   file-read : (it : Out) → file_value width [] joined_paths path_of_read it ≡ []
@@ -687,13 +771,9 @@ module _ (width : ℕ) where
   util-written leads does.Skip count = refl
   util-written leads (does.Util inv) count = by_cat (is_leading_cat leads inv) (is_spread width inv)
     where
-      none-repeated : (count : ℕ) → repeated width [] joined_paths path_of_written count [] ≡ []
-      none-repeated zero = refl
-      none-repeated (suc count) = none-repeated count
-
-      by_cat : (cat spread : Bool) → (if cat then [] else if spread then repeated width [] joined_paths path_of_written width [] else []) ≡ []
+      by_cat : (cat spread : Bool) → (if cat then [] else if spread then repeated width [] joined_paths path_of_written width [] ++ (if has_aggregator (class_of inv) then folds_value width [] joined_paths path_of_written inv else []) else []) ≡ []
       by_cat true spread = refl
-      by_cat false true = none-repeated width
+      by_cat false true = spread-none width [] joined_paths path_of_written (list-gathers path_of_written (λ text. refl) (λ close count. refl) refl refl) inv refl refl refl
       by_cat false false = refl
 
   main-written : (leads : Bool) (stage : Stage) → main_value width [] joined_paths path_of_written [] leads stage ≡ []
@@ -763,8 +843,12 @@ module _ (width : ℕ) where
   never zero = refl
   never (suc count) = never count
 
-  spread-words : (inv : Inv) → repeated width [] joined_words words_value width (words_with inv 1) ≡ flat_map (λ words. replicate width words) (words_with inv 1)
-  spread-words inv = by_test (is_cat inv || (1 == 0))
+  spread-words : (inv : Inv) → repeated width [] joined_words words_value width (words_with inv 1) ++ (if has_aggregator (class_of inv) then folds_value width [] joined_words words_value inv else [])
+      ≡ flat_map (λ words. replicate width words) (words_with inv 1)
+  spread-words inv =
+      ap (λ (rest : List (List (List ℕ))). repeated width [] joined_words words_value width (words_with inv 1) ++ rest)
+      (folds-none width [] joined_words words_value (list-gathers words_value (λ text. refl) (λ close count. refl) refl refl) inv refl refl)
+      ∙ append-nil (repeated width [] joined_words words_value width (words_with inv 1)) ∙ by_test (is_cat inv || (1 == 0))
     where
       by_test : (test : Bool) → repeated width [] joined_words words_value width (if test then [] else words_of inv ∷ []) ≡ flat_map (λ words. replicate width words) (if test then [] else words_of inv ∷ [])
       by_test true = never width
@@ -781,7 +865,7 @@ module _ (width : ℕ) where
       count = read_of inv (length stage.ins)
 
       by_cat : (leading : Bool) → is_leading_cat leads inv ≡ leading → (spread : Bool) → is_spread width inv ≡ spread
-          → (if leading then [] else if spread then repeated width [] joined_words words_value width (words_with inv 1) else words_with inv (read_of inv (length stage.ins)))
+          → (if leading then [] else if spread then repeated width [] joined_words words_value width (words_with inv 1) ++ (if has_aggregator (class_of inv) then folds_value width [] joined_words words_value inv else []) else words_with inv (read_of inv (length stage.ins)))
           ≡ flat_map (λ words. replicate (if is_spread width inv then width else 1) words) (words_with inv (inputs_of inv))
       by_cat true is spread so =
           let none : words_with inv (inputs_of inv) ≡ [] = ap (λ (test : Bool). if test || (inputs_of inv == 0) then [] else words_of inv ∷ []) (and_parts (is_cat inv) leads is).0 in
@@ -900,14 +984,14 @@ module _ (width : ℕ) where
   util-input leads does.Skip count = (refl, refl)
   util-input leads (does.Util inv) count = by_cat (is_leading_cat leads inv) (is_spread width inv)
     where
-      none-repeated : (count : ℕ) → (repeated width false either (any_value is_input) count false ≡ false) × (repeated width 0 sum (number_value is_input) count 0 ≡ 0)
-      none-repeated zero = (refl, refl)
-      none-repeated (suc count) = let rest = none-repeated count in let none = rest.1 in (rest.0, omega (arith, none))
-
-      by_cat : (cat spread : Bool) → ((if cat then false else if spread then repeated width false either (any_value is_input) width false else false) ≡ false)
-          × (◌≡◌ {A = ℕ} (if cat then 0 else if spread then repeated width 0 sum (number_value is_input) width 0 else 0) 0)
+      by_cat : (cat spread : Bool)
+          → ((if cat then false else if spread then repeated width false either (any_value is_input) width false || (if has_aggregator (class_of inv) then folds_value width false either (any_value is_input) inv else false) else false) ≡ false)
+          × (◌≡◌ {A = ℕ} (if cat then 0 else if spread then repeated width 0 sum (number_value is_input) width 0 + (if has_aggregator (class_of inv) then folds_value width 0 sum (number_value is_input) inv else 0) else 0) 0)
       by_cat true spread = (refl, refl)
-      by_cat false true = none-repeated width
+      by_cat false true = (
+        spread-none width false either (any_value is_input) (any-gathers is_input (λ text. refl) (λ close. refl) refl refl) inv refl refl refl,
+        spread-none width 0 sum (number_value is_input) (number-gathers is_input (λ text. refl) (λ close. refl) refl refl) inv refl refl refl,
+      )
       by_cat false false = (refl, refl)
 
   file-input : (it : Out) → (file_value width false either (any_value is_input) it ≡ false) × (file_value width 0 sum (number_value is_input) it ≡ 0)
@@ -1041,14 +1125,14 @@ module _ (width : ℕ) where
   util-output leads does.Skip count = (refl, refl)
   util-output leads (does.Util inv) count = by_cat (is_leading_cat leads inv) (is_spread width inv)
     where
-      none-repeated : (count : ℕ) → (repeated width false either (any_value is_output) count false ≡ false) × (repeated width 0 sum (number_value is_output) count 0 ≡ 0)
-      none-repeated zero = (refl, refl)
-      none-repeated (suc count) = let rest = none-repeated count in let none = rest.1 in (rest.0, omega (arith, none))
-
-      by_cat : (cat spread : Bool) → ((if cat then false else if spread then repeated width false either (any_value is_output) width false else false) ≡ false)
-          × (◌≡◌ {A = ℕ} (if cat then 0 else if spread then repeated width 0 sum (number_value is_output) width 0 else 0) 0)
+      by_cat : (cat spread : Bool)
+          → ((if cat then false else if spread then repeated width false either (any_value is_output) width false || (if has_aggregator (class_of inv) then folds_value width false either (any_value is_output) inv else false) else false) ≡ false)
+          × (◌≡◌ {A = ℕ} (if cat then 0 else if spread then repeated width 0 sum (number_value is_output) width 0 + (if has_aggregator (class_of inv) then folds_value width 0 sum (number_value is_output) inv else 0) else 0) 0)
       by_cat true spread = (refl, refl)
-      by_cat false true = none-repeated width
+      by_cat false true = (
+        spread-none width false either (any_value is_output) (any-gathers is_output (λ text. refl) (λ close. refl) refl refl) inv refl refl refl,
+        spread-none width 0 sum (number_value is_output) (number-gathers is_output (λ text. refl) (λ close. refl) refl refl) inv refl refl refl,
+      )
       by_cat false false = (refl, refl)
 
   file-output : (it : Out) → (file_value width false either (any_value is_output) it ≡ false) × (file_value width 0 sum (number_value is_output) it ≡ 0)

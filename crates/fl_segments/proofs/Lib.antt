@@ -5,7 +5,12 @@ pub mod FitLemmas
 pub mod ComingLemmas
 pub mod StageLemmas
 pub mod FoundLemmas
+pub mod PlainLemmas
 pub mod SpreadLemmas
+pub mod FinishLemmas
+pub mod FoldLemmas
+pub mod JoinLemmas
+pub mod HoldLemmas
 pub mod OutcomeLemmas
 pub mod StatusLemmas
 pub mod ChainLemmas

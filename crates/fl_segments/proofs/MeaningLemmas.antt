@@ -1,7 +1,7 @@
 -- What a graph that is made node by node leaves: each node's texts are had from those before it.
-use Rattle.std.proofs.Common.{◌≡◌, ℕ, zero, suc, ◌+◌, ◌-◌, ◌<◌, ◌==◌, List, [], ◌∷◌, ◌++◌, Bool, true, false, ◌&&◌, Option, Some, None, is_some, if◌then◌else◌, get_or, length, map, nat_le, nat_lt, replicate, refl, ap, sym, subst, ◌∙◌, append-nil, append_assoc, length-append, arith, eq-eqb}
+use Rattle.std.proofs.Common.{◌≡◌, ℕ, zero, suc, ◌+◌, ◌<◌, ◌==◌, List, [], ◌∷◌, ◌++◌, Bool, true, ◌&&◌, Option, Some, None, is_some, if◌then◌else◌, get_or, length, map, nat_le, nat_lt, replicate, refl, ap, sym, subst, ◌∙◌, append-nil, append_assoc, length-append, arith}
 use Rattle.std.specs.List.{list_all, cons_option, range_with_len}
-use Rattle.std.proofs.lemmas.Bool.{true≢false, and_parts, eqb-true, ltb-true, lt-ltb, ne_eqb}
+use Rattle.std.proofs.lemmas.Bool.{and_parts, eqb-true, ltb-true}
 use Rattle.std.proofs.lemmas.List.FromFn.{length-range_with_len}
 use Rattle.ps_world.specs.Paths.{Components}
 use Rattle.fl_graph.specs.Net.{run, step as node_step, store}
@@ -17,7 +17,7 @@ use Rattle.fl_classes.specs.Sources.{source_texts, text_read}
 use Rattle.fl_classes.proofs.PartLemmas.{parts_of-count}
 use Rattle.fl_segments.specs.Inner.Drawing.{Step, behind, drawn, next_of, outs_of}
 use Rattle.fl_segments.proofs.DrawingLemmas.{AreBelow, fits_ports, next-is}
-use Rattle.fl_segments.proofs.RowLemmas.{get-behind, get-front}
+use Rattle.fl_segments.proofs.RowLemmas.{Agrees, put-count, put-front, put_behind, store-row}
 
 -- the text on an edge, where these are on the edges in order
 abbrev pub text_at : List (List ℕ) → ℕ → List ℕ
@@ -36,11 +36,6 @@ fitted zero texts = []
 fitted (suc count) [] = [] ∷ fitted count []
 fitted (suc count) (text ∷ texts) = text ∷ fitted count texts
 
--- texts behind others
-abbrev pub put_behind : List (List ℕ) → List (List ℕ) → List (List ℕ)
-put_behind texts [] = texts
-put_behind texts (text ∷ more) = texts ++ text ∷ more
-
 pub fitted-count : (count : ℕ) (texts : List (List ℕ)) → length (fitted count texts) ≡ count
 fitted-count zero texts = refl
 fitted-count (suc count) [] = ap suc (fitted-count count [])
@@ -51,52 +46,6 @@ fitted-same zero [] is = refl
 fitted-same zero (text ∷ texts) is = absurd (omega (arith, is))
 fitted-same (suc count) [] is = absurd (omega (arith, is))
 fitted-same (suc count) (text ∷ texts) is = ap (λ (rest : List (List ℕ)). text ∷ rest) (fitted-same count texts (omega (arith, is)))
-
-pub put-is : (texts more : List (List ℕ)) → put_behind texts more ≡ texts ++ more
-put-is texts [] = sym (append-nil texts)
-put-is texts (text ∷ more) = refl
-
-pub put-count : (texts more : List (List ℕ)) → length (put_behind texts more) ≡ length texts + length more
-put-count texts more = ap length (put-is texts more) ∙ length-append texts more
-
-pub put-front : (texts more : List (List ℕ)) (edge : ℕ) → edge < length texts → text_at (put_behind texts more) edge ≡ text_at texts edge
-put-front texts more edge below = ap (λ (all : List (List ℕ)). text_at all edge) (put-is texts more) ∙ get-front texts more edge [] below
-
-abbrev pub Agrees : (ℕ → List ℕ) → List (List ℕ) → Type 0
-Agrees values texts = (edge : ℕ) → edge < length texts → values edge ≡ text_at texts edge
-
--- the texts of edges in a row are stored
-store-below : (start : ℕ) (new : List (List ℕ)) (values : ℕ → List ℕ) (edge : ℕ) → edge < start → store (range_with_len start (length new)) new values edge ≡ values edge
-store-below start [] values edge below = refl
-store-below start (text ∷ new) values edge below =
-    ap (λ (here : Bool). if here then text else store (range_with_len (start + 1) (length new)) new values edge) (ne_eqb start edge (λ same. omega (arith, below, same)))
-    ∙ store-below (start + 1) new values edge (omega (arith, below))
-
-store-at : (start : ℕ) (new : List (List ℕ)) (values : ℕ → List ℕ) (place : ℕ) → place < length new → store (range_with_len start (length new)) new values (start + place) ≡ text_at new place
-store-at start [] values place below = absurd (omega (arith, below))
-store-at start (text ∷ new) values zero below =
-    ap (λ (here : Bool). if here then text else store (range_with_len (start + 1) (length new)) new values (start + 0)) (eq-eqb start (start + 0) (omega arith))
-store-at start (text ∷ new) values (suc place) below =
-    let on : start + suc place ≡ (start + 1) + place = omega arith in
-    ap (λ (here : Bool). if here then text else store (range_with_len (start + 1) (length new)) new values (start + suc place)) (ne_eqb start (start + suc place) (λ same. omega (arith, same)))
-    ∙ ap (store (range_with_len (start + 1) (length new)) new values) on
-    ∙ store-at (start + 1) new values place (omega (arith, below))
-
-store-row : (texts new : List (List ℕ)) (values : ℕ → List ℕ) → Agrees values texts → Agrees (store (range_with_len (length texts) (length new)) new values) (put_behind texts new)
-store-row texts new values agrees edge within = by_test (nat_lt edge (length texts)) refl
-  where
-    by_test : (less : Bool) → nat_lt edge (length texts) ≡ less → store (range_with_len (length texts) (length new)) new values edge ≡ text_at (put_behind texts new) edge
-    by_test true less =
-        let below : edge < length texts = ltb-true edge (length texts) less in
-        store-below (length texts) new values edge below ∙ agrees edge below ∙ sym (put-front texts new edge below)
-    by_test false less =
-        let past : edge < length texts → ⊥ = λ below. true≢false (sym (lt-ltb edge (length texts) below) ∙ less) in
-        let size = put-count texts new in
-        let place : ℕ = edge - length texts in
-        let there : edge ≡ length texts + place = omega (arith, past) in
-        let below : place < length new = omega (arith, past, within, size) in
-        ap (store (range_with_len (length texts) (length new)) new values) there ∙ store-at (length texts) new values place below
-        ∙ sym (ap (text_at (put_behind texts new)) there ∙ ap (λ (all : List (List ℕ)). text_at all (length texts + place)) (put-is texts new) ∙ get-behind texts new place [])
 
 module _ (input : List ℕ) (files : Components → List ℕ) where
   -- the texts that a node gives
@@ -135,7 +84,7 @@ module _ (input : List ℕ) (files : Components → List ℕ) where
       let size = on-count texts it in
       let more = next-is it.outs (length texts) in
       keeps-text (texts_on texts it) steps edge (omega (arith, below, size, more))
-      ∙ put-front texts (fitted it.outs (given_texts it.kind it.outs (ins_texts texts it))) edge below
+      ∙ put-front [] texts (fitted it.outs (given_texts it.kind it.outs (ins_texts texts it))) edge below
 
   reads-text : (it : NodeKind) → is_source it ≡ is_some (text_read input files it)
   reads-text (kind.Source (from.File path)) = refl
@@ -195,7 +144,7 @@ module _ (input : List ℕ) (files : Components → List ℕ) where
     tell_placed node ins = tell node.1 ins
 
     -- where the texts on the edges so far are known
-    told-drawn : (front texts : List (List ℕ)) (steps : List Step) (values : ℕ → List ℕ) → AreBelow (length texts) steps → list_all fits_ports steps ≡ true → Agrees values texts
+    told-drawn : (front texts : List (List ℕ)) (steps : List Step) (values : ℕ → List ℕ) → AreBelow (length texts) steps → list_all fits_ports steps ≡ true → Agrees [] values texts
         → run (equation (front ++ source_texts (drawn (length texts) steps) input files)) tell_placed (placed_from (length front) (drawn (length texts) steps)) values ≡ told_from texts steps
     told-drawn front texts [] values below fit agrees = refl
     told-drawn front texts (it ∷ steps) values below fit agrees =
@@ -215,7 +164,7 @@ module _ (input : List ℕ) (files : Components → List ℕ) where
         (gives-texts it.kind front (source_texts cells input files) it.outs (ins_texts texts it)
         ∙ sym (fitted-same it.outs given (given-count it.kind (length it.ins) it.outs (ins_texts texts it) parts.0)))
         ∙ ap (λ (count : ℕ). store (range_with_len (length texts) count) new values edge) (sym (fitted-count it.outs given)) in
-        let agree : Agrees stored all = λ edge within. put edge ∙ store-row texts new values agrees edge within in
+        let agree : Agrees [] stored all = λ edge within. put edge ∙ store-row [] texts new values agrees edge within in
         ap (λ (ins : List (List ℕ)). tell it.kind ins ++ run (equation sources) tell_placed (placed_from (if is_source it.kind then length front + 1 else length front) cells) stored) same_ins
         ∙ ap (λ (rest : List Told). tell it.kind (ins_texts texts it) ++ rest)
         (behind_front cells stored (told_from (texts_on texts it) steps)

@@ -16,9 +16,9 @@ use Rattle.ut_args.specs.declared.invocations.CatInv.{CatInv}
 use Rattle.fl_graph.specs.declared.kinds.NodeKind.{NodeKind}
 use Rattle.fl_graph.specs.declared.kinds.NodeKind.TheVariants as kind
 use Rattle.fl_graph.specs.declared.kinds.To.TheVariants as to
-use Rattle.fl_classes.specs.Aggregates.{map_of}
+use Rattle.fl_classes.specs.Aggregates.{finish_of, map_of}
 use Rattle.fl_classes.specs.Flow.{Outcome, Write, ToOutput, ToFile, only, to_file, to_output, writes_of}
-use Rattle.fl_classes.specs.Laws.{IsOfClass, IsStateless}
+use Rattle.fl_classes.specs.Laws.{IsOfClass, IsParallel, IsStateless}
 use Rattle.fl_classes.specs.Parts.{parts_of}
 use Rattle.fl_classes.specs.Used.{is_cat}
 use Rattle.fl_classes.specs.Utilities.{labelled, names_of, output_of}
@@ -26,9 +26,9 @@ use Rattle.fl_classes.proofs.ClassLemmas.{is-of-class, keeps-closed, or-none}
 use Rattle.fl_classes.proofs.CutLemmas.{maps-cut, over_lines}
 use Rattle.fl_classes.proofs.PartLemmas.{parts_of-count, parts-cut, parts-joined}
 use Rattle.fl_segments.specs.Chains.{begins_with, chain_means, files_teed, joined_text, joined_texts, led_on, led_to_file, output_by, stage_means, status_by, text_in, texts_read}
-use Rattle.fl_segments.specs.Stages.{closes_before, ins_read, is_none, is_reader, is_spread, is_stage, is_stream, joins_before, may_spread, read_of}
+use Rattle.fl_segments.specs.Stages.{closes_before, ins_read, is_none, is_reader, is_spread, is_stage, is_stream, joins_before, may_spread, read_of, has_finish}
 use Rattle.fl_segments.specs.Inner.Drawing.{Step, step, behind, split_step}
-use Rattle.fl_segments.specs.Inner.Steps.{begins, chain_steps, comes_behind, comes_cut, comes_on, does_parts, does_steps, done_next, done_parts, done_steps, drain_steps, each_ended, earlier_steps, end_edge, end_next, first_parts, first_steps, front_edges, front_next, front_steps, goes_steps, hands_on, in_edges, in_steps, input_edges, input_steps, is_leading_cat, is_next, join_steps, joined_edges, kind_first, kind_in, last_steps, main_parts, main_steps, map_steps, on_steps, one_part, out_steps, parts_on, piped_steps, read_edges, read_steps, split_cut, split_edges, split_steps, spread_parts, spread_steps, stands, takes_any, takes_parts, util_parts, util_steps, whole_edge, whole_steps}
+use Rattle.fl_segments.specs.Inner.Steps.{begins, chain_steps, comes_behind, comes_cut, comes_on, does_parts, does_steps, done_next, done_parts, done_steps, drain_steps, each_ended, earlier_steps, end_edge, end_next, first_parts, first_steps, front_edges, front_next, front_steps, goes_steps, hands_on, in_edges, in_steps, input_edges, input_steps, is_leading_cat, is_next, join_steps, joined_edges, kind_first, kind_in, last_steps, main_parts, main_steps, map_steps, on_steps, one_part, out_steps, parts_on, piped_steps, read_edges, read_steps, split_cut, split_edges, split_steps, spread_parts, spread_steps, stands, takes_any, takes_parts, util_parts, util_steps, whole_edge, whole_steps, Tree, finish_edge, finish_steps, fold_parts, fold_steps, mapped_parts, mapped_steps, tree_of, tree_steps, folded_steps, folded_edge, tree_edge, tree_over}
 use Rattle.fl_segments.specs.declared.parts.Coming.{Coming}
 use Rattle.fl_segments.specs.declared.parts.Coming.TheVariants as coming
 use Rattle.fl_segments.specs.declared.parts.Parts.{Parts}
@@ -44,9 +44,12 @@ use Rattle.fl_segments.specs.declared.stages.Stage.{Stage}
 use Rattle.fl_segments.proofs.ComingLemmas.{IsSingle, IsTaken, MayCome, goes-may, lone-edges, lone-steps, same-util, taken-of}
 use Rattle.fl_segments.proofs.FitLemmas.{Fits, few-streams, no-tees, parts-of}
 use Rattle.fl_segments.proofs.FoundLemmas.{main-all, of-kinds}
-use Rattle.fl_segments.proofs.MeaningLemmas.{ins_texts, keeps-text, put_behind, put-is, fitted, fitted-count, fitted-same, text_at, texts_behind, texts_on, texts-count, told_from, texts-append, told-append}
-use Rattle.fl_segments.proofs.RowLemmas.{get-front, get-here, map-both, row-texts}
-use Rattle.fl_segments.proofs.StageLemmas.{AllBelow, all-more, behind-more, does-passes, does-some, earlier-passes, front-passes, input-passes, main-some, open_coming, spread-class, spread-one, spread-wide, split-count, split-passes, whole-passes}
+use Rattle.fl_segments.proofs.MeaningLemmas.{ins_texts, keeps-text, fitted, fitted-count, fitted-same, text_at, texts_behind, texts_on, texts-count, told_from, texts-append, told-append}
+use Rattle.fl_segments.proofs.RowLemmas.{get-front, get-here, map-both, row-texts, put-is, put_behind}
+use Rattle.fl_segments.proofs.StageLemmas.{AllBelow, all-more, behind-more, does-passes, does-some, earlier-passes, front-passes, input-passes, main-some, open_coming, spread-class, spread-one, spread-wide, split-count, split-passes, whole-passes, leaves, leaves-are, mapped-passes, mapped-some}
+use Rattle.fl_segments.proofs.FoldLemmas.{tree-text}
+use Rattle.fl_segments.proofs.FinishLemmas.{finish-none}
+use Rattle.fl_graph.specs.Kinds.{has_aggregator}
 
 none-empty : (text : List ℕ) → is_empty text ≡ true → text ≡ []
 none-empty [] is = refl
@@ -102,18 +105,28 @@ over_bytes inv law [] = over_lines inv seam.Bytes law [] refl
 over_bytes inv law (text ∷ texts) = law.joins text (concat texts) tt ∙ ap (λ (rest : List ℕ). map_of inv text ++ rest) (over_bytes inv law texts)
 
 -- the maps of its parts, joined, are its output
-pub parted-output : (inv : Inv) (text : List ℕ) (texts : List (List ℕ)) (cut : Bool) → may_spread (class_of inv) ≡ true → Parted inv text texts cut
+pub parted-output : (inv : Inv) (text : List ℕ) (texts : List (List ℕ)) (cut : Bool) → may_spread (class_of inv) ≡ true → has_aggregator (class_of inv) ≡ false → Parted inv text texts cut
     → concat (map (map_of inv) texts) ≡ output_of inv (text ∷ [])
-parted-output inv text texts cut may parted = by_class (class_of inv) refl (is-of-class inv)
+parted-output inv text texts cut may folds parted = by_class (class_of inv) refl (is-of-class inv)
   where
     by_class : (of : Class) → class_of inv ≡ of → IsOfClass of inv → concat (map (map_of inv) texts) ≡ output_of inv (text ∷ [])
     by_class (class.S seam.Bytes) is law = sym (over_bytes inv law texts) ∙ ap (map_of inv) parted.whole ∙ sym (law.whole text)
     by_class (class.S seam.Lines) is law =
         let cut_is : cut ≡ true = sym (or-none cut) ∙ ap (λ (of : Class). cut || takes_any of) (sym is) ∙ parted.may in
         sym (over_lines inv seam.Lines law texts (parted.is_cut cut_is)) ∙ ap (map_of inv) parted.whole ∙ sym (law.whole text)
-    by_class class.P is law = absurd (true≢false (sym (sym (ap may_spread is) ∙ may)))
+    by_class class.P is law = absurd (true≢false (sym (ap has_aggregator is) ∙ folds))
     by_class class.N is law = absurd (true≢false (sym (sym (ap may_spread is) ∙ may)))
     by_class class.E is law = absurd (true≢false (sym (sym (ap may_spread is) ∙ may)))
+
+-- where maps are aggregated, the texts are a cut list
+parallel-law : (inv : Inv) → has_aggregator (class_of inv) ≡ true → IsParallel inv × (takes_any (class_of inv) ≡ false)
+parallel-law inv folds = by_class (class_of inv) refl (is-of-class inv)
+  where
+    by_class : (of : Class) → class_of inv ≡ of → IsOfClass of inv → IsParallel inv × (takes_any (class_of inv) ≡ false)
+    by_class (class.S seam) is law = absurd (true≢false (sym (sym (ap has_aggregator is) ∙ folds)))
+    by_class class.P is law = (law, ap takes_any is)
+    by_class class.N is law = absurd (true≢false (sym (sym (ap has_aggregator is) ∙ folds)))
+    by_class class.E is law = absurd (true≢false (sym (sym (ap has_aggregator is) ∙ folds)))
 
 -- the parts that a split makes
 pub parted-split : (inv : Inv) (text : List ℕ) (width : ℕ) → 1 ≤ width → Parted inv text (parts_of text width) true
@@ -339,18 +352,59 @@ module _ (input : List ℕ) (files : Components → List ℕ) where
       below-texts texts (split_steps width number edges) (split_edges width edges (length texts)) ((split-passes width number edges (length texts)).within all)
 
   -- the texts of its maps
-  spread-texts : (width number : ℕ) (inv : Inv) (parts : Parts) (texts : List (List ℕ)) → AllBelow (length texts) parts.edges
-      → map (text_at (texts_behind input files texts (spread_steps width number inv parts.edges (length texts)))) (spread_parts width number inv parts (length texts)).edges
-      ≡ map (map_of inv) (map (text_at (texts_behind input files texts (split_steps width number parts.edges))) (split_edges width parts.edges (length texts)))
-  spread-texts width number inv parts texts all =
-      let split : List Step = split_steps width number parts.edges in
-      let edges : List ℕ = split_edges width parts.edges (length texts) in
+  mapped-texts : (width number : ℕ) (inv : Inv) (edges : List ℕ) (cut : Bool) (texts : List (List ℕ)) → AllBelow (length texts) edges
+      → map (text_at (texts_behind input files texts (mapped_steps width number inv edges (length texts)))) (mapped_parts width number inv edges (length texts) cut).edges
+      ≡ map (map_of inv) (map (text_at (texts_behind input files texts (split_steps width number edges))) (split_edges width edges (length texts)))
+  mapped-texts width number inv edges cut texts all =
+      let split : List Step = split_steps width number edges in
+      let parts : List ℕ = split_edges width edges (length texts) in
       let on : List (List ℕ) = texts_behind input files texts split in
-      let maps : List Step = map_steps number inv edges in
+      let maps : List Step = map_steps number inv parts in
       ap (λ (final : List (List ℕ)). map (text_at final) (range_with_len (behind (length texts) split) width)) (texts-append input files texts split maps)
       ∙ ap (λ (from : ℕ). map (text_at (texts_behind input files on maps)) (range_with_len from width)) (sym (texts-count input files texts split))
-      ∙ ap (λ (count : ℕ). map (text_at (texts_behind input files on maps)) (range_with_len (length on) count)) (sym (split-count width parts.edges (length texts)))
-      ∙ maps-texts number inv edges on (split-below width number parts.edges texts all)
+      ∙ ap (λ (count : ℕ). map (text_at (texts_behind input files on maps)) (range_with_len (length on) count)) (sym (split-count width edges (length texts)))
+      ∙ maps-texts number inv parts on (split-below width number edges texts all)
+
+  -- what is made of them
+  fold-carries : (number : ℕ) (inv : Inv) (parts : Parts) (text : List ℕ) (there texts : List (List ℕ)) (cut : Bool) → may_spread (class_of inv) ≡ true → 1 ≤ length parts.edges → AllBelow (length texts) parts.edges
+      → map (text_at texts) parts.edges ≡ map (map_of inv) there → Parted inv text there cut → (parts.cut ≡ true → cut ≡ true × keeps_closed_of inv ≡ true)
+      → Carries (texts_behind input files texts (fold_steps number inv parts.edges (length texts))) (fold_parts number inv parts (length texts)) (output_of inv (text ∷ []))
+  fold-carries number inv parts text there texts cut may some all are parted cuts = by_test (has_aggregator (class_of inv)) refl
+    where
+      tree : Tree
+      tree = tree_of (length parts.edges) parts.edges
+
+      by_finish : (law : IsParallel inv) (on : List (List ℕ)) (edge : ℕ) → text_at on edge ≡ map_of inv text
+          → Carries (texts_behind input files on (finish_steps number inv edge)) (one_part (finish_edge inv edge (length on))) (output_of inv (text ∷ []))
+      by_finish law on edge is = by_has (has_finish inv) refl
+        where
+          by_has : (finishes : Bool) → has_finish inv ≡ finishes
+              → Carries (texts_behind input files on (if finishes then step (kind.Finish inv) (edge ∷ []) number ∷ [] else [])) (one_part (if finishes then length on else edge)) (output_of inv (text ∷ []))
+          by_has true so =
+              carries-one (on ++ finish_of inv (text_at on edge) ∷ []) (length on) (output_of inv (text ∷ []))
+              (get-here on [] (finish_of inv (text_at on edge)) [] ∙ ap (finish_of inv) is ∙ sym (law.whole text))
+          by_has false so = carries-one on edge (output_of inv (text ∷ [])) (is ∙ sym (finish-none inv law so text) ∙ sym (law.whole text))
+
+      by_test : (folds : Bool) → has_aggregator (class_of inv) ≡ folds
+          → Carries (texts_behind input files texts (if folds then folded_steps number inv parts.edges (length texts) else []))
+          (if folds then one_part (folded_edge number inv parts.edges (length texts)) else parts) (output_of inv (text ∷ []))
+      by_test false so = record {
+        whole = ap concat are ∙ parted-output inv text there cut may so parted;
+        is_cut = λ both. (let each = cuts both in ap is_cutlist are ∙ maps-cut inv (keeps-closed inv each.1) there (parted.is_cut each.0));
+      }
+      by_test true so =
+          let law = parallel-law inv so in
+          let cut_is : cut ≡ true = sym (or-none cut) ∙ ap (λ (any : Bool). cut || any) (sym law.1) ∙ parted.may in
+          let took : leaves (tree_of (length parts.edges) parts.edges) ≡ parts.edges = leaves-are (length parts.edges) parts.edges some (omega arith) in
+          let edge : ℕ = tree_edge (tree_over parts.edges) (length texts) in
+          let steps : List Step = tree_steps number inv (tree_of (length parts.edges) parts.edges) (length texts) in
+          let on : List (List ℕ) = texts_behind input files texts steps in
+          let last : text_at on edge ≡ map_of inv text =
+          tree-text input files number inv law.0 (tree_of (length parts.edges) parts.edges) texts there (subst (AllBelow (length texts)) (sym took) all) (ap (map (text_at texts)) took ∙ are) (parted.is_cut cut_is)
+          ∙ ap (map_of inv) parted.whole in
+          subst (λ (final : List (List ℕ)). Carries final (one_part (finish_edge inv edge (behind (length texts) steps))) (output_of inv (text ∷ []))) (sym (texts-append input files texts steps (finish_steps number inv edge)))
+          (subst (λ (from : ℕ). Carries (texts_behind input files on (finish_steps number inv edge)) (one_part (finish_edge inv edge from)) (output_of inv (text ∷ []))) (texts-count input files texts steps)
+          (by_finish law.0 on edge last))
 
   spread-carries : (width number : ℕ) (inv : Inv) (parts : Parts) (text : List ℕ) (texts : List (List ℕ)) → is_spread width inv ≡ true → AllBelow (length texts) parts.edges → Comes width inv text texts parts.edges parts.cut
       → Carries (texts_behind input files texts (spread_steps width number inv parts.edges (length texts))) (spread_parts width number inv parts (length texts)) (output_of inv (text ∷ []))
@@ -359,12 +413,15 @@ module _ (input : List ℕ) (files : Components → List ℕ) where
       let there : List (List ℕ) = map (text_at (texts_behind input files texts (split_steps width number parts.edges))) (split_edges width parts.edges (length texts)) in
       let cut : Bool = split_cut width parts.edges parts.cut in
       let parted : Parted inv text there cut = split-parted width number inv parts.edges parts.cut text texts (omega (arith, wide)) comes in
-      let are = spread-texts width number inv parts texts all in
-      record {
-        whole = ap concat are ∙ parted-output inv text there cut (spread-class width inv spread) parted;
-        is_cut = λ both. (let each = and_parts cut (keeps_closed_of inv) both in
-            ap is_cutlist are ∙ maps-cut inv (keeps-closed inv each.1) there (parted.is_cut each.0));
-      }
+      let mapped : List Step = mapped_steps width number inv parts.edges (length texts) in
+      let maps : Parts = mapped_parts width number inv parts.edges (length texts) parts.cut in
+      let on : List (List ℕ) = texts_behind input files texts mapped in
+      let size : length on ≡ behind (length texts) mapped = texts-count input files texts mapped in
+      let below : AllBelow (length on) maps.edges = below-texts texts mapped maps.edges ((mapped-passes width number inv parts.edges parts.cut (length texts)).within all) in
+      let here = fold-carries number inv maps text there on cut (spread-class width inv spread) (mapped-some width number inv parts.edges parts.cut (length texts) (omega (arith, wide))) below
+      (mapped-texts width number inv parts.edges parts.cut texts all) parted (λ both. and_parts cut (keeps_closed_of inv) both) in
+      subst (λ (final : List (List ℕ)). Carries final (spread_parts width number inv parts (length texts)) (output_of inv (text ∷ []))) (sym (texts-append input files texts mapped (fold_steps number inv maps.edges (behind (length texts) mapped))))
+      (subst (λ (from : ℕ). Carries (texts_behind input files on (fold_steps number inv maps.edges from)) (fold_parts number inv maps from) (output_of inv (text ∷ []))) size here)
 
   -- WHAT A STAGE WRITES
   -- the one input of a utility that is spread
@@ -608,7 +665,7 @@ module _ (input : List ℕ) (files : Components → List ℕ) where
   main-quiet : (width number : ℕ) (comes : Coming) (stage : Stage) (next : ℕ) → is_stage stage ≡ true → MayCome width comes stage → (texts : List (List ℕ)) → told_writes texts (main_steps width number comes stage next) ≡ []
   main-quiet width number comes stage next is may texts =
       quiet-writes texts (main_steps width number comes stage next)
-      (main-all width (λ kind ins outs. writes_nothing kind) (of-kinds width writes_nothing (λ text. refl) (λ close. refl) refl (λ source. refl) (λ inv built. refl) refl (λ inv built spread. refl)) number comes stage next is may)
+      (main-all width (λ kind ins outs. writes_nothing kind) (of-kinds width writes_nothing (λ text. refl) (λ close. refl) refl (λ source. refl) (λ inv built. refl) refl (λ inv built spread. refl) (λ inv built spread folds. refl) (λ inv built spread folds. refl)) number comes stage next is may)
 
   whole-quiet : (number : ℕ) (edges : List ℕ) (texts : List (List ℕ)) → told_writes texts (whole_steps number edges) ≡ []
   whole-quiet number edges texts = by_test (nat_lt 1 (length edges))

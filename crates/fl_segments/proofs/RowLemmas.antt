@@ -1,8 +1,8 @@
 -- Numbers in a row.
-use Rattle.std.proofs.Common.{◌≡◌, ℕ, zero, suc, ◌+◌, ◌<◌, ◌≤◌, ◌==◌, List, [], ◌∷◌, ◌++◌, Bool, true, false, ◌||◌, if◌then◌else◌, get_or, length, map, refl, ap, sym, ◌∙◌, append_assoc, length-append, arith, eq-eqb}
+use Rattle.std.proofs.Common.{◌≡◌, ℕ, zero, suc, ◌+◌, ◌-◌, ◌<◌, ◌≤◌, ◌==◌, List, [], ◌∷◌, ◌++◌, Bool, true, false, ◌||◌, if◌then◌else◌, get_or, length, map, nat_lt, refl, ap, sym, ◌∙◌, append-nil, append_assoc, length-append, arith, eq-eqb}
 use Rattle.std.specs.List.{range_with_len}
-use Rattle.std.proofs.lemmas.Bool.{true≢false, eqb-true, ne_eqb}
-use Rattle.fl_graph.specs.Net.{has, count}
+use Rattle.std.proofs.lemmas.Bool.{true≢false, eqb-true, lt-ltb, ltb-true, ne_eqb}
+use Rattle.fl_graph.specs.Net.{has, count, store}
 
 -- what stands behind a list's front, and in it
 pub get-here : {Value : Type 0} (front rest : List Value) (value spare : Value) → get_or (front ++ value ∷ rest) (length front) spare ≡ value
@@ -83,3 +83,55 @@ range-below start (suc size) edge there = by_first (start == edge) refl there (r
         → (has edge (range_with_len (start + 1) size) ≡ true → edge < start + 1 + size) → edge < start + suc size
     by_first true same _ _ = let is = eqb-true start edge same in omega (arith, is)
     by_first false _ later rest = let below = rest later in omega (arith, below)
+
+-- THE VALUES OF EDGES IN A ROW
+-- values behind others
+abbrev pub put_behind : {Value : Type 0} → List Value → List Value → List Value
+put_behind values [] = values
+put_behind values (value ∷ more) = values ++ value ∷ more
+
+pub put-is : {Value : Type 0} (values more : List Value) → put_behind values more ≡ values ++ more
+put-is values [] = sym (append-nil values)
+put-is values (value ∷ more) = refl
+
+pub put-count : {Value : Type 0} (values more : List Value) → length (put_behind values more) ≡ length values + length more
+put-count values more = ap length (put-is values more) ∙ length-append values more
+
+module _ {Value : Type 0} (spare : Value) where
+  pub put-front : (values more : List Value) (edge : ℕ) → edge < length values → get_or (put_behind values more) edge spare ≡ get_or values edge spare
+  put-front values more edge below = ap (λ (all : List Value). get_or all edge spare) (put-is values more) ∙ get-front values more edge spare below
+
+  abbrev pub Agrees : (ℕ → Value) → List Value → Type 0
+  Agrees at values = (edge : ℕ) → edge < length values → at edge ≡ get_or values edge spare
+
+  store-below : (start : ℕ) (new : List Value) (at : ℕ → Value) (edge : ℕ) → edge < start → store (range_with_len start (length new)) new at edge ≡ at edge
+  store-below start [] at edge below = refl
+  store-below start (value ∷ new) at edge below =
+      ap (λ (here : Bool). if here then value else store (range_with_len (start + 1) (length new)) new at edge) (ne_eqb start edge (λ same. omega (arith, below, same)))
+      ∙ store-below (start + 1) new at edge (omega (arith, below))
+
+  store-at : (start : ℕ) (new : List Value) (at : ℕ → Value) (place : ℕ) → place < length new → store (range_with_len start (length new)) new at (start + place) ≡ get_or new place spare
+  store-at start [] at place below = absurd (omega (arith, below))
+  store-at start (value ∷ new) at zero below =
+      ap (λ (here : Bool). if here then value else store (range_with_len (start + 1) (length new)) new at (start + 0)) (eq-eqb start (start + 0) (omega arith))
+  store-at start (value ∷ new) at (suc place) below =
+      let on : start + suc place ≡ (start + 1) + place = omega arith in
+      ap (λ (here : Bool). if here then value else store (range_with_len (start + 1) (length new)) new at (start + suc place)) (ne_eqb start (start + suc place) (λ same. omega (arith, same)))
+      ∙ ap (store (range_with_len (start + 1) (length new)) new at) on
+      ∙ store-at (start + 1) new at place (omega (arith, below))
+
+  pub store-row : (values new : List Value) (at : ℕ → Value) → Agrees at values → Agrees (store (range_with_len (length values) (length new)) new at) (put_behind values new)
+  store-row values new at agrees edge within = by_test (nat_lt edge (length values)) refl
+    where
+      by_test : (less : Bool) → nat_lt edge (length values) ≡ less → store (range_with_len (length values) (length new)) new at edge ≡ get_or (put_behind values new) edge spare
+      by_test true less =
+          let below : edge < length values = ltb-true edge (length values) less in
+          store-below (length values) new at edge below ∙ agrees edge below ∙ sym (put-front values new edge below)
+      by_test false less =
+          let past : edge < length values → ⊥ = λ below. true≢false (sym (lt-ltb edge (length values) below) ∙ less) in
+          let size = put-count values new in
+          let place : ℕ = edge - length values in
+          let there : edge ≡ length values + place = omega (arith, past) in
+          let below : place < length new = omega (arith, past, within, size) in
+          ap (store (range_with_len (length values) (length new)) new at) there ∙ store-at (length values) new at place below
+          ∙ sym (ap (λ (edge : ℕ). get_or (put_behind values new) edge spare) there ∙ ap (λ (all : List Value). get_or all (length values + place) spare) (put-is values new) ∙ get-behind values new place spare)

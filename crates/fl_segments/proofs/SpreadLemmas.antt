@@ -1,10 +1,9 @@
 -- Each stage of a segment has its maps, or its whole.
-use Rattle.std.proofs.Common.{◌≡◌, ℕ, zero, suc, ◌+◌, ◌<◌, ◌==◌, List, [], ◌∷◌, ◌++◌, Bool, true, false, ◌&&◌, Option, Some, None, if◌then◌else◌, length, nat_lt, slice_get, is_some, refl, ap, sym, ◌∙◌, arith, eq-eqb}
+use Rattle.std.proofs.Common.{◌≡◌, ℕ, zero, suc, ◌+◌, ◌<◌, ◌==◌, List, [], ◌∷◌, ◌++◌, Bool, true, false, ◌&&◌, Option, Some, None, if◌then◌else◌, length, nat_lt, slice_get, is_some, refl, ap, sym, ◌∙◌, arith, eq-eqb, ◌≤◌, ◌-◌}
 use Rattle.std.specs.List.{count_by, list_all}
 use Rattle.std.proofs.lemmas.Bool.{true≢false, and_from, and_parts, eqb-true, lt-ltb, ltb-true, ne_eqb}
 use Rattle.std.proofs.lemmas.List.Folds.{list_all-append}
 use Rattle.std.proofs.lemmas.List.Sums.{sum_by-append, sum_by-cons}
-use Rattle.ps_lines.specs.Lines.{is_empty}
 use Rattle.ut_args.specs.declared.invocations.Inv.{Inv}
 use Rattle.fl_graph.specs.declared.graphs.Cell.{Cell}
 use Rattle.fl_graph.specs.declared.kinds.NodeKind.{NodeKind}
@@ -13,10 +12,10 @@ use Rattle.fl_graph.specs.declared.kinds.From.{From}
 use Rattle.fl_graph.specs.declared.kinds.From.TheVariants as from
 use Rattle.fl_graph.specs.declared.kinds.To.{To}
 use Rattle.fl_graph.specs.declared.kinds.To.TheVariants as to
-use Rattle.fl_segments.specs.Spread.{IsSpread, count_at, is_map, is_unsplit, is_whole, maps_of, wholes_of}
-use Rattle.fl_segments.specs.Stages.{closes_before, goes_on, ins_of, is_none, is_reader, is_spread, is_stage}
+use Rattle.fl_segments.specs.Spread.{IsSpread, count_at, is_map, is_unsplit, is_whole, maps_of, wholes_of, aggregates_of, finishes_of, is_aggregate, is_finish}
+use Rattle.fl_segments.specs.Stages.{goes_on, ins_of, is_none, is_spread, is_stage, has_finish}
 use Rattle.fl_segments.specs.Inner.Drawing.{Step, step, split_step, behind, cell_of, drawn, next_of, outs_of}
-use Rattle.fl_segments.specs.Inner.Steps.{begins, chain_steps, comes_behind, does_steps, done_parts, done_steps, drain_steps, each_ended, earlier_steps, end_edge, end_next, first_steps, front_edges, front_next, front_steps, goes_steps, hands_on, in_edges, in_steps, input_steps, is_joined, is_leading_cat, join_steps, kind_in, last_steps, main_parts, main_steps, map_steps, on_steps, out_steps, piped_steps, read_steps, split_edges, split_steps, spread_steps, stands, stream_steps, util_steps, whole_steps}
+use Rattle.fl_segments.specs.Inner.Steps.{begins, chain_steps, comes_behind, does_steps, done_parts, done_steps, earlier_steps, end_next, first_steps, front_edges, front_next, front_steps, goes_steps, is_leading_cat, last_steps, main_parts, main_steps, Tree, Leaf, Join, tree_steps, joins_of, ends_from, tree_edge, mapped_parts, mapped_steps, finish_steps, tree_of, main_next, fold_steps, mapped_edges}
 use Rattle.fl_segments.specs.declared.parts.Coming.{Coming}
 use Rattle.fl_segments.specs.declared.parts.Coming.TheVariants as coming
 use Rattle.fl_segments.specs.declared.stages.Does.{Does}
@@ -29,8 +28,12 @@ use Rattle.fl_segments.specs.declared.stages.Out.{Out}
 use Rattle.fl_segments.specs.declared.stages.Out.TheVariants as out
 use Rattle.fl_segments.specs.declared.stages.Stage.{Stage}
 use Rattle.fl_segments.proofs.ComingLemmas.{MayCome, goes-may}
-use Rattle.fl_segments.proofs.DrawingLemmas.{all-drawn}
+use Rattle.fl_segments.proofs.DrawingLemmas.{all-drawn, joins_none}
 use Rattle.fl_segments.proofs.FoundLemmas.{Gathers, begins-behind, chain-all, earlier-gathered, file_value, first_value, goes_value, ins_value, last-gathered, main_value, number-found, number-gathers, number_value, read_count, repeated, stream_value, sum, util_value}
+use Rattle.fl_segments.proofs.PlainLemmas.{front-plain, none-plain, first-plain, goes-plain, ends-plain, mapped-plain, pass-if}
+use Rattle.ut_args.specs.Classes.{class_of}
+use Rattle.fl_graph.specs.Kinds.{has_aggregator}
+use Rattle.fl_segments.specs.declared.parts.Parts.{Parts}
 
 -- HOW MANY ARE OF A STAGE
 -- all are of this stage, and all are of a later one
@@ -105,89 +108,46 @@ own-later number other (it ∷ steps) less own =
     let same = eqb-true it.stage number parts.0 in
     and_from (nat_lt other it.stage) (list_all (λ (it : Step). nat_lt other it.stage) steps) (lt-ltb other it.stage (omega (arith, less, same))) (own-later number other steps less parts.1)
 
-own-one : (it : Step) → Own it.stage (it ∷ [])
-own-one it = and_from (it.stage == it.stage) true (eq-eqb it.stage it.stage refl) refl
+-- those that join no maps, and those that do
+abbrev is_own : ℕ → Step → Bool
+is_own number it = it.stage == number
 
-own-two : (one other : Step) → one.stage ≡ other.stage → Own other.stage (one ∷ other ∷ [])
-own-two one other same = and_from (one.stage == other.stage) ((other.stage == other.stage) && true) (eq-eqb one.stage other.stage same) (own-one other)
+plain-own : (number : ℕ) (it : NodeKind) (ins : List ℕ) → joins_none it ≡ true → is_own number (step it ins number) ≡ true
+plain-own number it ins none = eq-eqb number number refl
 
-own-if : (number : ℕ) (test : Bool) (one other : List Step) → Own number one → Own number other → Own number (if test then one else other)
-own-if number true one other first second = first
-own-if number false one other first second = second
+split-own : (number : ℕ) (ins : List ℕ) (parts : ℕ) → is_own number (split_step ins parts number) ≡ true
+split-own number ins parts = eq-eqb number number refl
 
-each-own : (number : ℕ) (edges : List ℕ) → Own number (each_ended number edges)
-each-own number [] = refl
-each-own number (edge ∷ edges) = own-append number (step kind.Drain (edge ∷ []) number ∷ []) (each_ended number edges) (own-one (step kind.Drain (edge ∷ []) number)) (each-own number edges)
+one-own : (number : ℕ) (it : NodeKind) (ins : List ℕ) → Own number (step it ins number ∷ [])
+one-own number it ins = and_from (number == number) true (eq-eqb number number refl) refl
 
-maps-own : (number : ℕ) (inv : Inv) (edges : List ℕ) → Own number (map_steps number inv edges)
-maps-own number inv [] = refl
-maps-own number inv (edge ∷ edges) =
-    own-append number (step (kind.Map inv) (edge ∷ []) number ∷ []) (map_steps number inv edges) (own-one (step (kind.Map inv) (edge ∷ []) number)) (maps-own number inv edges)
+tree-own : (number : ℕ) (inv : Inv) (tree : Tree) (next : ℕ) → Own number (tree_steps number inv tree next)
+tree-own number inv (Leaf edge) next = refl
+tree-own number inv (Join one other) next =
+    let left : List Step = tree_steps number inv one next in
+    let right : List Step = tree_steps number inv other (next + joins_of one) in
+    let ins : List ℕ = tree_edge one next ∷ tree_edge other (next + joins_of one) ∷ [] in
+    own-append number (left ++ right) (step (kind.Agg inv) ins number ∷ []) (own-append number left right (tree-own number inv one next) (tree-own number inv other (next + joins_of one)))
+    (one-own number (kind.Agg inv) ins)
 
-drain-own : (number : ℕ) (comes : Coming) (reads : Bool) → Own number (drain_steps number comes reads)
-drain-own number comes true = refl
-drain-own number (coming.Begins begin) false = refl
-drain-own number (coming.On parts) false = each-own number parts.edges
-drain-own number coming.Nothing false = refl
-
-input-own : (number : ℕ) (it : Option NodeKind) → Own number (input_steps number it)
-input-own number None = refl
-input-own number (Some kind) = own-one (step kind [] number)
-
-in-own : (number : ℕ) (comes : Coming) (ins : List In) → Own number (in_steps number comes ins)
-in-own number comes [] = refl
-in-own number comes (it ∷ ins) = own-append number (input_steps number (kind_in comes it)) (in_steps number comes ins) (input-own number (kind_in comes it)) (in-own number comes ins)
-
-read-own : (number : ℕ) (comes : Coming) (it : Does) (ins : List In) (next : ℕ) → Own number (read_steps number comes it ins next)
-read-own number comes does.Skip ins next = refl
-read-own number comes (does.Util inv) ins next =
-    let edges : List ℕ = in_edges number comes ins next in
-    own-append number (in_steps number comes ins) (join_steps number (begins comes) inv ins edges) (in-own number comes ins)
-    (own-if number (is_joined (begins comes) inv ins) (step (kind.Cat (closes_before inv)) edges number ∷ []) [] (own-one (step (kind.Cat (closes_before inv)) edges number)) refl)
-
-whole-own : (number : ℕ) (edges : List ℕ) → Own number (whole_steps number edges)
-whole-own number edges = own-if number (nat_lt 1 (length edges)) (step (kind.Cat false) edges number ∷ []) [] (own-one (step (kind.Cat false) edges number)) refl
-
-util-own : (width number : ℕ) (leads : Bool) (inv : Inv) (edges : List ℕ) (next : ℕ) → Own number (util_steps width number leads inv edges next)
-util-own width number leads inv edges next =
-    let maps : List Step = map_steps number inv (split_edges width edges next) in
-    own-if number (is_leading_cat leads inv) (if is_none edges then step (kind.Text []) [] number ∷ [] else []) (if is_spread width inv then spread_steps width number inv edges next else step (kind.Whole inv) edges number ∷ [])
-    (own-if number (is_none edges) (step (kind.Text []) [] number ∷ []) [] (own-one (step (kind.Text []) [] number)) refl)
-    (own-if number (is_spread width inv) (spread_steps width number inv edges next) (step (kind.Whole inv) edges number ∷ [])
-    (own-append number (split_steps width number edges) maps (own-if number (stands width edges) [] (split_step edges width number ∷ []) refl (own-one (split_step edges width number))) (maps-own number inv (split_edges width edges next)))
-    (own-one (step (kind.Whole inv) edges number)))
+fold-own : (number : ℕ) (inv : Inv) (parts : Parts) (next : ℕ) → Own number (fold_steps number inv parts.edges next)
+fold-own number inv parts next =
+    let tree : Tree = tree_of (length parts.edges) parts.edges in
+    let edge : ℕ = tree_edge tree next in
+    pass-if (is_own number) (has_aggregator (class_of inv)) (tree_steps number inv tree next ++ finish_steps number inv edge) []
+    (own-append number (tree_steps number inv tree next) (finish_steps number inv edge) (tree-own number inv tree next)
+    (pass-if (is_own number) (has_finish inv) (step (kind.Finish inv) (edge ∷ []) number ∷ []) [] (one-own number (kind.Finish inv) (edge ∷ [])) refl)) refl
 
 does-own : (width number : ℕ) (leads : Bool) (it : Does) (text edges : List ℕ) (next : ℕ) → Own number (does_steps width number leads it text edges next)
-does-own width number leads does.Skip text edges next = own-one (step (kind.Text text) [] number)
-does-own width number leads (does.Util inv) text edges next = util-own width number leads inv edges next
-
-first-own : (number : ℕ) (it : Does) (text edges : List ℕ) → Own number (first_steps number it text edges)
-first-own number does.Skip text edges = refl
-first-own number (does.Util inv) text edges =
-    own-if number (is_empty text) [] (whole_steps number edges ++ step (kind.Text text) [] number ∷ []) refl
-    (own-append number (whole_steps number edges) (step (kind.Text text) [] number ∷ []) (whole-own number edges) (own-one (step (kind.Text text) [] number)))
-
-piped-own : (number : ℕ) (piped : List ℕ) (next : ℕ) → Own number (piped_steps number piped next)
-piped-own number piped next =
-    own-if number (is_empty piped) [] (step (kind.Text piped) [] number ∷ step (kind.Sink to.Output) (next ∷ []) number ∷ []) refl
-    (own-two (step (kind.Text piped) [] number) (step (kind.Sink to.Output) (next ∷ []) number) refl)
-
-out-own : (number : ℕ) (it : Out) (piped : List ℕ) (edge next : ℕ) → Own number (out_steps number it piped edge next)
-out-own number out.Next piped edge next = own-one (step (kind.Sink to.Output) (edge ∷ []) number)
-out-own number (out.File path mode) piped edge next =
-    own-append number (step (kind.Sink (to.File path mode)) (edge ∷ []) number ∷ []) (piped_steps number piped next) (own-one (step (kind.Sink (to.File path mode)) (edge ∷ []) number)) (piped-own number piped next)
-out-own number out.Null piped edge next =
-    own-append number (step kind.Drain (edge ∷ []) number ∷ []) (piped_steps number piped next) (own-one (step kind.Drain (edge ∷ []) number)) (piped-own number piped next)
-
-stream-own : (number : ℕ) (piped : List ℕ) (reads : Bool) → Own number (stream_steps number piped reads)
-stream-own number piped reads = own-if number reads (step (kind.Text piped) [] number ∷ []) [] (own-one (step (kind.Text piped) [] number)) refl
-
-on-own : (number : ℕ) (it : Out) (piped : List ℕ) (reads : Bool) (edge : ℕ) → Own number (on_steps number it piped reads edge)
-on-own number out.Next piped reads edge = refl
-on-own number (out.File path mode) piped reads edge =
-    own-append number (step (kind.Sink (to.File path mode)) (edge ∷ []) number ∷ []) (stream_steps number piped reads) (own-one (step (kind.Sink (to.File path mode)) (edge ∷ []) number)) (stream-own number piped reads)
-on-own number out.Null piped reads edge =
-    own-append number (step kind.Drain (edge ∷ []) number ∷ []) (stream_steps number piped reads) (own-one (step kind.Drain (edge ∷ []) number)) (stream-own number piped reads)
+does-own width number leads does.Skip text edges next = one-own number (kind.Text text) []
+does-own width number leads (does.Util inv) text edges next =
+    let mapped : List Step = mapped_steps width number inv edges next in
+    let folds : List Step = fold_steps number inv (mapped_edges width number inv edges next) (behind next mapped) in
+    pass-if (is_own number) (is_leading_cat leads inv) (if is_none edges then step (kind.Text []) [] number ∷ [] else []) (if is_spread width inv then mapped ++ folds else step (kind.Whole inv) edges number ∷ [])
+    (none-plain number (is_own number) (plain-own number) (split-own number) edges)
+    (pass-if (is_own number) (is_spread width inv) (mapped ++ folds) (step (kind.Whole inv) edges number ∷ [])
+    (own-append number mapped folds (mapped-plain number (is_own number) (plain-own number) (split-own number) width inv edges next) (fold-own number inv (mapped_parts width number inv edges next false) (behind next mapped)))
+    (one-own number (kind.Whole inv) edges))
 
 module _ (width number : ℕ) (comes : Coming) (stage : Stage) (next : ℕ) where
   main-own : Own number (main_steps width number comes stage next)
@@ -195,25 +155,21 @@ module _ (width number : ℕ) (comes : Coming) (stage : Stage) (next : ℕ) wher
       let front : List Step = front_steps number comes stage next in
       let done : List Step = done_steps width number comes stage next in
       let firsts : List Step = first_steps number stage.does stage.first (done_parts width number comes stage next).edges in
-      own-append number front (done ++ firsts)
-      (own-append number (drain_steps number comes (is_reader stage)) (read_steps number comes stage.does stage.ins next) (drain-own number comes (is_reader stage)) (read-own number comes stage.does stage.ins next))
+      own-append number front (done ++ firsts) (front-plain number (is_own number) (plain-own number) (split-own number) comes stage next)
       (own-append number done firsts (does-own width number (begins comes) stage.does stage.first (front_edges number comes stage next) (front_next number comes stage next))
-      (first-own number stage.does stage.first (done_parts width number comes stage next).edges))
+      (first-plain number (is_own number) (plain-own number) (split-own number) stage.does stage.first (done_parts width number comes stage next).edges))
 
   last-own : Own number (last_steps width number comes stage next)
   last-own =
-      let edges : List ℕ = (main_parts width number comes stage next).edges in
-      let outs : List Step = out_steps number stage.out stage.piped (end_edge width number comes stage next) (end_next width number comes stage next) in
-      own-append number (main_steps width number comes stage next) (whole_steps number edges ++ outs) main-own
-      (own-append number (whole_steps number edges) outs (whole-own number edges) (out-own number stage.out stage.piped (end_edge width number comes stage next) (end_next width number comes stage next)))
+      let parts : Parts = main_parts width number comes stage next in
+      let from : ℕ = main_next width number comes stage next in
+      own-append number (main_steps width number comes stage next) (ends_from number stage parts from) main-own
+      (ends-plain number (is_own number) (plain-own number) (split-own number) stage parts from (end_next width number comes stage next))
 
   earlier-own : (following : Stage) → Own number (earlier_steps width number comes stage next following)
   earlier-own following =
-      let edges : List ℕ = (main_parts width number comes stage next).edges in
-      let ons : List Step = on_steps number stage.out stage.piped (is_reader following) (end_edge width number comes stage next) in
       own-append number (main_steps width number comes stage next) (goes_steps width number comes stage next following) main-own
-      (own-if number (hands_on width stage.out following (main_parts width number comes stage next)) [] (whole_steps number edges ++ ons) refl
-      (own-append number (whole_steps number edges) ons (whole-own number edges) (on-own number stage.out stage.piped (is_reader following) (end_edge width number comes stage next))))
+      (goes-plain number (is_own number) (plain-own number) (split-own number) width stage following (main_parts width number comes stage next) (main_next width number comes stage next))
 
 -- those of later stages
 chain-later : (width number : ℕ) (comes : Coming) (stages : List Stage) (next other : ℕ) → other < number → Later other (chain_steps width number comes stages next)
@@ -358,31 +314,77 @@ module _ (width : ℕ) where
   wholes-util : IsUtil is_whole
   wholes-util = record { text = λ text. refl; cat = λ close. refl; drain = refl; split = refl; source = λ source. refl; sink = λ sink. refl }
 
-  ones : (count : ℕ) → repeated width 0 (sum width) (number_value width is_map) count 1 ≡ count
-  ones zero = refl
-  ones (suc count) = let rest = ones count in omega (arith, rest)
+  aggs-util : IsUtil is_aggregate
+  aggs-util = record { text = λ text. refl; cat = λ close. refl; drain = refl; split = refl; source = λ source. refl; sink = λ sink. refl }
 
-  nones : (count : ℕ) → repeated width 0 (sum width) (number_value width is_whole) count 0 ≡ 0
-  nones zero = refl
-  nones (suc count) = let rest = nones count in omega (arith, rest)
+  finishes-util : IsUtil is_finish
+  finishes-util = record { text = λ text. refl; cat = λ close. refl; drain = refl; split = refl; source = λ source. refl; sink = λ sink. refl }
+
+  -- so many ones, or nothing so often
+  abbrev times_of : ℕ → ℕ → ℕ
+  times_of zero count = 0
+  times_of (suc one) count = count
+
+  times-is : (test : NodeKind → Bool) (one count : ℕ) → one ≤ 1 → repeated width 0 (sum width) (number_value width test) count one ≡ times_of one count
+  times-is test one zero few = by_one one
+    where
+      by_one : (one : ℕ) → 0 ≡ times_of one 0
+      by_one zero = refl
+      by_one (suc one) = refl
+  times-is test zero (suc count) few = let rest = times-is test zero count few in omega (arith, rest)
+  times-is test (suc one) (suc count) few = let rest = times-is test (suc one) count few in omega (arith, rest, few)
 
   maps-each : (leads : Bool) (it : Does) (count : ℕ) → util_value width 0 (sum width) (number_value width is_map) leads it count ≡ maps_of width leads it
   maps-each leads does.Skip count = refl
-  maps-each leads (does.Util inv) count = by_test (is_leading_cat leads inv) (is_spread width inv)
+  maps-each leads (does.Util inv) count = by_test (is_leading_cat leads inv) (is_spread width inv) (has_aggregator (class_of inv)) (has_finish inv)
     where
-      by_test : (cat spread : Bool) → ◌≡◌ {A = ℕ} (if cat then 0 else if spread then repeated width 0 (sum width) (number_value width is_map) width 1 else 0) (if cat then 0 else if spread then width else 0)
-      by_test true spread = refl
-      by_test false true = ones width
-      by_test false false = refl
+      by_test : (cat spread folds finishes : Bool)
+          → ◌≡◌ {A = ℕ} (if cat then 0 else if spread then repeated width 0 (sum width) (number_value width is_map) width 1 + (if folds then repeated width 0 (sum width) (number_value width is_map) (width - 1) 0 + (if finishes then 0 else 0) else 0) else 0)
+          (if cat then 0 else if spread then width else 0)
+      by_test true spread folds finishes = refl
+      by_test false false folds finishes = refl
+      by_test false true true true = let maps = times-is is_map 1 width (omega arith) in let aggs = times-is is_map 0 (width - 1) (omega arith) in omega (arith, maps, aggs)
+      by_test false true true false = let maps = times-is is_map 1 width (omega arith) in let aggs = times-is is_map 0 (width - 1) (omega arith) in omega (arith, maps, aggs)
+      by_test false true false finishes = let maps = times-is is_map 1 width (omega arith) in omega (arith, maps)
 
   wholes-each : (leads : Bool) (it : Does) (count : ℕ) → util_value width 0 (sum width) (number_value width is_whole) leads it count ≡ wholes_of width leads it
   wholes-each leads does.Skip count = refl
-  wholes-each leads (does.Util inv) count = by_test (is_leading_cat leads inv) (is_spread width inv)
+  wholes-each leads (does.Util inv) count = by_test (is_leading_cat leads inv) (is_spread width inv) (has_aggregator (class_of inv)) (has_finish inv)
     where
-      by_test : (cat spread : Bool) → ◌≡◌ {A = ℕ} (if cat then 0 else if spread then repeated width 0 (sum width) (number_value width is_whole) width 0 else 1) (if cat then 0 else if spread then 0 else 1)
-      by_test true spread = refl
-      by_test false true = nones width
-      by_test false false = refl
+      by_test : (cat spread folds finishes : Bool)
+          → ◌≡◌ {A = ℕ} (if cat then 0 else if spread then repeated width 0 (sum width) (number_value width is_whole) width 0 + (if folds then repeated width 0 (sum width) (number_value width is_whole) (width - 1) 0 + (if finishes then 0 else 0) else 0) else 1)
+          (if cat then 0 else if spread then 0 else 1)
+      by_test true spread folds finishes = refl
+      by_test false false folds finishes = refl
+      by_test false true true true = let maps = times-is is_whole 0 width (omega arith) in let aggs = times-is is_whole 0 (width - 1) (omega arith) in omega (arith, maps, aggs)
+      by_test false true true false = let maps = times-is is_whole 0 width (omega arith) in let aggs = times-is is_whole 0 (width - 1) (omega arith) in omega (arith, maps, aggs)
+      by_test false true false finishes = let maps = times-is is_whole 0 width (omega arith) in omega (arith, maps)
+
+  aggs-each : (leads : Bool) (it : Does) (count : ℕ) → util_value width 0 (sum width) (number_value width is_aggregate) leads it count ≡ aggregates_of width leads it
+  aggs-each leads does.Skip count = refl
+  aggs-each leads (does.Util inv) count = by_test (is_leading_cat leads inv) (is_spread width inv) (has_aggregator (class_of inv)) (has_finish inv)
+    where
+      by_test : (cat spread folds finishes : Bool)
+          → ◌≡◌ {A = ℕ} (if cat then 0 else if spread then repeated width 0 (sum width) (number_value width is_aggregate) width 0 + (if folds then repeated width 0 (sum width) (number_value width is_aggregate) (width - 1) 1 + (if finishes then 0 else 0) else 0) else 0)
+          (if cat then 0 else if spread then (if folds then width - 1 else 0) else 0)
+      by_test true spread folds finishes = refl
+      by_test false false folds finishes = refl
+      by_test false true true true = let maps = times-is is_aggregate 0 width (omega arith) in let aggs = times-is is_aggregate 1 (width - 1) (omega arith) in omega (arith, maps, aggs)
+      by_test false true true false = let maps = times-is is_aggregate 0 width (omega arith) in let aggs = times-is is_aggregate 1 (width - 1) (omega arith) in omega (arith, maps, aggs)
+      by_test false true false finishes = let maps = times-is is_aggregate 0 width (omega arith) in omega (arith, maps)
+
+  finishes-each : (leads : Bool) (it : Does) (count : ℕ) → util_value width 0 (sum width) (number_value width is_finish) leads it count ≡ finishes_of width leads it
+  finishes-each leads does.Skip count = refl
+  finishes-each leads (does.Util inv) count = by_test (is_leading_cat leads inv) (is_spread width inv) (has_aggregator (class_of inv)) (has_finish inv)
+    where
+      by_test : (cat spread folds finishes : Bool)
+          → ◌≡◌ {A = ℕ} (if cat then 0 else if spread then repeated width 0 (sum width) (number_value width is_finish) width 0 + (if folds then repeated width 0 (sum width) (number_value width is_finish) (width - 1) 0 + (if finishes then 1 else 0) else 0) else 0)
+          (if cat then 0 else if spread then (if folds then (if finishes then 1 else 0) else 0) else 0)
+      by_test true spread folds finishes = refl
+      by_test false false folds finishes = refl
+      by_test false true true true = let maps = times-is is_finish 0 width (omega arith) in let aggs = times-is is_finish 0 (width - 1) (omega arith) in omega (arith, maps, aggs)
+      by_test false true true false = let maps = times-is is_finish 0 width (omega arith) in let aggs = times-is is_finish 0 (width - 1) (omega arith) in omega (arith, maps, aggs)
+      by_test false true false finishes = let maps = times-is is_finish 0 width (omega arith) in omega (arith, maps)
 
   leads-is : (place : ℕ) (leads : Bool) → leads ≡ true → leads_so leads place ≡ (place == 0)
   leads-is zero leads is = is
@@ -400,6 +402,10 @@ module _ (width : ℕ) where
                   ∙ chain-count width is_map (maps_of width) maps-util maps-each 0 comes stage stages 0 place it found all may ∙ ap (λ (leads : Bool). maps_of width leads it.does) first;
               wholes = count-drawn is_whole place 0 steps ∙ ap (λ (at : ℕ). count_steps is_whole at steps) (sym at)
                   ∙ chain-count width is_whole (wholes_of width) wholes-util wholes-each 0 comes stage stages 0 place it found all may ∙ ap (λ (leads : Bool). wholes_of width leads it.does) first;
+              aggregates = count-drawn is_aggregate place 0 steps ∙ ap (λ (at : ℕ). count_steps is_aggregate at steps) (sym at)
+                  ∙ chain-count width is_aggregate (aggregates_of width) aggs-util aggs-each 0 comes stage stages 0 place it found all may ∙ ap (λ (leads : Bool). aggregates_of width leads it.does) first;
+              finishes = count-drawn is_finish place 0 steps ∙ ap (λ (at : ℕ). count_steps is_finish at steps) (sym at)
+                  ∙ chain-count width is_finish (finishes_of width) finishes-util finishes-each 0 comes stage stages 0 place it found all may ∙ ap (λ (leads : Bool). finishes_of width leads it.does) first;
             });
         unsplit = λ one. all-drawn is_unsplit 0 steps
             ∙ chain-all width (λ kind ins outs. is_unsplit kind) (record {
@@ -410,5 +416,7 @@ module _ (width : ℕ) where
               whole = λ inv count built inputs. refl;
               split = λ wide. absurd (omega (arith, wide, one));
               map = λ inv built spread. refl;
+              agg = λ inv built spread folds. refl;
+              finish = λ inv built spread folds. refl;
             }) (λ sink. refl) 0 comes (stage ∷ stages) 0 all may;
       }

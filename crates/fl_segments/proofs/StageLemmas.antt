@@ -1,5 +1,5 @@
 -- The nodes of stages: each takes edges that are given before, and each edge is taken once.
-use Rattle.std.proofs.Common.{◌≡◌, ℕ, zero, suc, ◌+◌, ◌<◌, ◌≤◌, ◌==◌, List, [], ◌∷◌, ◌++◌, Bool, true, false, ◌&&◌, if◌then◌else◌, get_or, length, nat_le, nat_lt, refl, ap, sym, subst, ◌∙◌, append-nil, arith}
+use Rattle.std.proofs.Common.{◌≡◌, ℕ, zero, suc, ◌+◌, ◌<◌, ◌≤◌, ◌==◌, List, [], ◌∷◌, ◌++◌, Bool, true, false, ◌&&◌, if◌then◌else◌, get_or, length, nat_le, nat_lt, refl, ap, sym, subst, ◌∙◌, append-nil, arith, ◌-◌, take, drop, length-drop}
 use Rattle.std.specs.List.{count_by, flat_map, list_all, list_any, range_with_len}
 use Rattle.std.proofs.lemmas.Bool.{true≢false, and_from, and_parts, eqb-true, leb-true, lt-ltb, ltb-true}
 use Rattle.std.proofs.lemmas.List.FromFn.{length-range_with_len}
@@ -15,9 +15,9 @@ use Rattle.fl_graph.specs.declared.kinds.NodeKind.TheVariants as kind
 use Rattle.fl_graph.specs.declared.kinds.From.TheVariants as from
 use Rattle.fl_graph.specs.declared.kinds.To.TheVariants as to
 use Rattle.fl_graph.proofs.ListLemmas.{count-append}
-use Rattle.fl_segments.specs.Stages.{closes_before, ins_of, ins_read, is_none, is_reader, is_spread, is_stage, is_stream, may_spread}
+use Rattle.fl_segments.specs.Stages.{closes_before, ins_of, ins_read, is_none, is_reader, is_spread, is_stage, is_stream, may_spread, has_finish}
 use Rattle.fl_segments.specs.Inner.Drawing.{Step, step, split_step, behind}
-use Rattle.fl_segments.specs.Inner.Steps.{begins, chain_steps, comes_behind, comes_cut, comes_on, does_parts, does_steps, done_next, done_parts, done_steps, drain_steps, each_ended, end_edge, end_next, end_steps, earlier_steps, first_parts, first_steps, front_edges, front_next, front_steps, goes_steps, hands_on, in_edges, in_steps, input_edges, input_steps, is_joined, is_leading_cat, join_steps, joined_edges, kind_first, kind_in, last_steps, main_next, main_parts, main_steps, map_steps, on_steps, out_steps, parts_on, piped_steps, read_edges, read_steps, split_edges, split_steps, spread_parts, spread_steps, stands, stream_comes, stream_steps, util_parts, util_steps, whole_edge, whole_steps}
+use Rattle.fl_segments.specs.Inner.Steps.{begins, chain_steps, comes_behind, comes_cut, comes_on, does_parts, does_steps, done_next, done_parts, done_steps, drain_steps, each_ended, end_edge, end_next, end_steps, earlier_steps, first_parts, first_steps, front_edges, front_next, front_steps, goes_steps, hands_on, in_edges, in_steps, input_edges, input_steps, is_joined, is_leading_cat, join_steps, joined_edges, kind_first, kind_in, last_steps, main_next, main_parts, main_steps, map_steps, on_steps, out_steps, parts_on, piped_steps, read_edges, read_steps, split_edges, split_steps, spread_parts, spread_steps, stands, stream_comes, stream_steps, util_parts, util_steps, whole_edge, whole_steps, Tree, Leaf, Join, half_of, tree_of, tree_over, tree_steps, tree_edge, joins_of, finish_steps, finish_edge, fold_steps, fold_parts, mapped_parts, mapped_steps, one_part, folded_steps, folded_edge}
 use Rattle.fl_segments.specs.declared.parts.Coming.{Coming}
 use Rattle.fl_segments.specs.declared.parts.Coming.TheVariants as coming
 use Rattle.fl_segments.specs.declared.parts.Parts.{Parts}
@@ -33,6 +33,8 @@ use Rattle.fl_segments.specs.declared.stages.Stage.{Stage}
 use Rattle.fl_segments.proofs.DrawingLemmas.{AreBelow, behind-append, behind-given, below-append, given, given-append, next-is, taken}
 use Rattle.fl_segments.proofs.FitLemmas.{few-streams}
 use Rattle.fl_segments.proofs.RowLemmas.{range-append}
+use Rattle.fl_graph.specs.Kinds.{has_aggregator}
+use Rattle.std.proofs.lemmas.List.{length-take-le, take-append-drop}
 
 -- all these edges have a number below this one
 abbrev pub AllBelow : ℕ → List ℕ → Type 0
@@ -258,13 +260,171 @@ maps-passes number inv (edge ∷ edges) next =
     passes-both next (step (kind.Map inv) (edge ∷ []) number ∷ []) (map_steps number inv edges) (edge ∷ []) (next ∷ []) edges (range_with_len (next + 1) (length edges))
     (passes-gives next (step (kind.Map inv) (edge ∷ []) number) refl) (maps-passes number inv edges (next + 1))
 
-spread-passes : (width number : ℕ) (inv : Inv) (parts : Parts) (next : ℕ) → Passes next (spread_steps width number inv parts.edges next) parts.edges (spread_parts width number inv parts next).edges
-spread-passes width number inv parts next =
-    let split : List Step = split_steps width number parts.edges in
-    let edges : List ℕ = split_edges width parts.edges next in
+pub mapped-passes : (width number : ℕ) (inv : Inv) (edges : List ℕ) (cut : Bool) (next : ℕ) → Passes next (mapped_steps width number inv edges next) edges (mapped_parts width number inv edges next cut).edges
+mapped-passes width number inv edges cut next =
+    let split : List Step = split_steps width number edges in
+    let parts : List ℕ = split_edges width edges next in
     let on : ℕ = behind next split in
-    passes-append next split (map_steps number inv edges) parts.edges edges (range_with_len on width) (split-passes width number parts.edges next)
-    (subst (λ (count : ℕ). Passes on (map_steps number inv edges) edges (range_with_len on count)) (split-count width parts.edges next) (maps-passes number inv edges on))
+    passes-append next split (map_steps number inv parts) edges parts (range_with_len on width) (split-passes width number edges next)
+    (subst (λ (count : ℕ). Passes on (map_steps number inv parts) parts (range_with_len on count)) (split-count width edges next) (maps-passes number inv parts on))
+
+-- THE TREE OF AGGREGATES
+-- the edges that it takes
+abbrev pub leaves : Tree → List ℕ
+leaves (Leaf edge) = edge ∷ []
+leaves (Join one other) = leaves one ++ leaves other
+
+pub tree-behind : (number : ℕ) (inv : Inv) (tree : Tree) (next : ℕ) → behind next (tree_steps number inv tree next) ≡ next + joins_of tree
+tree-behind number inv (Leaf edge) next = omega arith
+tree-behind number inv (Join one other) next =
+    let left : List Step = tree_steps number inv one next in
+    let right : List Step = tree_steps number inv other (next + joins_of one) in
+    let agg : List Step = step (kind.Agg inv) (tree_edge one next ∷ tree_edge other (next + joins_of one) ∷ []) number ∷ [] in
+    let all = behind-append next (left ++ right) agg in
+    let both = behind-append next left right in
+    let last = ap (λ (from : ℕ). behind from right) (tree-behind number inv one next) ∙ tree-behind number inv other (next + joins_of one) in
+    omega (arith, all, both, last)
+
+pub tree-passes : (number : ℕ) (inv : Inv) (tree : Tree) (next : ℕ) → Passes next (tree_steps number inv tree next) (leaves tree) (tree_edge tree next ∷ [])
+tree-passes number inv (Leaf edge) next = passes-none next (edge ∷ [])
+tree-passes number inv (Join one other) next =
+    let on : ℕ = next + joins_of one in
+    let last : ℕ = next + joins_of one + joins_of other in
+    let left : List Step = tree_steps number inv one next in
+    let right : List Step = tree_steps number inv other on in
+    let ins : List ℕ = tree_edge one next ∷ tree_edge other on ∷ [] in
+    let agg : List Step = step (kind.Agg inv) ins number ∷ [] in
+    let there : behind next (left ++ right) ≡ last =
+    behind-append next left right ∙ ap (λ (from : ℕ). behind from right) (tree-behind number inv one next) ∙ tree-behind number inv other on in
+    passes-append next (left ++ right) agg (leaves one ++ leaves other) ins (last ∷ [])
+    (passes-both next left right (leaves one) (tree_edge one next ∷ []) (leaves other) (tree_edge other on ∷ []) (tree-passes number inv one next)
+    (subst (λ (from : ℕ). Passes from right (leaves other) (tree_edge other on ∷ [])) (sym (tree-behind number inv one next)) (tree-passes number inv other on)))
+    (subst (λ (from : ℕ). Passes from agg ins (last ∷ [])) (sym there) (passes-gives last (step (kind.Agg inv) ins number) refl))
+
+-- it takes these edges, in order
+pub leaves-are : (levels : ℕ) (edges : List ℕ) → 1 ≤ length edges → length edges ≤ levels + 1 → leaves (tree_of levels edges) ≡ edges
+leaves-are levels [] some most = absurd (omega (arith, some))
+leaves-are zero (edge ∷ []) some most = refl
+leaves-are zero (edge ∷ other ∷ edges) some most = absurd (omega (arith, most))
+leaves-are (suc levels) (edge ∷ []) some most = refl
+leaves-are (suc levels) (edge ∷ other ∷ edges) some most =
+    let all : List ℕ = edge ∷ other ∷ edges in
+    let half : ℕ = half_of (length all) in
+    let front : length (take half all) ≡ half = length-take-le half all (omega arith) in
+    let back : length (drop half all) ≡ length all - half = length-drop half all in
+    ap (λ (many : Bool). leaves (if many then Join (tree_of levels (take half all)) (tree_of levels (drop half all)) else Leaf edge)) (lt-ltb 1 (length all) (omega arith))
+    ∙ ap (λ (first : List ℕ). first ++ leaves (tree_of levels (drop half all))) (leaves-are levels (take half all) (omega (arith, front)) (omega (arith, front, most)))
+    ∙ ap (λ (rest : List ℕ). take half all ++ rest) (leaves-are levels (drop half all) (omega (arith, back)) (omega (arith, back, most)))
+    ∙ take-append-drop half all
+
+-- so it has an aggregate less
+pub tree-joins : (levels : ℕ) (edges : List ℕ) → 1 ≤ length edges → length edges ≤ levels + 1 → joins_of (tree_of levels edges) + 1 ≡ length edges
+tree-joins levels [] some most = absurd (omega (arith, some))
+tree-joins zero (edge ∷ []) some most = omega arith
+tree-joins zero (edge ∷ other ∷ edges) some most = absurd (omega (arith, most))
+tree-joins (suc levels) (edge ∷ []) some most = omega arith
+tree-joins (suc levels) (edge ∷ other ∷ edges) some most =
+    let all : List ℕ = edge ∷ other ∷ edges in
+    let half : ℕ = half_of (length all) in
+    let front : length (take half all) ≡ half = length-take-le half all (omega arith) in
+    let back : length (drop half all) ≡ length all - half = length-drop half all in
+    let is : joins_of (tree_of (suc levels) all) ≡ joins_of (tree_of levels (take half all)) + joins_of (tree_of levels (drop half all)) + 1 =
+    ap (λ (many : Bool). joins_of (if many then Join (tree_of levels (take half all)) (tree_of levels (drop half all)) else Leaf edge)) (lt-ltb 1 (length all) (omega arith)) in
+    let one = tree-joins levels (take half all) (omega (arith, front)) (omega (arith, front, most)) in
+    let two = tree-joins levels (drop half all) (omega (arith, back)) (omega (arith, back, most)) in
+    omega (arith, is, one, two, front, back)
+
+-- two trees over the same edges are one, where both have levels enough
+few-ltb : (size : ℕ) → size ≤ 1 → nat_lt 1 size ≡ false
+few-ltb size few = by_test (nat_lt 1 size) refl
+  where
+    by_test : (many : Bool) → nat_lt 1 size ≡ many → many ≡ false
+    by_test true is = let more = ltb-true 1 size is in absurd (omega (arith, few, more))
+    by_test false is = refl
+
+tree-few : (levels : ℕ) (edges : List ℕ) → length edges ≤ 1 → tree_of levels edges ≡ Leaf (get_or edges 0 0)
+tree-few zero edges few = refl
+tree-few (suc levels) edges few =
+    ap (λ (many : Bool). if many then Join (tree_of levels (take (half_of (length edges)) edges)) (tree_of levels (drop (half_of (length edges)) edges)) else Leaf (get_or edges 0 0)) (few-ltb (length edges) few)
+
+tree-level : (one other : ℕ) (edges : List ℕ) → length edges ≤ one + 1 → length edges ≤ other + 1 → tree_of one edges ≡ tree_of other edges
+tree-level zero other edges first second = sym (tree-few other edges (omega (arith, first)))
+tree-level (suc one) zero edges first second = tree-few (suc one) edges (omega (arith, second))
+tree-level (suc one) (suc other) edges first second =
+    let half : ℕ = half_of (length edges) in
+    let front : length (take half edges) ≡ half = length-take-le half edges (omega arith) in
+    let back : length (drop half edges) ≡ length edges - half = length-drop half edges in
+    by_test (nat_lt 1 (length edges)) refl
+    (λ many. tree-level one other (take half edges) (omega (arith, front, many, first)) (omega (arith, front, many, second)))
+    (λ many. tree-level one other (drop half edges) (omega (arith, back, many, first)) (omega (arith, back, many, second)))
+  where
+    by_test : (many : Bool) → nat_lt 1 (length edges) ≡ many
+        → (1 < length edges → tree_of one (take (half_of (length edges)) edges) ≡ tree_of other (take (half_of (length edges)) edges))
+        → (1 < length edges → tree_of one (drop (half_of (length edges)) edges) ≡ tree_of other (drop (half_of (length edges)) edges))
+        → (if many then Join (tree_of one (take (half_of (length edges)) edges)) (tree_of one (drop (half_of (length edges)) edges)) else Leaf (get_or edges 0 0))
+        ≡ (if many then Join (tree_of other (take (half_of (length edges)) edges)) (tree_of other (drop (half_of (length edges)) edges)) else Leaf (get_or edges 0 0))
+    by_test true is left right =
+        let more : 1 < length edges = ltb-true 1 (length edges) is in
+        ap (λ (tree : Tree). Join tree (tree_of one (drop (half_of (length edges)) edges))) (left more)
+        ∙ ap (λ (tree : Tree). Join (tree_of other (take (half_of (length edges)) edges)) tree) (right more)
+    by_test false is left right = refl
+
+pub over-few : (edges : List ℕ) → length edges ≤ 1 → tree_over edges ≡ Leaf (get_or edges 0 0)
+over-few edges few = tree-few (length edges) edges few
+
+pub over-halves : (edges : List ℕ) → 2 ≤ length edges → tree_over edges ≡ Join (tree_over (take (half_of (length edges)) edges)) (tree_over (drop (half_of (length edges)) edges))
+over-halves [] many = absurd (omega (arith, many))
+over-halves (edge ∷ []) many = absurd (omega (arith, many))
+over-halves (edge ∷ other ∷ edges) many =
+    let all : List ℕ = edge ∷ other ∷ edges in
+    let half : ℕ = half_of (length all) in
+    let levels : ℕ = suc (length edges) in
+    let front : length (take half all) ≡ half = length-take-le half all (omega arith) in
+    let back : length (drop half all) ≡ length all - half = length-drop half all in
+    ap (λ (many : Bool). if many then Join (tree_of levels (take half all)) (tree_of levels (drop half all)) else Leaf edge) (lt-ltb 1 (length all) (omega arith))
+    ∙ ap (λ (tree : Tree). Join tree (tree_of levels (drop half all))) (tree-level levels (length (take half all)) (take half all) (omega (arith, front)) (omega arith))
+    ∙ ap (λ (tree : Tree). Join (tree_over (take half all)) tree) (tree-level levels (length (drop half all)) (drop half all) (omega (arith, back)) (omega arith))
+
+finish-passes : (number : ℕ) (inv : Inv) (edge next : ℕ) → Passes next (finish_steps number inv edge) (edge ∷ []) (finish_edge inv edge next ∷ [])
+finish-passes number inv edge next = by_test (has_finish inv)
+  where
+    by_test : (finishes : Bool) → Passes next (if finishes then step (kind.Finish inv) (edge ∷ []) number ∷ [] else []) (edge ∷ []) ((if finishes then next else edge) ∷ [])
+    by_test true = passes-gives next (step (kind.Finish inv) (edge ∷ []) number) refl
+    by_test false = passes-none next (edge ∷ [])
+
+fold-passes : (number : ℕ) (inv : Inv) (parts : Parts) (next : ℕ) → 1 ≤ length parts.edges → Passes next (fold_steps number inv parts.edges next) parts.edges (fold_parts number inv parts next).edges
+fold-passes number inv parts next some = by_test (has_aggregator (class_of inv))
+  where
+    by_test : (folds : Bool)
+        → Passes next (if folds then folded_steps number inv parts.edges next else []) parts.edges
+        ((if folds then one_part (folded_edge number inv parts.edges next) else parts).edges)
+    by_test true =
+        let tree : Tree = tree_of (length parts.edges) parts.edges in
+        let edge : ℕ = tree_edge tree next in
+        let steps : List Step = tree_steps number inv tree next in
+        passes-append next steps (finish_steps number inv edge) parts.edges (edge ∷ []) (finish_edge inv edge (behind next steps) ∷ [])
+        (subst (λ (edges : List ℕ). Passes next steps edges (edge ∷ [])) (leaves-are (length parts.edges) parts.edges some (omega arith)) (tree-passes number inv tree next))
+        (finish-passes number inv edge (behind next steps))
+    by_test false = passes-none next parts.edges
+
+-- a part at least
+pub mapped-some : (width number : ℕ) (inv : Inv) (edges : List ℕ) (cut : Bool) (next : ℕ) → 1 ≤ width → 1 ≤ length (mapped_parts width number inv edges next cut).edges
+mapped-some width number inv edges cut next some = let size = length-range_with_len (behind next (split_steps width number edges)) width in omega (arith, size, some)
+
+fold-some : (number : ℕ) (inv : Inv) (parts : Parts) (next : ℕ) → 1 ≤ length parts.edges → 1 ≤ length (fold_parts number inv parts next).edges
+fold-some number inv parts next some = by_test (has_aggregator (class_of inv))
+  where
+    by_test : (folds : Bool) → 1 ≤ length ((if folds then one_part (folded_edge number inv parts.edges next) else parts).edges)
+    by_test true = omega arith
+    by_test false = some
+
+spread-passes : (width number : ℕ) (inv : Inv) (parts : Parts) (next : ℕ) → 1 ≤ width → Passes next (spread_steps width number inv parts.edges next) parts.edges (spread_parts width number inv parts next).edges
+spread-passes width number inv parts next some =
+    let mapped : List Step = mapped_steps width number inv parts.edges next in
+    let maps : Parts = mapped_parts width number inv parts.edges next parts.cut in
+    let on : ℕ = behind next mapped in
+    passes-append next mapped (fold_steps number inv maps.edges on) parts.edges maps.edges (fold_parts number inv maps on).edges
+    (mapped-passes width number inv parts.edges parts.cut next) (fold-passes number inv maps on (mapped-some width number inv parts.edges parts.cut next some))
 
 -- a width of two at least, and one input
 pub spread-wide : (width : ℕ) (inv : Inv) → is_spread width inv ≡ true → nat_le 2 width ≡ true
@@ -280,18 +440,18 @@ spread-class width inv is =
 
 -- THE UTILITY
 util-passes : (width number : ℕ) (leads : Bool) (inv : Inv) (parts : Parts) (next : ℕ) → Passes next (util_steps width number leads inv parts.edges next) parts.edges (util_parts width number leads inv parts next).edges
-util-passes width number leads inv parts next = by_test (is_leading_cat leads inv) (is_spread width inv)
+util-passes width number leads inv parts next = by_test (is_leading_cat leads inv) (is_spread width inv) refl
   where
     by_edges : (edges : List ℕ) → Passes next (if is_none edges then step (kind.Text []) [] number ∷ [] else []) edges (if is_none edges then next ∷ [] else edges)
     by_edges [] = passes-gives next (step (kind.Text []) [] number) refl
     by_edges (edge ∷ edges) = passes-none next (edge ∷ edges)
 
-    by_test : (cat spread : Bool)
+    by_test : (cat spread : Bool) → is_spread width inv ≡ spread
         → Passes next (if cat then (if is_none parts.edges then step (kind.Text []) [] number ∷ [] else []) else if spread then spread_steps width number inv parts.edges next else step (kind.Whole inv) parts.edges number ∷ [])
         parts.edges ((if cat then parts_on (if is_none parts.edges then next ∷ [] else parts.edges) false else if spread then spread_parts width number inv parts next else parts_on (next ∷ []) false).edges)
-    by_test true spread = by_edges parts.edges
-    by_test false true = spread-passes width number inv parts next
-    by_test false false = passes-gives next (step (kind.Whole inv) parts.edges number) refl
+    by_test true spread is = by_edges parts.edges
+    by_test false true is = let wide = leb-true 2 width (spread-wide width inv is) in spread-passes width number inv parts next (omega (arith, wide))
+    by_test false false is = passes-gives next (step (kind.Whole inv) parts.edges number) refl
 
 -- it has a part
 util-some : (width number : ℕ) (leads : Bool) (inv : Inv) (parts : Parts) (next : ℕ) → 1 ≤ length (util_parts width number leads inv parts next).edges
@@ -306,8 +466,7 @@ util-some width number leads inv parts next = by_test (is_leading_cat leads inv)
     by_test true spread is = by_edges parts.edges
     by_test false true is =
         let wide = leb-true 2 width (spread-wide width inv is) in
-        let size = length-range_with_len (behind next (split_steps width number parts.edges)) width in
-        omega (arith, wide, size)
+        fold-some number inv (mapped_parts width number inv parts.edges next parts.cut) (behind next (mapped_steps width number inv parts.edges next)) (mapped-some width number inv parts.edges parts.cut next (omega (arith, wide)))
     by_test false false is = omega arith
 
 -- WHAT COMES FIRST

@@ -28,7 +28,7 @@ use Rattle.fl_classes.proofs.CutLemmas.{cut-first, cut-rest}
 use Rattle.fl_segments.specs.Chains.{chain_means, grep_status, is_quiet, stage_means, status_by, text_in, texts_read}
 use Rattle.fl_segments.specs.Stages.{ins_read, is_reader, is_spread, is_stage, is_stream, may_spread}
 use Rattle.fl_segments.specs.Inner.Drawing.{Step, step, drawn, behind, next_of}
-use Rattle.fl_segments.specs.Inner.Steps.{begins, chain_nodes, chain_rule, chain_steps, comes_behind, comes_cut, does_nodes, does_steps, done_parts, done_steps, earlier_steps, end_edge, end_next, first_steps, front_edges, front_next, front_steps, grep_rule, last_steps, main_nodes, main_parts, map_steps, out_steps, rule_by, split_cut, split_edges, split_steps, takes_any, util_nodes, util_steps, whole_steps}
+use Rattle.fl_segments.specs.Inner.Steps.{begins, chain_nodes, chain_rule, chain_steps, comes_behind, comes_cut, does_nodes, does_steps, done_parts, done_steps, earlier_steps, end_edge, end_next, first_steps, front_edges, front_next, front_steps, grep_rule, last_steps, main_nodes, main_parts, map_steps, out_steps, rule_by, split_cut, split_edges, split_steps, takes_any, util_nodes, util_steps, whole_steps, spread_steps, fold_steps, mapped_steps, mapped_edges}
 use Rattle.fl_segments.specs.declared.parts.Coming.{Coming}
 use Rattle.fl_segments.specs.declared.stages.Does.{Does}
 use Rattle.fl_segments.specs.declared.stages.Does.TheVariants as does
@@ -63,6 +63,12 @@ module _ (width number : ℕ) (grep : GrepInv) (edges : List ℕ) where
   abbrev mids : ℕ → List Step
   mids next = if is_spread width (inv.Grep grep) then map_steps number (inv.Grep grep) (split_edges width edges next) else step (kind.Whole (inv.Grep grep)) edges number ∷ []
 
+  -- what is made of the maps
+  abbrev tails : ℕ → List Step
+  tails next =
+      if is_spread width (inv.Grep grep)
+      then fold_steps number (inv.Grep grep) (mapped_edges width number (inv.Grep grep) edges next) (behind next (mapped_steps width number (inv.Grep grep) edges next)) else []
+
   maps-length : (edges : List ℕ) → length (map_steps number (inv.Grep grep) edges) ≡ length edges
   maps-length [] = refl
   maps-length (edge ∷ edges) = ap suc (maps-length edges)
@@ -71,13 +77,16 @@ module _ (width number : ℕ) (grep : GrepInv) (edges : List ℕ) where
   maps-select [] = refl
   maps-select (edge ∷ edges) = maps-select edges
 
-  done-is : (leads : Bool) (next : ℕ) → util_steps width number leads (inv.Grep grep) edges next ≡ heads ++ mids next
+  done-is : (leads : Bool) (next : ℕ) → util_steps width number leads (inv.Grep grep) edges next ≡ heads ++ (mids next ++ tails next)
   done-is leads next = by_test (is_spread width (inv.Grep grep))
     where
       by_test : (spread : Bool)
-          → (if spread then split_steps width number edges ++ map_steps number (inv.Grep grep) (split_edges width edges next) else step (kind.Whole (inv.Grep grep)) edges number ∷ [])
-          ≡ (if spread then split_steps width number edges else []) ++ (if spread then map_steps number (inv.Grep grep) (split_edges width edges next) else step (kind.Whole (inv.Grep grep)) edges number ∷ [])
-      by_test true = refl
+          → (if spread then spread_steps width number (inv.Grep grep) edges next else step (kind.Whole (inv.Grep grep)) edges number ∷ [])
+          ≡ (if spread then split_steps width number edges else []) ++ ((if spread then map_steps number (inv.Grep grep) (split_edges width edges next) else step (kind.Whole (inv.Grep grep)) edges number ∷ [])
+          ++ (if spread then fold_steps number (inv.Grep grep) (mapped_edges width number (inv.Grep grep) edges next) (behind next (mapped_steps width number (inv.Grep grep) edges next)) else []))
+      by_test true =
+          append_assoc (split_steps width number edges) (map_steps number (inv.Grep grep) (split_edges width edges next))
+          (fold_steps number (inv.Grep grep) (mapped_edges width number (inv.Grep grep) edges next) (behind next (mapped_steps width number (inv.Grep grep) edges next)))
       by_test false = refl
 
   nodes-are : (leads : Bool) (next before : ℕ) → util_nodes width number leads (inv.Grep grep) edges before ≡ range_with_len (before + length heads) (length (mids next))
@@ -111,8 +120,9 @@ module _ (width number : ℕ) (comes : Coming) (stage : Stage) (next : ℕ) (gre
 
   abbrev back_steps : List Step
   back_steps =
-      first_steps number stage.does stage.first (done_parts width number comes stage next).edges
-      ++ (whole_steps number (main_parts width number comes stage next).edges ++ out_steps number stage.out stage.piped (end_edge width number comes stage next) (end_next width number comes stage next))
+      tails width number grep (front_edges number comes stage next) (front_next number comes stage next)
+      ++ (first_steps number stage.does stage.first (done_parts width number comes stage next).edges
+      ++ (whole_steps number (main_parts width number comes stage next).edges ++ out_steps number stage.out stage.piped (end_edge width number comes stage next) (end_next width number comes stage next)))
 
   last-is : last_steps width number comes stage next ≡ head_steps ++ (mid_steps ++ back_steps)
   last-is =
@@ -121,11 +131,12 @@ module _ (width number : ℕ) (comes : Coming) (stage : Stage) (next : ℕ) (gre
       let firsts : List Step = first_steps number stage.does stage.first (done_parts width number comes stage next).edges in
       let outs : List Step = whole_steps number (main_parts width number comes stage next).edges ++ out_steps number stage.out stage.piped (end_edge width number comes stage next) (end_next width number comes stage next) in
       let head : List Step = heads width number grep edges in
+      let tail : List Step = tails width number grep edges (front_next number comes stage next) in
       append_assoc front (done ++ firsts) outs ∙ ap (λ (rest : List Step). front ++ rest) (append_assoc done firsts outs)
       ∙ ap (λ (done : List Step). front ++ (done ++ (firsts ++ outs)))
       (ap (λ (it : Does). does_steps width number (begins comes) it stage.first edges (front_next number comes stage next)) same ∙ done-is width number grep edges (begins comes) (front_next number comes stage next))
-      ∙ ap (λ (rest : List Step). front ++ rest) (append_assoc head mid_steps (firsts ++ outs))
-      ∙ sym (append_assoc front head (mid_steps ++ (firsts ++ outs)))
+      ∙ ap (λ (rest : List Step). front ++ rest) (append_assoc head (mid_steps ++ tail) (firsts ++ outs) ∙ ap (λ (rest : List Step). head ++ rest) (append_assoc mid_steps tail (firsts ++ outs)))
+      ∙ sym (append_assoc front head (mid_steps ++ (tail ++ (firsts ++ outs))))
 
   nodes-is : (before : ℕ) → main_nodes width number comes stage next before ≡ range_with_len (before + length head_steps) (length mid_steps)
   nodes-is before =
@@ -276,7 +287,9 @@ parted-selects inv text (first ∷ texts) cut may some parted = by_class (class_
     by_class (class.S seam.Lines) is law =
         let cut_is : cut ≡ true = sym (or-none cut) ∙ ap (λ (of : Class). cut || takes_any of) (sym is) ∙ parted.may in
         any-selects inv seam.Lines law.selects first texts (parted.is_cut cut_is) ∙ ap (λ (whole : List ℕ). selects_of inv (whole ∷ [])) parted.whole
-    by_class class.P is law = absurd (true≢false (sym (sym (ap may_spread is) ∙ may)))
+    by_class class.P is law =
+        let cut_is : cut ≡ true = sym (or-none cut) ∙ ap (λ (of : Class). cut || takes_any of) (sym is) ∙ parted.may in
+        any-selects inv seam.Lines law.selects first texts (parted.is_cut cut_is) ∙ ap (λ (whole : List ℕ). selects_of inv (whole ∷ [])) parted.whole
     by_class class.N is law = absurd (true≢false (sym (sym (ap may_spread is) ∙ may)))
     by_class class.E is law = absurd (true≢false (sym (sym (ap may_spread is) ∙ may)))
 

@@ -12,6 +12,8 @@ use Rattle.ut_args.specs.declared.commands.Command.TheVariants as command
 use Rattle.ut_args.specs.declared.invocations.Inv.{Inv}
 use Rattle.ut_args.specs.declared.invocations.Inv.TheVariants as inv
 use Rattle.ut_args.specs.declared.classes.Class.{Class}
+use Rattle.ut_args.specs.declared.commands.Groups.{Groups}
+use Rattle.ut_args.specs.declared.commands.Groups.TheVariants as groups
 use Rattle.ut_args.specs.declared.classes.Class.TheVariants as class
 use Rattle.fl_classes.specs.Used.{words_with}
 use Rattle.fl_segments.specs.declared.stages.Does.{Does}
@@ -124,7 +126,7 @@ gives_output (stage ∷ next ∷ stages) = gives_output (next ∷ stages)
 -- a utility that reads one input is spread, at a width from 2 on, where its class lets its input be cut: it runs once for each part
 abbrev pub may_spread : Class → Bool
 may_spread (class.S seam) = true
-may_spread class.P = false
+may_spread class.P = true
 may_spread class.N = false
 may_spread class.E = false
 
@@ -133,6 +135,21 @@ spreads inv = (inputs_of inv == 1) && may_spread (class_of inv)
 
 abbrev pub is_spread : ℕ → Inv → Bool
 is_spread width inv = nat_le 2 width && spreads inv
+
+-- its output is made from the map of the whole: of wc with an operand, and of uniq that keeps some of its lines
+abbrev pub keeps_some : Groups → Bool
+keeps_some groups.All = false
+keeps_some groups.Counted = false
+keeps_some groups.Repeated = true
+keeps_some groups.Single = true
+
+abbrev pub has_finish_by : Command → Bool
+has_finish_by (command.Wc args) = not (is_none args.operands)
+has_finish_by (command.Uniq args) = keeps_some args.groups
+has_finish_by other = false
+
+abbrev pub has_finish : Inv → Bool
+has_finish inv = has_finish_by (command_of inv)
 
 -- the words of the utilities that a segment runs at a width
 abbrev pub times : ℕ → Inv → ℕ

@@ -5,11 +5,11 @@ use Rattle.ps_world.specs.TreeState.{AreOut, TreeState}
 use Rattle.ps_world.specs.declared.error.WorldErr.{WorldErr}
 use Rattle.ps_world.specs.declared.error.WorldErr.TheVariants as error
 use Rattle.fl_graph.specs.declared.graphs.Graph.{Graph}
-use Rattle.fl_core.specs.Logs.{Log}
-use Rattle.fl_core.specs.OwnEnds.{RunsOwn, each_of}
+use Rattle.fl_engines.specs.Logs.{Log}
+use Rattle.fl_engines.specs.OwnEnds.{RunsOwn, each_of}
 use Rattle.fl_core.specs.declared.end_lists.Ends.{Ends}
-use Rattle.fl_core.specs.declared.own_ends.Came.{Came}
-use Rattle.fl_core.specs.declared.own_ends.Came.TheVariants as came
+use Rattle.fl_engines.specs.declared.own_ends.Came.{Came}
+use Rattle.fl_engines.specs.declared.own_ends.Came.TheVariants as came
 use Rattle.fl_segments.specs.Stages.{files_read}
 use Rattle.fl_segments.specs.declared.stages.Stage.{Stage}
 use Rattle.fl_commands.specs.Readers.{has_count}

@@ -1,7 +1,7 @@
 -- The nodes of a segment at a width (own), stage by stage. Those of a stage, in their order: the end of a stream that it doesn't read, those
 -- of its inputs, what joins them, its utility or what that is spread over, what comes first, and where its output goes. All have the stage's
 -- number, and each part is said of the number of the next edge. What comes of a part is a stream on one or several edges.
-use Rattle.std.specs.Prelude.{ℕ, ◌+◌, List, [], ◌∷◌, ◌++◌, Bool, true, false, not, ◌&&◌, ◌||◌, ◌==◌, nat_lt, if◌then◌else◌, length, get_or, Option, Some, None}
+use Rattle.std.specs.Prelude.{ℕ, zero, suc, ◌+◌, ◌-◌, ◌/◌, List, [], ◌∷◌, ◌++◌, Bool, true, false, not, ◌&&◌, ◌||◌, ◌==◌, nat_lt, if◌then◌else◌, length, get_or, take, drop, Option, Some, None}
 use Rattle.std.specs.List.{flat_map, range_with_len}
 use Rattle.ps_lines.specs.Lines.{is_empty}
 use Rattle.ut_args.specs.Classes.{class_of, keeps_closed_of}
@@ -9,7 +9,7 @@ use Rattle.ut_args.specs.declared.classes.Class.{Class}
 use Rattle.ut_args.specs.declared.classes.Class.TheVariants as class
 use Rattle.ut_args.specs.declared.classes.Seam.TheVariants as seam
 use Rattle.ut_args.specs.declared.invocations.Inv.{Inv}
-use Rattle.fl_graph.specs.Kinds.{is_grep}
+use Rattle.fl_graph.specs.Kinds.{has_aggregator, is_grep}
 use Rattle.fl_graph.specs.declared.graphs.StatusRule.{StatusRule}
 use Rattle.fl_graph.specs.declared.graphs.StatusRule.TheVariants as ruled
 use Rattle.fl_graph.specs.declared.kinds.NodeKind.{NodeKind}
@@ -18,7 +18,7 @@ use Rattle.fl_graph.specs.declared.kinds.From.TheVariants as from
 use Rattle.fl_graph.specs.declared.kinds.To.TheVariants as to
 use Rattle.fl_classes.specs.Used.{is_cat}
 use Rattle.fl_segments.specs.Chains.{is_quiet}
-use Rattle.fl_segments.specs.Stages.{closes_before, is_none, is_reader, is_spread, is_stream, joins_before}
+use Rattle.fl_segments.specs.Stages.{closes_before, has_finish, is_none, is_reader, is_spread, is_stream, joins_before}
 use Rattle.fl_segments.specs.Inner.Drawing.{Step, step, split_step, behind}
 use Rattle.fl_segments.specs.declared.parts.Coming.{Coming}
 use Rattle.fl_segments.specs.declared.parts.Coming.TheVariants as coming
@@ -152,12 +152,80 @@ abbrev pub map_steps : ℕ → Inv → List ℕ → List Step
 map_steps number inv [] = []
 map_steps number inv (edge ∷ edges) = step (kind.Map inv) (edge ∷ []) number ∷ map_steps number inv edges
 
+-- the maps of neighbours are aggregated two by two: a tree over the edges, halved, with the greater half left
+pub data Tree : Type 0 where
+  Leaf : ℕ → Tree
+  Join : Tree → Tree → Tree
+
+abbrev pub half_of : ℕ → ℕ
+half_of size = size - size / 2
+
+abbrev pub tree_of : ℕ → List ℕ → Tree
+tree_of zero edges = Leaf (get_or edges 0 0)
+tree_of (suc levels) edges =
+    if nat_lt 1 (length edges) then Join (tree_of levels (take (half_of (length edges)) edges)) (tree_of levels (drop (half_of (length edges)) edges))
+    else Leaf (get_or edges 0 0)
+
+abbrev pub tree_over : List ℕ → Tree
+tree_over edges = tree_of (length edges) edges
+
+-- how many aggregates that are, and the edge with the last one's output
+abbrev pub joins_of : Tree → ℕ
+joins_of (Leaf edge) = 0
+joins_of (Join one other) = joins_of one + joins_of other + 1
+
+abbrev pub tree_edge : Tree → ℕ → ℕ
+tree_edge (Leaf edge) next = edge
+tree_edge (Join one other) next = next + joins_of one + joins_of other
+
+abbrev pub tree_steps : ℕ → Inv → Tree → ℕ → List Step
+tree_steps number inv (Leaf edge) next = []
+tree_steps number inv (Join one other) next =
+    (tree_steps number inv one next ++ tree_steps number inv other (next + joins_of one))
+    ++ step (kind.Agg inv) (tree_edge one next ∷ tree_edge other (next + joins_of one) ∷ []) number ∷ []
+
+-- the output from the map of the whole
+abbrev pub finish_steps : ℕ → Inv → ℕ → List Step
+finish_steps number inv edge = if has_finish inv then step (kind.Finish inv) (edge ∷ []) number ∷ [] else []
+
+abbrev pub finish_edge : Inv → ℕ → ℕ → ℕ
+finish_edge inv edge next = if has_finish inv then next else edge
+
+-- so it is of class P; the maps of class S are the output
+module _ (number : ℕ) (inv : Inv) (edges : List ℕ) (next : ℕ) where
+  abbrev pub tree_next : ℕ
+  tree_next = behind next (tree_steps number inv (tree_over edges) next)
+
+  abbrev pub folded_steps : List Step
+  folded_steps = tree_steps number inv (tree_over edges) next ++ finish_steps number inv (tree_edge (tree_over edges) next)
+
+  abbrev pub folded_edge : ℕ
+  folded_edge = finish_edge inv (tree_edge (tree_over edges) next) tree_next
+
+  abbrev pub fold_steps : List Step
+  fold_steps = if has_aggregator (class_of inv) then folded_steps else []
+
+abbrev pub fold_parts : ℕ → Inv → Parts → ℕ → Parts
+fold_parts number inv parts next = if has_aggregator (class_of inv) then one_part (folded_edge number inv parts.edges next) else parts
+
+-- a utility that is spread: its maps, on so many edges, and what is made of them
+module _ (width number : ℕ) (inv : Inv) (edges : List ℕ) (next : ℕ) where
+  abbrev pub mapped_steps : List Step
+  mapped_steps = split_steps width number edges ++ map_steps number inv (split_edges width edges next)
+
+  abbrev pub mapped_edges : List ℕ
+  mapped_edges = range_with_len (behind next (split_steps width number edges)) width
+
+  abbrev pub mapped_parts : Bool → Parts
+  mapped_parts cut = parts_on mapped_edges (split_cut width edges cut && keeps_closed_of inv)
+
 abbrev pub spread_steps : ℕ → ℕ → Inv → List ℕ → ℕ → List Step
-spread_steps width number inv edges next = split_steps width number edges ++ map_steps number inv (split_edges width edges next)
+spread_steps width number inv edges next =
+    mapped_steps width number inv edges next ++ fold_steps number inv (mapped_edges width number inv edges next) (behind next (mapped_steps width number inv edges next))
 
 abbrev pub spread_parts : ℕ → ℕ → Inv → Parts → ℕ → Parts
 spread_parts width number inv parts next =
-    parts_on (range_with_len (behind next (split_steps width number parts.edges)) width) (split_cut width parts.edges parts.cut && keeps_closed_of inv)
+    fold_parts number inv (mapped_parts width number inv parts.edges next parts.cut) (behind next (mapped_steps width number inv parts.edges next))
 
 -- the nodes of a utility that takes these parts
 module _ (width number : ℕ) (leads : Bool) (inv : Inv) where

@@ -1,7 +1,7 @@
 use Rattle.std.proofs.Common.{◌≡◌, ◌≤◌, false, true, length}
 use Rattle.ps_world.specs.Counts.{Rose}
 use Rattle.ps_world.specs.TreeState.{AreOut, TreeState}
-use Rattle.fl_core.specs.OwnEnds.{each_of}
+use Rattle.fl_engines.specs.OwnEnds.{each_of}
 use Rattle.fl_commands.specs.Readers.{has_count}
 use Rattle.fl_commands.proofs.readers.give_back.Given as goal
 

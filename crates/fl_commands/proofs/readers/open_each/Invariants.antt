@@ -2,7 +2,7 @@ use Rattle.std.proofs.Common.{◌≡◌, ◌+◌, Some, ◌++◌, false, drop, m
 use Rattle.std.specs.List.{filter_map}
 use Rattle.ps_world.specs.Files.{Files, bytes_at}
 use Rattle.ps_world.specs.TreeState.{AreOut, TreeState}
-use Rattle.fl_core.specs.OwnEnds.{each_of}
+use Rattle.fl_engines.specs.OwnEnds.{each_of}
 use Rattle.fl_segments.specs.Stages.{file_in}
 use Rattle.fl_commands.specs.Readers.{AreThere, has_count}
 use Rattle.fl_commands.proofs.readers.open_each.Given as goal

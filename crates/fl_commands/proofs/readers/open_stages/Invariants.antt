@@ -1,7 +1,7 @@
 use Rattle.std.proofs.Common.{◌≡◌, ◌+◌, Some, ◌++◌, false, map, length, IfSome}
 use Rattle.ps_world.specs.Files.{Files, bytes_at}
 use Rattle.ps_world.specs.TreeState.{AreOut, TreeState}
-use Rattle.fl_core.specs.OwnEnds.{each_of}
+use Rattle.fl_engines.specs.OwnEnds.{each_of}
 use Rattle.fl_segments.specs.Stages.{files_read}
 use Rattle.fl_commands.specs.Inner.Segments.{AllThere}
 use Rattle.fl_commands.specs.Readers.{has_count}

@@ -5,7 +5,7 @@
 ghost use Rattle.std.specs.Prelude.{ℕ, List, Option, None};
 
 use crate::pipelines::run;
-use fl_core::Engine;
+use fl_engines::Engine;
 use fl_graph::{From, Graph, Node, NodeKind, StatusRule, To};
 use ps_lines::{Memory, Text};
 use ps_world::{Path, WorldErr};
@@ -31,7 +31,7 @@ impl<H: Threads + Wait + Sync> Engine for Noting<H> {
 
     ghost used = { λ engine. None };
 
-    fn host(&self) -> Option<&H> {
+    fn host(&self, _graph: &Graph) -> Option<&H> {
         None
     }
 
@@ -62,9 +62,22 @@ fn add_bytes(noted: &mut String, bytes: &[u8]) -> Result<(), AllocError> {
 
 /// Writes down a node.
 fn add_node(alloc: Global, noted: &mut String, node: &Node) -> Result<(), AllocError> {
-    noted.push_str(format!(in alloc; "{} ", node.stage)?.as_str())?;
+    add_stage(alloc, noted, node.stage)?;
     add_kind(alloc, noted, &node.kind)?;
-    let edges = format!(in alloc; " {:?} {:?}; ", node.ins.as_slice(), node.outs.as_slice())?;
+    add_edges(alloc, noted, node.ins.as_slice())?;
+    add_edges(alloc, noted, node.outs.as_slice())?;
+    noted.push_str("; ")
+}
+
+/// Writes down the number of a node's stage.
+fn add_stage(alloc: Global, noted: &mut String, stage: u32) -> Result<(), AllocError> {
+    let stage = format!(in alloc; "{stage} ")?;
+    noted.push_str(stage.as_str())
+}
+
+/// Writes down the edges that lead to a node or from it.
+fn add_edges(alloc: Global, noted: &mut String, edges: &[u32]) -> Result<(), AllocError> {
+    let edges = format!(in alloc; " {edges:?}")?;
     noted.push_str(edges.as_str())
 }
 
@@ -76,6 +89,8 @@ fn add_kind(alloc: Global, noted: &mut String, kind: &NodeKind) -> Result<(), Al
         NodeKind::Text(text) => add_text(noted, text),
         NodeKind::Whole(inv) => add_words(noted, "Whole", inv.words()),
         NodeKind::Map(inv) => add_words(noted, "Map", inv.words()),
+        NodeKind::Agg(inv) => add_words(noted, "Agg", inv.words()),
+        NodeKind::Finish(inv) => add_words(noted, "Finish", inv.words()),
         NodeKind::Split => noted.push_str("Split"),
         NodeKind::Cat { close: false } => noted.push_str("Cat"),
         NodeKind::Cat { close: true } => noted.push_str("Cat closing"),
@@ -190,23 +205,54 @@ fn stages_have_their_nodes_in_order(rt: HostRuntime) -> Result<(), Fail> {
 }
 
 /// A width, a pipeline, and its graph at the width.
-static SPREAD: [(u32, &str, &str); 7] = [
+static SPREAD: [(u32, &str, &str); 13] = [
     // Parts that are closed go on to the next stage as they are.
     (
         2,
         "tr a b | grep x",
         "0 Source [] [0]; 0 Split [0] [1, 2]; 0 Map tr a b [1] [3]; 0 Map tr a b [2] [4]; 1 Map grep x [3] [5]; 1 Map grep x [4] [6]; 1 Cat [5, 6] [7]; 1 Sink [7] []; status of [4, 5] 0 1",
     ),
-    // They are joined where the next stage isn't spread.
     (
         2,
         "cat f | cut -c 1 | sort",
-        "0 Source /w/f [] [0]; 1 Split [0] [1, 2]; 1 Map cut -c 1 [1] [3]; 1 Map cut -c 1 [2] [4]; 1 Cat [3, 4] [5]; 2 Whole sort [5] [6]; 2 Sink [6] []; status 0",
+        "0 Source /w/f [] [0]; 1 Split [0] [1, 2]; 1 Map cut -c 1 [1] [3]; 1 Map cut -c 1 [2] [4]; 2 Map sort [3] [5]; 2 Map sort [4] [6]; 2 Agg sort [5, 6] [7]; 2 Sink [7] []; status 0",
     ),
+    // They are joined where the next stage isn't spread.
+    (
+        2,
+        "cat f | cut -c 1 | paste -s -",
+        "0 Source /w/f [] [0]; 1 Split [0] [1, 2]; 1 Map cut -c 1 [1] [3]; 1 Map cut -c 1 [2] [4]; 1 Cat [3, 4] [5]; 2 Whole paste -s - [5] [6]; 2 Sink [6] []; status 0",
+    ),
+    // Maps are aggregated two by two, the greater half first, and finished where their map isn't the output yet.
     (
         3,
         "grep x f | wc -l",
-        "0 Source /w/f [] [0]; 0 Split [0] [1, 2, 3]; 0 Map grep x f [1] [4]; 0 Map grep x f [2] [5]; 0 Map grep x f [3] [6]; 0 Cat [4, 5, 6] [7]; 1 Whole wc -l [7] [8]; 1 Sink [8] []; status 0",
+        "0 Source /w/f [] [0]; 0 Split [0] [1, 2, 3]; 0 Map grep x f [1] [4]; 0 Map grep x f [2] [5]; 0 Map grep x f [3] [6]; 1 Map wc -l [4] [7]; 1 Map wc -l [5] [8]; 1 Map wc -l [6] [9]; 1 Agg wc -l [7, 8] [10]; 1 Agg wc -l [10, 9] [11]; 1 Sink [11] []; status 0",
+    ),
+    (
+        2,
+        "wc -l f | cat",
+        "0 Source /w/f [] [0]; 0 Split [0] [1, 2]; 0 Map wc -l f [1] [3]; 0 Map wc -l f [2] [4]; 0 Agg wc -l f [3, 4] [5]; 0 Finish wc -l f [5] [6]; 1 Split [6] [7, 8]; 1 Map cat [7] [9]; 1 Map cat [8] [10]; 1 Cat [9, 10] [11]; 1 Sink [11] []; status 0",
+    ),
+    (
+        3,
+        "tail -n 1 f",
+        "0 Source /w/f [] [0]; 0 Split [0] [1, 2, 3]; 0 Map tail -n 1 f [1] [4]; 0 Map tail -n 1 f [2] [5]; 0 Map tail -n 1 f [3] [6]; 0 Agg tail -n 1 f [4, 5] [7]; 0 Agg tail -n 1 f [7, 6] [8]; 0 Sink [8] []; status 0",
+    ),
+    (
+        2,
+        "head -n 1 | tr -s a",
+        "0 Source [] [0]; 0 Split [0] [1, 2]; 0 Map head -n 1 [1] [3]; 0 Map head -n 1 [2] [4]; 0 Agg head -n 1 [3, 4] [5]; 1 Split [5] [6, 7]; 1 Map tr -s a [6] [8]; 1 Map tr -s a [7] [9]; 1 Agg tr -s a [8, 9] [10]; 1 Sink [10] []; status 0",
+    ),
+    (
+        2,
+        "uniq -c | grep -c x",
+        "0 Source [] [0]; 0 Split [0] [1, 2]; 0 Map uniq -c [1] [3]; 0 Map uniq -c [2] [4]; 0 Agg uniq -c [3, 4] [5]; 1 Split [5] [6, 7]; 1 Map grep -c x [6] [8]; 1 Map grep -c x [7] [9]; 1 Agg grep -c x [8, 9] [10]; 1 Sink [10] []; status of [6, 7] 0 1",
+    ),
+    (
+        2,
+        "uniq -d f",
+        "0 Source /w/f [] [0]; 0 Split [0] [1, 2]; 0 Map uniq -d f [1] [3]; 0 Map uniq -d f [2] [4]; 0 Agg uniq -d f [3, 4] [5]; 0 Finish uniq -d f [5] [6]; 0 Sink [6] []; status 0",
     ),
     // Parts that need not end in a newline are joined for a utility that reads lines, and taken by one that reads bytes.
     (
@@ -225,10 +271,11 @@ static SPREAD: [(u32, &str, &str); 7] = [
         "grep x f g",
         "0 Source /w/f [] [0]; 0 Source /w/g [] [1]; 0 Whole grep x f g [0, 1] [2]; 0 Sink [2] []; status of [2] 0 1",
     ),
+    // Nor is an input that a utility reads as a whole.
     (
         16,
-        "wc -l",
-        "0 Source [] [0]; 0 Whole wc -l [0] [1]; 0 Sink [1] []; status 0",
+        "tail -n +2",
+        "0 Source [] [0]; 0 Whole tail -n +2 [0] [1]; 0 Sink [1] []; status 0",
     ),
 ];
 

@@ -2,7 +2,7 @@
 //!
 //! What is written and the status are those of GNU coreutils and grep under `LC_ALL=C`.
 use fl_commands::{Commanded, Ended, look_at, run_command};
-use fl_core::InTurn;
+use fl_engines::InTurn;
 use fl_segments::First;
 use ps_fakes::{MemSink, MemSource, MemTree, OpenGate};
 use ps_lines::{Memory, Text};

@@ -1,6 +1,7 @@
 //! Graphs on an engine.
 use crate::graph::graph;
-use fl_core::{Came, Ends, Engine, InTurn, Over, are_run, number_ends, run_own};
+use fl_core::{Ends, are_run};
+use fl_engines::{Came, Engine, InTurn, Over, number_ends, run_own};
 use fl_graph::{Graph, validate};
 use ps_fakes::{MemSink, MemSource, OpenGate};
 use std::alloc::{AllocError, Global};

@@ -5,6 +5,8 @@
 
 ghost use Rattle.std.specs.Prelude.{◌≡◌, true, IfOk, IfSome};
 ghost use Rattle.ut_args.specs.Built.{is_built_of};
+ghost use Rattle.fl_graph.specs.Kinds.{may_have, runs_what_is_built};
+ghost use Rattle.fl_joints.specs.Joints.{is_joint};
 
 use fl_graph::{Act, Bytes, MAX_PIECE, Machine, NodeKind, Piece};
 use fl_joints::{Joint, joint};
@@ -13,7 +15,7 @@ use ps_world::{Mode, Path};
 use std::alloc::Global;
 use std::process::Abort;
 use std::test::Fail;
-use ut_args::{ArgFault, Inv, is_built, read_inv};
+use ut_args::{ArgFault, Inv, Origin, Report, is_built, read_inv};
 use ut_streams::cut_behind;
 
 /// Adds the bytes of a piece to a text, or how it ends.
@@ -291,7 +293,7 @@ fn read_words(alloc: Global, line: &str) -> Result<Option<Inv>, Memory>
 }
 
 /// An aggregate of three maps that are cut so puts this.
-fn expect_sum(
+fn expect_aggregate(
     rt: &impl Abort,
     alloc: Global,
     inv: Inv,
@@ -301,16 +303,51 @@ fn expect_sum(
 ) -> Result<(), Fail>
     requires { is_built_of inv ≡ true }
 {
-    let Inv::Wc(inv) = inv else {
-        return Err(Fail::new("no wc"));
+    let Some(kind) = aggregate_of(inv) else {
+        return Err(Fail::new("no aggregate"));
     };
-    let sum = joint(alloc, &NodeKind::Agg(Inv::Wc(inv)), 3, 1)?;
+    let started = joint(alloc, &kind, 3, 1);
+    drop(kind);
     let inputs = three_inputs(alloc, texts, cuts, Piece::End)?;
-    expect_put(rt, alloc, sum, inputs, 1, wanted)
+    expect_put(rt, alloc, started?, inputs, 1, wanted)
 }
 
-/// The words of `wc`, three lines of counts, and their sum.
-static SUMS: [(&str, Three, &str); 7] = [
+/// The node that aggregates the maps of an invocation, where such a node has a joint.
+fn aggregate_of(inv: Inv) -> Option<NodeKind>
+    requires { is_built_of inv ≡ true }
+    ensures joint { IfSome result (λ kind. is_joint kind ≡ true) }
+    ensures ports { IfSome result (λ kind. may_have kind 3 1 ≡ true) }
+    ensures built { IfSome result (λ kind. runs_what_is_built kind ≡ true) }
+{
+    match inv {
+        Inv::Wc(inv) => Some(NodeKind::Agg(Inv::Wc(inv))),
+        Inv::Grep(inv) => match inv.args.report {
+            Report::Count => Some(NodeKind::Agg(Inv::Grep(inv))),
+            Report::Lines | Report::Path | Report::Nothing => None,
+        },
+        Inv::Uniq(inv) => Some(NodeKind::Agg(Inv::Uniq(inv))),
+        Inv::Tr(inv) => Some(NodeKind::Agg(Inv::Tr(inv))),
+        Inv::Head(inv) => Some(NodeKind::Agg(Inv::Head(inv))),
+        Inv::Tail(inv) => match inv.args.part.origin {
+            Origin::End(_) => Some(NodeKind::Agg(Inv::Tail(inv))),
+            Origin::Start(_) => None,
+        },
+        Inv::Sort(inv) => Some(NodeKind::Agg(Inv::Sort(inv))),
+        other => {
+            drop(other);
+            None
+        }
+    }
+}
+
+/// The words of `wc` or `grep -c`, three lines of counts, and their sum.
+static SUMS: [(&str, Three, &str); 9] = [
+    ("grep -c a", ("2\n", "3\n", "40\n"), "45\n.#"),
+    (
+        "grep -c a",
+        ("1\n", "18446744073709551615\n", "0\n"),
+        "18446744073709551615\n.#",
+    ),
     ("wc -l", ("2\n", "3\n", "40\n"), "45\n.#"),
     (
         "wc -l",
@@ -333,7 +370,60 @@ fn counts_are_summed(rt: HostRuntime) -> Result<(), Fail> {
     for &(words, texts, wanted) in SUMS.iter() {
         for cuts in 0..8 {
             let inv = read_words(rt.alloc(), words)?.ok_or("no invocation")?;
-            expect_sum(&rt, rt.alloc(), inv, texts, cuts, wanted)?;
+            expect_aggregate(&rt, rt.alloc(), inv, texts, cuts, wanted)?;
+        }
+    }
+    Ok(())
+}
+
+/// The words of a command, the maps of three parts, and their aggregate.
+static AGGREGATES: [(&str, Three, &str); 22] = [
+    ("uniq", ("a\nb\n", "b\nb\nc\n", "c\n"), "a\nb\nc\n.#"),
+    ("uniq", ("a\n", "", "a\nb"), "a\nb\n.#"),
+    ("uniq -c", ("1 a\n2 b\n", "3 b\n", ""), "1 a\n5 b\n.#"),
+    ("uniq -c", ("2 b\n", "3 b\n", "4 b\n1 a\n"), "9 b\n1 a\n.#"),
+    (
+        "uniq -c",
+        ("18446744073709551615 a\n", "1 a\n", ""),
+        "18446744073709551615 a\n.#",
+    ),
+    ("uniq -d", ("1 a\n2 b\n", "3 b\n", ""), "1 a\n5 b\n.#"),
+    (
+        "uniq -u -f 1",
+        ("1 x a\n", "1 y a\n1 z b\n", ""),
+        "2 x a\n1 z b\n.#",
+    ),
+    ("tr -s a", ("ba", "ac", ""), "bac.#"),
+    ("tr -s a", ("", "aa", "ab"), "ab.#"),
+    ("tr -s a b", ("ab", "b", "ba"), "aba.#"),
+    ("head -n 2", ("a\n", "b\nc\n", "d\n"), "a\nb\n.#"),
+    ("head -n 3", ("a", "b\nc\n", "d"), "ab\nc\nd.#"),
+    ("head -n 0", ("a\n", "b\n", ""), ".#"),
+    ("tail -n 2", ("a\nb\n", "c\n", "d"), "c\nd.#"),
+    ("tail -n 2", ("a\nb", "c\nd", ""), "bc\nd.#"),
+    ("tail -c 3", ("ab", "c", "de"), "cde.#"),
+    ("sort -u -f", ("a\n", "A\nb\n", ""), "a\nb\n.#"),
+    ("sort -u -f", ("A\n", "a\nb\n", "B\nc\n"), "A\nb\nc\n.#"),
+    (
+        "sort",
+        ("a\nc\n", "b\nd\n", "a\ne\n"),
+        "a\na\nb\nc\nd\ne\n.#",
+    ),
+    (
+        "sort -n",
+        ("9\n10\n", "1\n010", "2\n"),
+        "1\n2\n9\n010\n10\n.#",
+    ),
+    ("sort -r", ("c\na\n", "", "b\n"), "c\nb\na\n.#"),
+    ("sort -u", ("", "", "b"), "b\n.#"),
+];
+
+#[test]
+fn parts_are_joined_where_they_meet(rt: HostRuntime) -> Result<(), Fail> {
+    for &(words, texts, wanted) in AGGREGATES.iter() {
+        for cuts in [0, 1, 2, 5, 21, 18446744073709551615] {
+            let inv = read_words(rt.alloc(), words)?.ok_or("no invocation")?;
+            expect_aggregate(&rt, rt.alloc(), inv, texts, cuts, wanted)?;
         }
     }
     Ok(())

@@ -18,6 +18,8 @@ mod joints;
 #[cfg(test)]
 mod machines;
 #[cfg(test)]
+mod meeting;
+#[cfg(test)]
 mod nets;
 #[cfg(test)]
 mod nodes;

@@ -9,7 +9,7 @@ ghost use Rattle.ps_world.specs.Files.{NoWriterOut};
 
 use crate::commands::left_of;
 use fl_commands::{Commanded, Ended, Member, look_at, run_pipeline};
-use fl_core::{Engine, InTurn};
+use fl_engines::{Engine, InTurn, OnThreads};
 use fl_segments::{First, MAX_STAGES};
 use ps_fakes::{MemSink, MemSource, MemTree, OpenGate};
 use ps_lines::Memory;
@@ -33,13 +33,14 @@ pub(crate) fn parts(alloc: Global, text: &[u8], between: u8) -> Result<Vec<Vec<u
 }
 
 /// The member of a pipeline with these words. It stops where there is none: a way out past an invocation costs minutes of proof.
-fn member<T: Tree>(rt: &impl Abort, alloc: Global, words: &[Vec<u8>], tree: &mut T) -> Member
+fn member<T: Tree>(rt: &impl Abort, alloc: Global, text: &[u8], tree: &mut T) -> Member
     ensures ready { CanRun result }
     ensures stand { IfSome (T.state tree.old).held (λ files. AllStand files result.operands.items) }
     ensures state { T.state tree.new ≡ T.state tree.old }
 {
+    let words = parts(alloc, text, b' ').expect(rt, "words");
     assert!(rt; !words.is_empty());
-    let inv = read_inv(alloc, words).expect(rt, "an invocation");
+    let inv = read_inv(alloc, words.as_slice()).expect(rt, "an invocation");
     let operands = look_at(alloc, inv.operands(), tree).expect(rt, "operands");
     assert!(rt; operands.len() < 9 && is_built(&inv));
     Member { inv, operands }
@@ -61,10 +62,11 @@ fn members<T: Tree>(
     let mut members = Vec::new(alloc);
     let mut left = texts.as_slice();
     while let [text, rest @ ..] = left {
-        let words = parts(alloc, text.as_slice(), b' ')?;
-        members.push(member(rt, alloc, words.as_slice(), tree))?;
+        let member = member(rt, alloc, text.as_slice(), tree);
+        members.push(member).expect(rt, "room for a member");
         left = rest;
     }
+    drop(texts);
     Ok(members)
 }
 
@@ -93,7 +95,7 @@ pub(crate) struct Ran {
     left: Vec<u8>,
 }
 
-/// Runs a pipeline over an input of two lines on an engine.
+/// Runs a pipeline over an input of two lines on an engine. It has no way out past what it holds, and lets go of that by calls.
 pub(crate) fn run<X: Engine>(
     rt: &impl Abort,
     alloc: Global,
@@ -101,14 +103,10 @@ pub(crate) fn run<X: Engine>(
     engine: &mut X,
 ) -> Result<Ran, WorldErr> {
     let mut tree = tree(alloc)?.expect(rt, "a tree");
-    let members = members(rt, alloc, pipeline.as_bytes(), &mut tree)?;
+    let members = members(rt, alloc, pipeline.as_bytes(), &mut tree).expect(rt, "members");
     assert!(rt; !members.is_empty() && members.len() <= MAX_STAGES);
-    let input = Vec::from_slice(alloc, b"in\nb\n")?;
-    let Commanded {
-        ended,
-        mut input,
-        out,
-    } = run_pipeline(
+    let input = Vec::from_slice(alloc, b"in\nb\n").expect(rt, "an input");
+    let commanded = run_pipeline(
         alloc,
         members.as_slice(),
         &First::Input,
@@ -118,23 +116,37 @@ pub(crate) fn run<X: Engine>(
         &OpenGate,
         engine,
     );
+    drop(members);
+    drop(tree);
+    what_came(alloc, commanded)
+}
+
+/// What came of a run.
+fn what_came(alloc: Global, commanded: Commanded<MemSource, MemSink>) -> Result<Ran, WorldErr> {
+    let Commanded {
+        ended,
+        mut input,
+        out,
+    } = commanded;
+    let output = Vec::from_slice(alloc, out.taken());
+    let left = left_of(alloc, &mut input);
+    drop(out);
+    drop(input);
     Ok(Ran {
         ended,
-        output: Vec::from_slice(alloc, out.taken())?,
-        left: left_of(alloc, &mut input)?,
+        output: output?,
+        left: left?,
     })
 }
 
-/// Whether a pipeline at a width writes this, and leaves this status and this of the input.
-fn runs_so<H: Abort + Threads + Wait + Sync>(
-    rt: &H,
+/// Whether a pipeline on an engine writes this, and leaves this status and this of the input.
+fn runs_so<X: Engine>(
+    rt: &impl Abort,
     alloc: Global,
-    width: u32,
+    engine: &mut X,
     (pipeline, output, status, left): (&str, &str, u8, &str),
 ) -> Result<bool, WorldErr> {
-    let mut engine = InTurn::<H>::new(alloc);
-    engine.spread_over(width);
-    let ran = run(rt, alloc, pipeline, &mut engine)?;
+    let ran = run(rt, alloc, pipeline, engine)?;
     Ok(
         ran.ended == Ended::Done(status)
             && ran.output.as_slice() == output.as_bytes()
@@ -142,11 +154,40 @@ fn runs_so<H: Abort + Threads + Wait + Sync>(
     )
 }
 
+/// Whether a pipeline at a width does so on the caller's thread.
+fn runs_in_turn<H: Abort + Threads + Wait + Sync>(
+    rt: &H,
+    alloc: Global,
+    width: u32,
+    row: (&str, &str, u8, &str),
+) -> Result<bool, WorldErr> {
+    let mut engine = InTurn::<H>::new(alloc);
+    engine.spread_over(width);
+    runs_so(rt, alloc, &mut engine, row)
+}
+
+/// Whether a pipeline at a width does so with each node on a thread of its own.
+fn runs_on_threads<H: Abort + Threads + Wait + Sync>(
+    rt: &H,
+    alloc: Global,
+    width: u32,
+    row: (&str, &str, u8, &str),
+) -> Result<bool, WorldErr> {
+    let mut engine = OnThreads::new(rt, alloc);
+    engine.spread_over(width);
+    runs_so(rt, alloc, &mut engine, row)
+}
+
 /// A pipeline, what it writes, the status that it leaves, and what it leaves of the input.
-static PIPELINES: [(&str, &str, u8, &str); 19] = [
+static PIPELINES: [(&str, &str, u8, &str); 24] = [
     ("grep -F b", "b\n", 0, ""),
     ("cat f - | wc -l", "4\n", 0, ""),
     ("tail -n 1 f | wc -c", "2\n", 0, "in\nb\n"),
+    ("cat f g - | wc", "5 5 12\n", 0, ""),
+    ("wc f", "2 2 4 f\n", 0, "in\nb\n"),
+    ("cat f g | grep -F -c b", "2\n", 0, "in\nb\n"),
+    ("cat f g | sort | uniq -d", "b\n", 0, "in\nb\n"),
+    ("cat f - | head -n 3 | tail -n 1", "in\n", 0, ""),
     // A later member reads files in the place of the stream that comes to it, or beside it.
     ("cat | grep -F b f", "b\n", 0, ""),
     ("cat f | cat g -", "b\nca\nb\n", 0, "in\nb\n"),
@@ -202,7 +243,18 @@ static PIPELINES: [(&str, &str, u8, &str); 19] = [
 fn members_run_over_what_the_ones_before_write(rt: HostRuntime) -> Result<(), Fail> {
     for &row in PIPELINES.iter() {
         for width in [1, 2, 16] {
-            let is_right = runs_so(&rt, rt.alloc(), width, row)?;
+            let is_right = runs_in_turn(&rt, rt.alloc(), width, row)?;
+            assert!(rt; is_right, "{} at {width}", row.0);
+        }
+    }
+    Ok(())
+}
+
+#[test]
+fn members_on_threads_write_what_they_write_in_turn(rt: HostRuntime) -> Result<(), Fail> {
+    for &row in PIPELINES.iter() {
+        for width in [1, 2, 16] {
+            let is_right = runs_on_threads(&rt, rt.alloc(), width, row)?;
             assert!(rt; is_right, "{} at {width}", row.0);
         }
     }

@@ -31,7 +31,7 @@ use Rattle.sh_eval.specs.Asking.{Asked, no_name, unknown, unlisted, unusable, ut
 use Rattle.sh_eval.specs.Builtins.{out_of, leaves_loops, sets, shifts, misused, answers, tests, echoes, reads, set_all, line_in, behind_line}
 use Rattle.sh_eval.specs.Lines.{bad_usage}
 use Rattle.sh_eval.specs.Redirections.{named_by}
-use Rattle.fl_core.specs.Logs.{Log}
+use Rattle.fl_engines.specs.Logs.{Log}
 use Rattle.sh_eval.specs.Contract.{Seen, Faults, Point, point_of, seen_of, drawn_of, faults_of, HasCause, IsGone, Meaning, Evaluates}
 use Rattle.sh_eval.specs.Ending.{InShell, how_behind, status_behind}
 use Rattle.sh_eval.proofs.Growing.{grows-self, grows-write, grows-leaving, adds-misused}

@@ -21,7 +21,7 @@ use Rattle.sh_eval.specs.Shells.{with_status}
 use Rattle.sh_eval.specs.States.{State, in_shell, leaves, left_in, to_read, reading, leaving, reads_to}
 use Rattle.sh_eval.specs.Builtins.{line_in, behind_line, set_all, reads}
 use Rattle.sh_eval.specs.Reading.{left_of, from_behind, told_behind, TakesLine, fields_of, all_set}
-use Rattle.fl_core.specs.Logs.{Log}
+use Rattle.fl_engines.specs.Logs.{Log}
 use Rattle.sh_eval.specs.Contract.{Seen, Faults, point_of, seen_of, drawn_of, then_ran, faults_of, Base, Has, Evaluates}
 use Rattle.sh_eval.proofs.Steps.{no-fewer, held-none}
 

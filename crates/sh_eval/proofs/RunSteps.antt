@@ -6,7 +6,7 @@ use Rattle.ps_world.specs.Files.{Files, NoWriterOut}
 use Rattle.ps_world.specs.Told.{then_bytes, GrewByPrefix}
 use Rattle.ps_world.specs.TreeState.{TreeState}
 use Rattle.ps_world.proofs.ToldLemmas.{then_bytes-append, grew_by_more, grew_by_whole}
-use Rattle.fl_core.specs.Logs.{Log, log_of}
+use Rattle.fl_engines.specs.Logs.{Log, log_of}
 use Rattle.fl_segments.specs.Noted.{Noted, used_at}
 use Rattle.fl_segments.specs.declared.stages.First.{First}
 use Rattle.fl_segments.proofs.NotedLemmas.{used-append}

@@ -14,7 +14,7 @@ use Rattle.sh_eval.specs.declared.outcomes.How.{How}
 use Rattle.sh_eval.specs.declared.outcomes.How.TheVariants as how
 use Rattle.sh_eval.specs.declared.session.Session.{Session}
 use Rattle.sh_eval.specs.declared.shell.Shell.{Shell}
-use Rattle.fl_core.specs.Logs.{Log, at_width, log_of}
+use Rattle.fl_engines.specs.Logs.{Log, at_width, log_of}
 use Rattle.fl_segments.specs.Noted.{Noted, used_at}
 use Rattle.sh_eval.specs.States.{Ends}
 use Rattle.sh_eval.specs.Contract.{Seen, drawn_of, then_ran, Faults, Point, point_of, seen_of, Has, Comes, Stands, IsSound, Meaning, Evaluates}

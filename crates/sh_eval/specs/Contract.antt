@@ -7,7 +7,7 @@ use Rattle.ps_world.specs.Counts.{Rose}
 use Rattle.ps_world.specs.Told.{then_bytes, GrewByPrefix}
 use Rattle.ps_world.specs.TreeState.{TreeState, Balanced}
 use Rattle.ps_world.specs.Files.{Files, NoWriterOut, IsFileAt}
-use Rattle.fl_core.specs.Logs.{Log}
+use Rattle.fl_engines.specs.Logs.{Log}
 use Rattle.fl_segments.specs.Noted.{Noted}
 use Rattle.fl_commands.specs.Runs.{with_noted}
 use Rattle.sh_expand.specs.Outcomes.{Expansions, AreExpansions}

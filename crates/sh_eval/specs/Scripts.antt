@@ -3,7 +3,7 @@ use Rattle.std.specs.Prelude.{◌≡◌, ℕ, List, Option, Some}
 use Rattle.std.specs.Option.{option_map}
 use Rattle.ps_world.specs.Told.{then_bytes, GrewByPrefix}
 use Rattle.ps_world.specs.TreeState.{TreeState}
-use Rattle.fl_core.specs.Logs.{Log, with_words}
+use Rattle.fl_engines.specs.Logs.{Log, with_words}
 use Rattle.fl_segments.specs.Noted.{Noted, used_at}
 use Rattle.sh_eval.specs.declared.flows.Flow.{Flow}
 use Rattle.sh_eval.specs.declared.outcomes.How.{How}

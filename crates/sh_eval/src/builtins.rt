@@ -2,7 +2,7 @@
 ghost use Rattle.std.specs.Prelude.{◌≡◌, ◌≤◌, nat_le, ℕ, List, Bool, Option, drop, length};
 ghost use Rattle.ps_lines.specs.Texts.{texts_of};
 ghost use Rattle.ut_args.specs.Invocations.{command_of};
-ghost use Rattle.fl_core.specs.Logs.{Log};
+ghost use Rattle.fl_engines.specs.Logs.{Log};
 ghost use Rattle.sh_eval.specs.Asking.{builtin, does};
 ghost use Rattle.sh_eval.specs.Builtins.{answers, echoes, exits, fails, leaves_loops, misused, reads, sets, shifts, succeeds, tests, unset_all as unset_all_lem, unsets};
 ghost use Rattle.sh_eval.specs.Contract.{Drawn, Evaluates, IsSound, drawn_of, faults_of, point_of, seen_of};

@@ -140,9 +140,16 @@ fn add_member(alloc: Global, member: Member, segment: &mut Segment) -> Result<()
     ensures members { OnOk result (segment.new.members.items ≡ segment.old.members.items ++ member ∷ []) }
     ensures lines { OnOk result (segment.new.lines.items ≡ segment.old.lines.items ++ lines_by (name_of_lem (called_by member.inv)) member.inv member.operands.items) }
 {
-    add_lines(alloc, &member, &mut segment.lines)?;
-    segment.members.push(member)?;
-    Ok(())
+    match add_lines(alloc, &member, &mut segment.lines) {
+        Ok(()) => {
+            segment.members.push(member)?;
+            Ok(())
+        }
+        Err(fault) => {
+            drop(member);
+            Err(fault)
+        }
+    }
 }
 
 /// Puts the lines of a member behind others.
@@ -184,9 +191,17 @@ fn find_member<T: Tree>(
     let Some(inv) = find_inv(alloc, words, shell, tree)? else {
         return Ok(None);
     };
-    match find_operands(alloc, &inv, held, tree)? {
-        Some(operands) => Ok(Some(Member { inv, operands })),
-        None => Ok(None),
+    // The invocation is let go by a call: at a way out it would be proved a variant at a time.
+    match find_operands(alloc, &inv, held, tree) {
+        Ok(Some(operands)) => Ok(Some(Member { inv, operands })),
+        Ok(None) => {
+            drop(inv);
+            Ok(None)
+        }
+        Err(fault) => {
+            drop(inv);
+            Err(fault)
+        }
     }
 }
 
@@ -287,10 +302,16 @@ fn keep_member(alloc: Global, inv: Inv) -> Result<Option<Inv>, Memory>
     ensures is { (fields : List (List ℕ)) → IsRead fields inv → IfOk result (λ found. IfSome found (IsRead fields)) }
     ensures can { IfOk result (λ found. IfSome found CanBeMember) }
 {
-    if can_be_member(alloc, &inv)? {
-        Ok(Some(inv))
-    } else {
-        Ok(None)
+    match can_be_member(alloc, &inv) {
+        Ok(true) => Ok(Some(inv)),
+        Ok(false) => {
+            drop(inv);
+            Ok(None)
+        }
+        Err(fault) => {
+            drop(inv);
+            Err(fault)
+        }
     }
 }
 

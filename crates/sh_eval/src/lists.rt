@@ -23,7 +23,7 @@ use crate::segments::run_segment;
 use crate::session::Session;
 use crate::shell::Shell;
 use crate::simple::run_simple;
-use fl_core::Engine;
+use fl_engines::Engine;
 use ps_world::{Gate, Sink, Source, Tree};
 use sh_tree::{AndOr, Command, Join, List, Pipeline, Simple, Tail};
 

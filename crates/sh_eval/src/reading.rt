@@ -3,7 +3,7 @@ ghost use Rattle.std.specs.Prelude.{◌≡◌, ℕ, List, Option, IfOk, OnOk, if
 ghost use Rattle.ps_lines.specs.Texts.{texts_of};
 ghost use Rattle.ps_world.specs.Counts.{Counts};
 ghost use Rattle.ps_world.specs.TreeState.{TreeState};
-ghost use Rattle.fl_core.specs.Logs.{Log};
+ghost use Rattle.fl_engines.specs.Logs.{Log};
 ghost use Rattle.sh_eval.specs.Builtins.{reads};
 ghost use Rattle.sh_eval.specs.Contract.{Evaluates, drawn_of, faults_of, point_of, seen_of};
 ghost use Rattle.sh_eval.specs.Reading.{TakesLine, all_set, fields_of};

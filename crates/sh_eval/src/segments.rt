@@ -13,7 +13,7 @@ use crate::outcomes::{How, Played, goes_on};
 use crate::session::Session;
 use crate::shell::Shell;
 use crate::utilities::{Task, run_task, tell_some};
-use fl_core::Engine;
+use fl_engines::Engine;
 use ps_world::{Gate, Sink, Source, Tree};
 use std::alloc::Global;
 

@@ -29,7 +29,7 @@ use crate::session::Session;
 use crate::shell::Shell;
 use crate::targets::Target;
 use crate::utilities::run_utility;
-use fl_core::Engine;
+use fl_engines::Engine;
 use ps_lines::Text;
 use ps_world::{Gate, Sink, Source, Tree};
 use sh_tree::{Redir, Word};
@@ -263,10 +263,14 @@ fn run_named<T: Tree, I: Source + Send, O: Sink + Send, E: Sink, G: Gate, X: Eng
         (faults_of (I.faults result.input) (O.faults result.out) (E.faults err.new) (T.faults tree.new))) }
 {
     match read_inv(alloc, fields) {
-        Ok(inv) => run_inv(
-            alloc, assigns, targets, name, &inv, shell, session, tree, input, out, err, gate,
-            engine,
-        ),
+        Ok(inv) => {
+            let played = run_inv(
+                alloc, assigns, targets, name, &inv, shell, session, tree, input, out, err, gate,
+                engine,
+            );
+            drop(inv);
+            played
+        }
         Err(fault) => run_fault(
             alloc, assigns, targets, fault, shell, session, tree, input, out, err, gate, engine,
         ),

@@ -14,7 +14,7 @@ use crate::lists::eval_list;
 use crate::outcomes::{How, Played};
 use crate::session::Session;
 use crate::shell::Shell;
-use fl_core::Engine;
+use fl_engines::Engine;
 use ps_world::{Gate, Sink, Source, Tree};
 use sh_tree::Script;
 use std::alloc::Global;

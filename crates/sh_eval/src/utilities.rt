@@ -30,7 +30,7 @@ use crate::shell::Shell;
 use crate::streams::{From, To};
 use crate::writing::{put, tell};
 use fl_commands::{Commanded, Ended, Member, Operand, lacks, look_at, run_command, run_pipeline};
-use fl_core::Engine;
+use fl_engines::Engine;
 use fl_segments::First;
 use ps_lines::{Memory, Text};
 use ps_world::{Gate, Place, Sink, Source, Tree, WorldErr};

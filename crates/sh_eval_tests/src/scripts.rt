@@ -1,5 +1,5 @@
 //! Small scripts over objects in memory: what each writes and tells, and the status that it leaves.
-use fl_core::InTurn;
+use fl_engines::InTurn;
 use ps_fakes::{MemSink, MemSource, MemTree, OpenGate};
 use ps_lines::Memory;
 use sh_eval::{Flow, How, Played, Refusal, Shell, run_script};

@@ -1,4 +1,6 @@
 pub mod LineLemmas
+pub mod SampleLemmas
+pub mod WordLemmas
 pub mod StartLemmas
 pub mod RunLemmas
 pub mod TopLemmas

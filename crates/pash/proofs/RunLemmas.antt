@@ -1,5 +1,5 @@
 -- Runs of commands, from what their parts say.
-use Rattle.std.proofs.Common.{◌≡◌, ℕ, ◌++◌, List, [], Option, Some, None, Result, Ok, Err, OnOk, OnErr, IfOk}
+use Rattle.std.proofs.Common.{◌≡◌, ℕ, ◌++◌, List, [], Option, Some, None, Result, Ok, Err, OnOk, OnErr, IfOk, IsErrOf}
 use Rattle.std.proofs.Common.{refl, sym, ap, subst, ◌∙◌, append-nil, arith, inl, inr}
 use Rattle.std.specs.Option.{IfSome, MatchOption, option_map}
 use Rattle.ps_world.specs.Files.{Files, NoWriterOut}
@@ -8,12 +8,13 @@ use Rattle.ps_world.specs.Told.{then_bytes, GrewByPrefix}
 use Rattle.ps_world.specs.TreeState.{TreeState, Balanced, OnlyLent}
 use Rattle.ps_world.proofs.ToldLemmas.{grew_by_front, grew_by_more, grew_by_nothing, grew_by_whole, then_bytes-append, then_bytes-nil}
 use Rattle.ps_world.proofs.TreeStateLemmas.{balanced-more, balanced-none, balanced-only_lent}
-use Rattle.fl_core.specs.Logs.{Log, log_of, with_words}
+use Rattle.fl_engines.specs.Logs.{Log, log_of, with_words}
+use Rattle.sh_tree.specs.Trees.{ScriptTree}
 use Rattle.sh_tree.specs.Views.{script_tree}
 use Rattle.sh_tree.specs.declared.commands.Script.{Script}
 use Rattle.sh_parse.specs.Outcomes.{AreOutcomes, Readings}
 use Rattle.sh_expand.specs.Outcomes.{AreExpansions, Expansions}
-use Rattle.sh_eval.specs.Contract.{Drawn, Faults, HasCause, IsGone, Seen, faults_of, seen_of}
+use Rattle.sh_eval.specs.Contract.{Drawn, Faults, HasCause, IsGone, Seen, drawn_of, faults_of, seen_of}
 use Rattle.sh_eval.specs.Meaning.{begun, script_means}
 use Rattle.sh_eval.specs.Scripts as scripts
 use Rattle.sh_eval.specs.Scripts.{Stopped, ran_at}
@@ -23,11 +24,12 @@ use Rattle.sh_eval.specs.declared.flows.Flow.{Flow}
 use Rattle.sh_eval.specs.declared.outcomes.How.{How}
 use Rattle.sh_eval.specs.declared.outcomes.How.TheVariants as how
 use Rattle.sh_eval.specs.declared.shell.Shell.{Shell}
-use Rattle.pash.specs.Answers.{IsOfRun, IsOfScript, IsWithoutScript, line_of, outcome_by, refusing}
-use Rattle.pash.specs.Meaning.{Meaning, outside_of, over, run_of, told}
+use Rattle.pash.specs.Answers.{IsOfRun, IsOfScript, IsWithoutScript, finished, line_of, outcome_by, refusing}
+use Rattle.pash.specs.Meaning.{Meaning, outside_of, over, run_of, told, with_input, written}
 use Rattle.pash.specs.Runs.{Comes, DrawsNothing, Leaves, Means, OnlyTold, Point, RunsAs, Stops, TellsOnly, came_of, point_of}
-use Rattle.pash.specs.Starts.{EndsWith, IfAnswered, IsAnswered, IsOfCommand, RunsNothing, Start, answered, as_start, runs, start_of}
-use Rattle.pash.specs.Words.{RunCommand}
+use Rattle.pash.specs.Starts.{EndsWith, IfAnswered, IsAnswered, IsOfCommand, RunsNothing, Start, answered, as_start, runs, start_of, text_of, tries, writes}
+use Rattle.pash.specs.Words.{Command}
+use Rattle.pash.specs.declared.command.Sample.{Sample}
 use Rattle.pash.specs.declared.starts.Setup.{Setup}
 use Rattle.pash.specs.declared.starts.Start.{Start as ReadStart}
 use Rattle.pash.specs.declared.starts.Start.TheVariants as read
@@ -141,6 +143,192 @@ module _ (old new : Point) (status width : ℕ) (own : Shell) (same : status ≡
         cause = stops-so came cause;
         lent = lent;
       }))
+
+-- A TEXT IS WRITTEN, and nothing else happens
+module _ (tree : TreeState) (drawn : Drawn) (taken errors taken' : Option (List ℕ)) (input output said tree_faults output' : ℕ) (text : List ℕ) where
+  comes-written : (files : Files) (left : List ℕ) (result : Result Outcome Stop) → tree.held ≡ Some files → drawn.left ≡ Some left
+      → IfOk result (λ outcome. outcome ≡ finished 0) → OnOk result (taken' ≡ then_bytes taken text) → OnErr result (GrewByPrefix taken taken' text)
+      → Comes (written text (outside_of tree.home files left)) result tree.held (seen_of drawn taken errors) (seen_of drawn taken' errors)
+  comes-written files left (Ok outcome) held left_is is grew part =
+      record { outcome_is = is; output = grew; errors = sym (then_bytes-nil errors); files = held; input = left_is; used = ran-none drawn.used }
+  comes-written files left (Err stopped) held left_is is grew part = record { output = part; errors = grew_by_nothing errors [] }
+
+  stops-written : (result : Result Outcome Stop) → Stops (faults_of 0 output 0 0) (faults_of 0 output' 0 0) result
+      → Stops (faults_of input output said tree_faults) (faults_of input output' said tree_faults) result
+  stops-written (Ok outcome) them =
+      record {
+        ok = ap (λ (it : Faults). faults_of input it.output said tree_faults) them.ok;
+        read = λ never. cc;
+        write = λ never. cc;
+        tree = λ never. cc;
+      }
+  stops-written (Err stopped) them =
+      record {
+        ok = tt;
+        read = λ is. (let never = them.read is in omega arith);
+        write = λ is. elim (them.write is) [ inl rose ↦ inl rose | inr never ↦ (let none : ⊥ = omega arith in absurd none) ];
+        tree = λ is. (let never = them.tree is in omega arith);
+      }
+
+  whole-written : (result : Result Outcome Stop) → IfSome tree.held NoWriterOut → OnOk result (IfSome tree.held NoWriterOut)
+  whole-written (Ok outcome) whole = whole
+  whole-written (Err stopped) whole = tt
+
+  pub run-written : (start : ReadStart) (sample : Sample) → start ≡ read.Text sample → text ≡ text_of sample → (result : Result Outcome Stop)
+      → IfSome tree.held NoWriterOut → IfOk result (λ outcome. outcome ≡ finished 0) → OnOk result (taken' ≡ then_bytes taken text)
+      → OnErr result (GrewByPrefix taken taken' text) → Stops (faults_of 0 output 0 0) (faults_of 0 output' 0 0) result
+      → RunsAs (λ reads. run_of (as_start start)) (point_of tree (seen_of drawn taken errors) (faults_of input output said tree_faults)) result
+      (point_of tree (seen_of drawn taken' errors) (faults_of input output' said tree_faults))
+  run-written start sample start_is text_is result whole is grew part stops =
+      subst (λ (it : ReadStart). RunsAs (λ reads. run_of (as_start it)) (point_of tree (seen_of drawn taken errors) (faults_of input output said tree_faults))
+      result (point_of tree (seen_of drawn taken' errors) (faults_of input output' said tree_faults))) (sym start_is)
+      (subst (λ (it : List ℕ). RunsAs (λ reads. run_of (writes it)) (point_of tree (seen_of drawn taken errors) (faults_of input output said tree_faults))
+      result (point_of tree (seen_of drawn taken' errors) (faults_of input output' said tree_faults))) text_is (record {
+        comes = λ reads are expansions exps.
+            told_anyway (λ files left. Comes (written text (outside_of tree.home files left)) result tree.held (seen_of drawn taken errors)
+            (seen_of drawn taken' errors))
+            tree.held drawn.left (λ files left held left_is. comes-written files left result held left_is is grew part);
+        whole = whole-written result whole;
+        cause = stops-written result stops;
+        lent = balanced-none tree;
+      }))
+
+-- what begins a command reads no input
+pub no-read : {Began : Type 0} (output errors tree output' errors' tree' : ℕ) (stopped : Stop) (result : Result Began Stop) → result ≡ Err stopped
+    → Stops (faults_of 0 output errors tree) (faults_of 0 output' errors' tree') result → (came : Result Outcome Stop) → came ≡ Err stopped
+    → IsErrOf came stop.Read → ⊥
+no-read output errors tree output' errors' tree' stopped result result_is stops came came_is is =
+    let same : stopped ≡ stop.Read = cc in
+    let never = stops.read (result_is ∙ ap (λ (one : Stop). Err one) same) in
+    omega arith
+
+-- memory was wanted before anything was done
+pub run-wanted : (means : Means) (at : Point) → RunsAs means at (Err stop.Memory) at
+run-wanted means at =
+    record {
+      comes = λ reads are expansions exps.
+          told_anyway (λ files text. Stopped at.seen at.seen (means reads expansions (outside_of at.tree.home files text)).world) at.tree.held
+          at.seen.drawn.left (λ files text held left.
+          record {
+            output = grew_by_nothing at.seen.taken (means reads expansions (outside_of at.tree.home files text)).world.output;
+            errors = grew_by_nothing at.seen.errors (means reads expansions (outside_of at.tree.home files text)).world.errors;
+          });
+      whole = tt;
+      cause = record { ok = tt; read = λ is. cc; write = λ is. cc; tree = λ is. cc };
+      lent = balanced-none at.tree;
+    }
+
+-- what comes where a text of its own is told comes where any input is
+over_own : (First : Files → List ℕ → Type 0) (Next : Files → List ℕ → Type 0) (held : Option Files) (own left : Option (List ℕ)) (text : List ℕ) → own ≡ Some text
+    → ((files : Files) (input : List ℕ) → left ≡ Some input → First files text → Next files input)
+    → IfSome held (λ files. IfSome own (λ text. First files text)) → IfSome held (λ files. IfSome left (λ input. Next files input))
+over_own First Next None own left text own_is step is = tt
+over_own First Next (Some files) own None text own_is step is = tt
+over_own First Next (Some files) own (Some input) text own_is step is =
+    step files input refl (subst (λ (it : Option (List ℕ)). IfSome it (λ text. First files text)) own_is is)
+
+-- a text of its own doesn't fail
+pub never-read : (output said tree output' said' tree' status : ℕ) (came : How) (result : Result Outcome Stop) → result ≡ came_of came status
+    → HasCause came (faults_of 0 output said tree) (faults_of 0 output' said' tree') → IsErrOf result stop.Read → ⊥
+never-read output said tree output' said' tree' status (how.Gone flow) result result_is cause is = cc
+never-read output said tree output' said' tree' status how.ReadFault result result_is cause is = omega arith
+never-read output said tree output' said' tree' status how.WriteFault result result_is cause is = cc
+never-read output said tree output' said' tree' status how.TreeFault result result_is cause is = cc
+never-read output said tree output' said' tree' status how.Memory result result_is cause is = cc
+
+-- A TRIAL: a script runs over a text of its own, and any input stays as it is
+module _ (old new : TreeState) (used used' : Option Log) (taken errors taken' errors' : Option (List ℕ)) (output said tree_faults output' said' tree_faults' : ℕ)
+    (status width : ℕ) (own : Shell) (same : status ≡ own.status) where
+  module _ (source source' left : Option (List ℕ)) (input : List ℕ) (left_is : left ≡ Some input) where
+    tried-so : (came : Flow) (meant : Ends)
+        → scripts.Left (ran_at width used) (seen_of (drawn_of source used) taken errors) came own new (seen_of (drawn_of source' used') taken' errors') meant
+        → Leaves (with_input input (over width meant)) (outcome_by came status) new.held (seen_of (drawn_of left used) taken errors)
+        (seen_of (drawn_of left used') taken' errors')
+    tried-so came meant ends =
+        record {
+          outcome_is = ap (λ (flow : Flow). outcome_by flow status) ends.flow ∙ ap (outcome_by meant.flow) (same ∙ ap (λ (it : Shell). it.status) ends.shell);
+          output = ends.output;
+          errors = ends.errors;
+          files = ends.files;
+          input = left_is;
+          used = ends.used;
+        }
+
+    behind-so : (meant : Ends) → Stopped (seen_of (drawn_of source used) taken errors) (seen_of (drawn_of source' used') taken' errors') meant.state.world
+        → Stopped (seen_of (drawn_of left used) taken errors) (seen_of (drawn_of left used') taken' errors') (with_input input (over width meant)).world
+    behind-so meant behind = record { output = behind.output; errors = behind.errors }
+
+    comes-tried : (came : How) (meant : Ends)
+        → scripts.Leaves (ran_at width used) (seen_of (drawn_of source used) taken errors) came own new (seen_of (drawn_of source' used') taken' errors') meant
+        → Comes (with_input input (over width meant)) (came_of came status) new.held (seen_of (drawn_of left used) taken errors)
+        (seen_of (drawn_of left used') taken' errors')
+    comes-tried (how.Gone flow) meant ends = tried-so flow meant ends
+    comes-tried how.ReadFault meant behind = behind-so meant behind
+    comes-tried how.WriteFault meant behind = behind-so meant behind
+    comes-tried how.TreeFault meant behind = behind-so meant behind
+    comes-tried how.Memory meant behind = behind-so meant behind
+
+  whole-tried : (came : How) → (IsGone came → IfSome new.held NoWriterOut) → OnOk (came_of came status) (IfSome new.held NoWriterOut)
+  whole-tried (how.Gone flow) whole = whole tt
+  whole-tried how.ReadFault whole = tt
+  whole-tried how.WriteFault whole = tt
+  whole-tried how.TreeFault whole = tt
+  whole-tried how.Memory whole = tt
+
+  stops-tried : (faults : ℕ) (came : How) → HasCause came (faults_of 0 output said tree_faults) (faults_of 0 output' said' tree_faults')
+      → Stops (faults_of faults output said tree_faults) (faults_of faults output' said' tree_faults') (came_of came status)
+  stops-tried faults (how.Gone flow) cause =
+      record {
+        ok = ap (λ (it : Faults). faults_of faults it.output it.errors it.tree) cause;
+        read = λ never. cc;
+        write = λ never. cc;
+        tree = λ never. cc;
+      }
+  stops-tried faults how.ReadFault cause = let none : ⊥ = omega arith in absurd none
+  stops-tried faults how.WriteFault cause = record { ok = tt; read = λ is. cc; write = λ is. cause; tree = λ is. cc }
+  stops-tried faults how.TreeFault cause = record { ok = tt; read = λ is. cc; write = λ is. cc; tree = λ is. cause }
+  stops-tried faults how.Memory cause = record { ok = tt; read = λ is. cc; write = λ is. cc; tree = λ is. cc }
+
+  pub run-tried : (script : ScriptTree) (setup : Setup) (text : List ℕ) (source source' : Option (List ℕ)) → source ≡ Some text → setup.width ≡ width
+      → (came : How) (result : Result Outcome Stop) → result ≡ came_of came status
+      → ((expansions : Expansions) → AreExpansions expansions → IfSome old.held (λ files. IfSome source (λ text.
+      scripts.Leaves (ran_at width used) (seen_of (drawn_of source used) taken errors) came own new (seen_of (drawn_of source' used') taken' errors')
+      (script_means expansions pages script (begun setup.shell old.home files text)))))
+      → (IsGone came → IfSome new.held NoWriterOut) → HasCause came (faults_of 0 output said tree_faults) (faults_of 0 output' said' tree_faults')
+      → Balanced old new → (left : Option (List ℕ)) (faults : ℕ)
+      → RunsAs (λ reads. run_of (tries script setup text)) (point_of old (seen_of (drawn_of left used) taken errors) (faults_of faults output said tree_faults))
+      result (point_of new (seen_of (drawn_of left used') taken' errors') (faults_of faults output' said' tree_faults'))
+  run-tried script setup text source source' source_is spread came result is meaning whole cause lent left faults =
+      subst (λ (it : Result Outcome Stop). RunsAs (λ reads. run_of (tries script setup text))
+      (point_of old (seen_of (drawn_of left used) taken errors) (faults_of faults output said tree_faults)) it
+      (point_of new (seen_of (drawn_of left used') taken' errors') (faults_of faults output' said' tree_faults'))) (sym is) (record {
+        comes = λ reads are expansions exps.
+            over_own (λ files text. scripts.Leaves (ran_at width used) (seen_of (drawn_of source used) taken errors) came own new
+            (seen_of (drawn_of source' used') taken' errors') (script_means expansions pages script (begun setup.shell old.home files text)))
+            (λ files input. Comes (run_of (tries script setup text) expansions (outside_of old.home files input)) (came_of came status) new.held
+            (seen_of (drawn_of left used) taken errors) (seen_of (drawn_of left used') taken' errors'))
+            old.held source left text source_is
+            (λ files input left_is ends.
+            subst (λ (it : ℕ). Comes (with_input input (over it (script_means expansions pages script (begun setup.shell old.home files text))))
+            (came_of came status) new.held (seen_of (drawn_of left used) taken errors) (seen_of (drawn_of left used') taken' errors')) (sym spread)
+            (comes-tried source source' left input left_is came (script_means expansions pages script (begun setup.shell old.home files text)) ends))
+            (meaning expansions exps);
+        whole = whole-tried came whole;
+        cause = stops-tried faults came cause;
+        lent = lent;
+      })
+
+-- and so does one over the text that a seed gives
+pub run-over : (old new : Point) (script : ScriptTree) (setup : Setup) (text other : List ℕ) → text ≡ other → (result : Result Outcome Stop)
+    → RunsAs (λ reads. run_of (tries script setup text)) old result new → RunsAs (λ reads. run_of (tries script setup other)) old result new
+run-over old new script setup text other same result ran =
+    subst (λ (it : List ℕ). RunsAs (λ reads. run_of (tries script setup it)) old result new) same ran
+
+pub run-of-trial : (old new : Point) (start : ReadStart) (script : Script) (setup : Setup) (sample : Sample) → start ≡ read.Trial script setup sample
+    → (result : Result Outcome Stop) → RunsAs (λ reads. run_of (tries (script_tree script) setup (text_of sample))) old result new
+    → RunsAs (λ reads. run_of (as_start start)) old result new
+run-of-trial old new start script setup sample start_is result ran =
+    subst (λ (it : ReadStart). RunsAs (λ reads. run_of (as_start it)) old result new) (sym start_is) ran
 
 -- THE LINE IS TOLD behind a run, and all is sent on
 module _ (means : Means) (old : Point) (outcome : Outcome) (tree : TreeState) (drawn : Drawn) (taken errors taken' errors' : Option (List ℕ))
@@ -347,6 +535,8 @@ module _ (Same : Type 0) (old tree new : TreeState) (lent : OnlyLent old tree) (
   without-script (read.Answered answer) (Ok outcome) ends told_so =
       λ without. (told_so.0, stays told_so.1, subst (λ (it : Why). OnlyTold it outcome.status was now) (sym ends) told_so.2)
   without-script (read.Script script setup) (Ok outcome) ends told_so = λ without. absurd (no-script outcome.why ends without)
+  without-script (read.Text sample) (Ok outcome) ends told_so = λ without. absurd (no-script outcome.why ends without)
+  without-script (read.Trial script setup sample) (Ok outcome) ends told_so = λ without. absurd (no-script outcome.why ends without)
   without-script start (Err stopped) ends told_so = tt
 
   draws-nothing : (answer : Why) (result : Result Outcome Stop) → TellsOnly answer result was now → DrawsNothing was now
@@ -357,8 +547,10 @@ module _ (Same : Type 0) (old tree new : TreeState) (lent : OnlyLent old tree) (
       → IfAnswered start (λ answer. Same × (new ≡ tree) × TellsOnly answer result was now) → Same × OnlyLent old new × DrawsNothing was now
   answered-alone (read.Answered answer) result is told_so = (told_so.0, stays told_so.1, draws-nothing answer result told_so.2)
   answered-alone (read.Script script setup) result is told_so = absurd is
+  answered-alone (read.Text sample) result is told_so = absurd is
+  answered-alone (read.Trial script setup sample) result is told_so = absurd is
 
-  is-answered : (reads : Readings) (start : ReadStart) (command : Option RunCommand) (held : Option Files)
+  is-answered : (reads : Readings) (start : ReadStart) (command : Option Command) (held : Option Files)
       → MatchOption command (start ≡ read.Answered why.Usage) (λ _. IsOfCommand start)
       → IfSome held (λ files. as_start start ≡ start_of reads files old.home command)
       → RunsNothing reads (record old { held = held }) command → IsAnswered (as_start start)
@@ -366,7 +558,7 @@ module _ (Same : Type 0) (old tree new : TreeState) (lent : OnlyLent old tree) (
   is-answered reads start (Some command) None usage is nothing = absurd nothing
   is-answered reads start (Some command) (Some files) usage is nothing = subst IsAnswered (sym is) nothing
 
-  pub nothing-run : (start : ReadStart) (result : Result Outcome Stop) (command : Option RunCommand)
+  pub nothing-run : (start : ReadStart) (result : Result Outcome Stop) (command : Option Command)
       → MatchOption command (start ≡ read.Answered why.Usage) (λ _. IsOfCommand start)
       → ((reads : Readings) → AreOutcomes reads → IfSome old.held (λ files. as_start start ≡ start_of reads files old.home command))
       → IfAnswered start (λ answer. Same × (new ≡ tree) × TellsOnly answer result was now)
@@ -374,21 +566,24 @@ module _ (Same : Type 0) (old tree new : TreeState) (lent : OnlyLent old tree) (
   nothing-run start result command usage is told_so reads are nothing =
       answered-alone start result (is-answered reads start command old.held usage (is reads are) nothing) told_so
 
+-- what ran is for a script
+of_run : (why : Why) → IsOfRun why → IsOfScript why
+of_run why.Finished run = tt
+of_run (why.Refused cause) run = tt
+of_run why.Usage run = run
+of_run (why.NoScript path) run = tt
+of_run why.ReadFault run = run
+of_run why.WriteFault run = run
+of_run why.TreeFault run = run
+of_run why.Memory run = run
+
 -- a start of no command is that of usage, and so is its answer
-pub answer-of : (start : ReadStart) (command : Option RunCommand) (result : Result Outcome Stop) → IfOk result (λ outcome. EndsWith start outcome.why)
+pub answer-of : (start : ReadStart) (command : Option Command) (result : Result Outcome Stop) → IfOk result (λ outcome. EndsWith start outcome.why)
     → MatchOption command (start ≡ read.Answered why.Usage) (λ _. IsOfCommand start)
     → IfOk result (λ outcome. MatchOption command (outcome.why ≡ why.Usage) (λ _. IsOfScript outcome.why))
 answer-of start None (Ok outcome) ends usage = subst (λ (it : ReadStart). EndsWith it outcome.why) usage ends
 answer-of (read.Answered answer) (Some command) (Ok outcome) ends usage = subst IsOfScript (sym ends) usage
 answer-of (read.Script script setup) (Some command) (Ok outcome) ends usage = of_run outcome.why ends
-  where
-    of_run : (why : Why) → IsOfRun why → IsOfScript why
-    of_run why.Finished run = tt
-    of_run (why.Refused cause) run = tt
-    of_run why.Usage run = run
-    of_run (why.NoScript path) run = tt
-    of_run why.ReadFault run = run
-    of_run why.WriteFault run = run
-    of_run why.TreeFault run = run
-    of_run why.Memory run = run
+answer-of (read.Text sample) (Some command) (Ok outcome) ends usage = of_run outcome.why ends
+answer-of (read.Trial script setup sample) (Some command) (Ok outcome) ends usage = of_run outcome.why ends
 answer-of start command (Err stopped) ends usage = tt

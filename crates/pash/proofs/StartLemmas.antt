@@ -13,7 +13,9 @@ use Rattle.sh_parse.specs.Outcomes.{AreOutcomes, Outcome, HasOutcome, Readings, 
 use Rattle.sh_parse.specs.declared.scripts.ParseRefusal.{ParseRefusal}
 use Rattle.sh_parse.specs.declared.scripts.ParseRefusal.TheVariants.{Refused}
 use Rattle.pash.specs.Readings.{AreReadAlike, IsUnread}
-use Rattle.pash.specs.Starts.{Start, as_start, start_of_outcome}
+use Rattle.pash.specs.Starts.{Start, as_start, over_text, start_of, start_of_outcome, start_of_run, start_of_trial}
+use Rattle.pash.specs.Words.{Command, RunCommand, run, trial}
+use Rattle.pash.specs.declared.command.Sample.{Sample}
 use Rattle.pash.specs.declared.answers.Stop.{Stop}
 use Rattle.pash.specs.declared.starts.Setup.{Setup}
 use Rattle.pash.specs.declared.starts.Start.{Start as ReadStart}
@@ -71,3 +73,29 @@ pub started-alike : (held : Option Files) (path : Components) (text : List ℕ) 
 started-alike None path text setup (Ok start) alike is = λ reads are. tt
 started-alike (Some files) path text setup (Ok start) alike is = λ reads are. is reads are ∙ ap (start_of_outcome setup) (alike.same reads are)
 started-alike held path text setup (Err stopped) alike is = tt
+
+-- a trial's start is that of its script, over its text
+pub started-over : (text script : List ℕ) (setup : Setup) (start made : ReadStart) → as_start made ≡ over_text text (as_start start)
+    → ((reads : Readings) → AreOutcomes reads → as_start start ≡ start_of_outcome setup (reads script))
+    → (reads : Readings) → AreOutcomes reads → as_start made ≡ over_text text (start_of_outcome setup (reads script))
+started-over text script setup start made is before reads are = is ∙ ap (over_text text) (before reads are)
+
+-- what a command to run a script comes to is what its words come to
+pub started-run : (held : Option Files) (home : Components) (asked : Option Command) (command : RunCommand) (result : Result ReadStart Stop)
+    → asked ≡ Some (run command)
+    → IfOk result (λ start. (reads : Readings) → AreOutcomes reads → IfSome held (λ files. as_start start ≡ start_of_run reads files home command))
+    → IfOk result (λ start. (reads : Readings) → AreOutcomes reads → IfSome held (λ files. as_start start ≡ start_of reads files home asked))
+started-run None home asked command (Ok start) asked_is is = λ reads are. tt
+started-run (Some files) home asked command (Ok start) asked_is is =
+    λ reads are. is reads are ∙ ap (start_of reads files home) (sym asked_is)
+started-run held home asked command (Err stopped) asked_is is = tt
+
+-- and so does that of a trial, which hangs on no file
+pub started-told : (held : Option Files) (home : Components) (asked : Option Command) (sample : Sample) (command : RunCommand) (result : Result ReadStart Stop)
+    → asked ≡ Some (trial sample command)
+    → IfOk result (λ start. (reads : Readings) → AreOutcomes reads → as_start start ≡ start_of_trial reads sample command)
+    → IfOk result (λ start. (reads : Readings) → AreOutcomes reads → IfSome held (λ files. as_start start ≡ start_of reads files home asked))
+started-told None home asked sample command (Ok start) asked_is is = λ reads are. tt
+started-told (Some files) home asked sample command (Ok start) asked_is is =
+    λ reads are. is reads are ∙ ap (start_of reads files home) (sym asked_is)
+started-told held home asked sample command (Err stopped) asked_is is = tt

@@ -10,7 +10,7 @@ use Rattle.sh_eval.specs.Scripts.{Stopped}
 use Rattle.pash.specs.Answers.{HasFaultStatus, IsAnswer, IsOfScript}
 use Rattle.pash.specs.Meaning.{Meaning, outside_of}
 use Rattle.pash.specs.Runs.{Leaves, Means, Point, RunsAs}
-use Rattle.pash.specs.Words.{RunCommand}
+use Rattle.pash.specs.Words.{Command}
 use Rattle.pash.specs.declared.answers.Outcome.{Outcome}
 use Rattle.pash.specs.declared.answers.Stop.{Stop}
 use Rattle.pash.specs.declared.answers.Why.{Why}
@@ -48,7 +48,7 @@ meaning-so means old new result outcome is came reads are expansions exps answer
     (subst (λ (it : Result Outcome Stop). RunsAs means old it new) is came).comes reads are expansions exps
 
 -- the answers for a script and that of usage are no faults
-no-fault : (command : Option RunCommand) (answer : Why) (status : ℕ) → MatchOption command (answer ≡ why.Usage) (λ _. IsOfScript answer)
+no-fault : (command : Option Command) (answer : Why) (status : ℕ) → MatchOption command (answer ≡ why.Usage) (λ _. IsOfScript answer)
     → HasFaultStatus answer status
 no-fault None answer status is = subst (λ (it : Why). HasFaultStatus it status) (sym is) tt
 no-fault (Some command) why.Finished status is = tt
@@ -60,7 +60,7 @@ no-fault (Some command) why.WriteFault status is = absurd is
 no-fault (Some command) why.TreeFault status is = absurd is
 no-fault (Some command) why.Memory status is = absurd is
 
-pub status-so : (command : Option RunCommand) (result : Result Outcome Stop) (outcome : Outcome) → result ≡ Ok outcome
+pub status-so : (command : Option Command) (result : Result Outcome Stop) (outcome : Outcome) → result ≡ Ok outcome
     → IfOk result (λ it. MatchOption command (it.why ≡ why.Usage) (λ _. IsOfScript it.why)) → HasFaultStatus outcome.why outcome.status
 status-so command result outcome is came =
     no-fault command outcome.why outcome.status

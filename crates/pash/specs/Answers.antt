@@ -66,12 +66,16 @@ refusal_of (static.ParameterForm offset) = refusal.ParameterForm offset
 abbrev pub refusing : Why → Outcome
 refusing answer = record { status = REFUSED; why = answer }
 
+-- a command has come to its end with this status
+abbrev pub finished : ℕ → Outcome
+finished status = record { status = status; why = why.Finished }
+
 -- a script that is over was refused in the middle, or it has ended, and then its status is `$?` (XCU 2.8.2)
 abbrev pub outcome_by : Flow → ℕ → Outcome
-outcome_by flow.On status = record { status = status; why = why.Finished }
-outcome_by (flow.Break count) status = record { status = status; why = why.Finished }
-outcome_by (flow.Continue count) status = record { status = status; why = why.Finished }
-outcome_by flow.Exit status = record { status = status; why = why.Finished }
+outcome_by flow.On status = finished status
+outcome_by (flow.Break count) status = finished status
+outcome_by (flow.Continue count) status = finished status
+outcome_by flow.Exit status = finished status
 outcome_by (flow.Refused cause) status = refusing (why.Refused cause)
 
 -- the answers that tell a command's meaning: all but the faults and want of memory

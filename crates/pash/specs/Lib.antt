@@ -1,3 +1,4 @@
+pub mod Samples
 pub mod Words
 pub mod Answers
 pub mod Readings

@@ -9,10 +9,12 @@ use Rattle.sh_expand.specs.Outcomes.{Expansions}
 use Rattle.sh_eval.specs.Meaning.{begun, script_means}
 use Rattle.sh_eval.specs.States.{Ends, World}
 use Rattle.sh_eval.specs.Table.{pages}
-use Rattle.pash.specs.Answers.{line_of, outcome_by, refusing}
-use Rattle.pash.specs.Starts.{Start, answered, runs, start_of}
+use Rattle.pash.specs.Answers.{finished, line_of, outcome_by, refusing}
+use Rattle.sh_tree.specs.Trees.{ScriptTree}
+use Rattle.pash.specs.Starts.{Start, answered, runs, start_of, tries, writes}
 use Rattle.pash.specs.Words.{command_of}
 use Rattle.pash.specs.declared.answers.Outcome.{Outcome}
+use Rattle.pash.specs.declared.starts.Setup.{Setup}
 
 -- what the outside holds as a command begins: the files, the working directory, and what is to come of the input
 pub record Outside : Type 0 where
@@ -45,10 +47,24 @@ untouched outside =
 abbrev pub over : ℕ → Ends → Meaning
 over width left = record { outcome = outcome_by left.flow left.state.shell.status; world = left.state.world; used = used_at width left.state.world.ran }
 
+-- a text is written
+abbrev pub written : List ℕ → Outside → Meaning
+written text outside = record { outcome = finished 0; world = record (untouched outside) { output = text }; used = [] }
+
+-- the input is untouched, since the script has read another text
+abbrev pub with_input : List ℕ → Meaning → Meaning
+with_input input run = record run { world = record run.world { input = input } }
+
+-- what a script comes to that begins so and reads this text
+abbrev pub ran_over : ScriptTree → Setup → List ℕ → Expansions → Outside → Meaning
+ran_over script setup text expansions outside = over setup.width (script_means expansions pages script (begun setup.shell outside.home outside.files text))
+
 -- what comes of a start, before the line of the answer is told
 abbrev pub run_of : Start → Expansions → Outside → Meaning
 run_of (answered answer) expansions outside = record { outcome = refusing answer; world = untouched outside; used = [] }
-run_of (runs script setup) expansions outside = over setup.width (script_means expansions pages script (begun setup.shell outside.home outside.files outside.input))
+run_of (runs script setup) expansions outside = ran_over script setup outside.input expansions outside
+run_of (writes text) expansions outside = written text outside
+run_of (tries script setup text) expansions outside = with_input outside.input (ran_over script setup text expansions outside)
 
 -- the line of the answer is told behind all that was told
 abbrev pub told : Meaning → Meaning

@@ -9,7 +9,7 @@ use Rattle.ps_world.specs.declared.WorldErr.{WorldErr}
 use Rattle.ps_world.specs.declared.WorldErr.TheVariants as world
 use Rattle.sh_parse.specs.Outcomes.{AreOutcomes, Readings}
 use Rattle.sh_expand.specs.Outcomes.{AreExpansions, Expansions}
-use Rattle.fl_core.specs.Logs.{with_words}
+use Rattle.fl_engines.specs.Logs.{with_words}
 use Rattle.sh_eval.specs.Contract.{Faults, Seen}
 use Rattle.sh_eval.specs.Scripts.{Stopped}
 use Rattle.sh_eval.specs.declared.outcomes.How.{How}

@@ -1,5 +1,5 @@
 -- What the words of the command line come to before anything runs: an answer, or a script with what it begins with.
-use Rattle.std.specs.Prelude.{◌≡◌, Option, Some, None}
+use Rattle.std.specs.Prelude.{◌≡◌, ℕ, List, Bool, true, false, Option, Some, None, codes}
 use Rattle.ps_world.specs.Paths.{Components}
 use Rattle.ps_world.specs.Files.{Files, bytes_at}
 use Rattle.ps_world.specs.Places.{resolve}
@@ -13,7 +13,9 @@ use Rattle.sh_parse.specs.Outcomes as parsed
 use Rattle.sh_eval.specs.Shells.{started}
 use Rattle.sh_eval.specs.declared.shell.Shell.{Shell}
 use Rattle.pash.specs.Answers.{IsOfRun, IsOfScript, refusal_of}
-use Rattle.pash.specs.Words.{RunCommand}
+use Rattle.pash.specs.Samples.{sample_text}
+use Rattle.pash.specs.Words.{Command, RunCommand, gen, run, trial}
+use Rattle.pash.specs.declared.command.Sample.{Sample}
 use Rattle.pash.specs.declared.answers.Why.{Why}
 use Rattle.pash.specs.declared.answers.Why.TheVariants as why
 use Rattle.pash.specs.declared.starts.Setup.{Setup}
@@ -25,6 +27,10 @@ pub data Start : Type 0 where
   answered : Why → Start
   -- this script runs, and begins so
   runs : ScriptTree → Setup → Start
+  -- this text is written
+  writes : List ℕ → Start
+  -- this script runs so over this text
+  tries : ScriptTree → Setup → List ℕ → Start
 
 -- the path of the file that a place names, where it names one
 abbrev pub file_of : Place → Option Components
@@ -47,6 +53,24 @@ abbrev pub start_of_outcome : Setup → Outcome → Start
 start_of_outcome setup (parsed.script tree) = runs tree setup
 start_of_outcome setup (parsed.refused cause) = answered (why.Refused (refusal_of cause))
 
+-- the text that a seed gives
+abbrev pub text_of : Sample → List ℕ
+text_of sample = sample_text sample.seed sample.lines
+
+-- the script runs over this text, where one runs
+abbrev pub over_text : List ℕ → Start → Start
+over_text text (answered answer) = answered answer
+over_text text (runs tree setup) = tries tree setup text
+over_text text (writes other) = writes other
+over_text text (tries tree setup other) = tries tree setup other
+
+-- the trial's script: the three words that stand most often
+abbrev pub trial_script : List ℕ
+trial_script = codes "tr -cs a-z '\\n' | sort | uniq -c | sort -rn | head -n 3"
+
+abbrev pub start_of_trial : Readings → Sample → RunCommand → Start
+start_of_trial reads sample command = over_text (text_of sample) (start_of_outcome (setup_of command) (reads trial_script))
+
 module _ (reads : Readings) (files : Files) (home : Components) where
   -- a script runs where its path names a file
   abbrev pub start_of_file : RunCommand → Option Components → Start
@@ -56,21 +80,25 @@ module _ (reads : Readings) (files : Files) (home : Components) where
   abbrev pub start_of_run : RunCommand → Start
   start_of_run command = start_of_file command (file_of (resolve files home command.script))
 
-  abbrev pub start_of : Option RunCommand → Start
+  abbrev pub start_of : Option Command → Start
   start_of None = answered why.Usage
-  start_of (Some command) = start_of_run command
+  start_of (Some (run command)) = start_of_run command
+  start_of (Some (gen sample)) = writes (text_of sample)
+  start_of (Some (trial sample command)) = start_of_trial reads sample command
 
 -- nothing runs
 abbrev pub IsAnswered : Start → Type 0
 IsAnswered (answered answer) = Unit {0}
 IsAnswered (runs tree setup) = ⊥
+IsAnswered (writes text) = ⊥
+IsAnswered (tries tree setup text) = ⊥
 
-abbrev pub IsAnsweredBy : Readings → Components → RunCommand → Option Files → Type 0
+abbrev pub IsAnsweredBy : Readings → Components → Command → Option Files → Type 0
 IsAnsweredBy reads home command None = ⊥
-IsAnsweredBy reads home command (Some files) = IsAnswered (start_of_run reads files home command)
+IsAnsweredBy reads home command (Some files) = IsAnswered (start_of reads files home (Some command))
 
 -- nothing runs, by the words or by the files that are told
-abbrev pub RunsNothing : Readings → TreeState → Option RunCommand → Type 0
+abbrev pub RunsNothing : Readings → TreeState → Option Command → Type 0
 RunsNothing reads state None = Unit {0}
 RunsNothing reads state (Some command) = IsAnsweredBy reads state.home command state.held
 
@@ -78,18 +106,40 @@ RunsNothing reads state (Some command) = IsAnsweredBy reads state.home command s
 abbrev pub as_start : ReadStart → Start
 as_start (read.Answered answer) = answered answer
 as_start (read.Script script setup) = runs (script_tree script) setup
+as_start (read.Text sample) = writes (text_of sample)
+as_start (read.Trial script setup sample) = tries (script_tree script) setup (text_of sample)
+
+-- it reads the input
+abbrev pub draws : ReadStart → Bool
+draws (read.Answered answer) = false
+draws (read.Script script setup) = true
+draws (read.Text sample) = false
+draws (read.Trial script setup sample) = false
+
+-- it uses the tree
+abbrev pub uses_tree : ReadStart → Bool
+uses_tree (read.Answered answer) = false
+uses_tree (read.Script script setup) = true
+uses_tree (read.Text sample) = false
+uses_tree (read.Trial script setup sample) = true
 
 -- it is so of the answer, where nothing runs
 abbrev pub IfAnswered : ReadStart → (Why → Type 0) → Type 0
 IfAnswered (read.Answered answer) Holds = Holds answer
 IfAnswered (read.Script script setup) Holds = Unit {0}
+IfAnswered (read.Text sample) Holds = Unit {0}
+IfAnswered (read.Trial script setup sample) Holds = Unit {0}
 
--- a start ends with this answer: its own, or that of a script which ran
+-- a start ends with this answer: its own, or that of what it does
 abbrev pub EndsWith : ReadStart → Why → Type 0
 EndsWith (read.Answered own) answer = answer ≡ own
 EndsWith (read.Script script setup) answer = IsOfRun answer
+EndsWith (read.Text sample) answer = IsOfRun answer
+EndsWith (read.Trial script setup sample) answer = IsOfRun answer
 
--- it comes of a command to run a script
+-- it comes of a command
 abbrev pub IsOfCommand : ReadStart → Type 0
 IsOfCommand (read.Answered answer) = IsOfScript answer
 IsOfCommand (read.Script script setup) = Unit {0}
+IsOfCommand (read.Text sample) = Unit {0}
+IsOfCommand (read.Trial script setup sample) = Unit {0}

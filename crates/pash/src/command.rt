@@ -5,7 +5,21 @@ ghost use Rattle.pash.specs.declared.command.TheConstants.{MOST_WIDTH};
 /// The largest width.
 pub const MOST_WIDTH: u32 = 16;
 
-/// A command to run a script at a width: `run W SCRIPT ARG*`.
+/// The most lines of a text that a seed gives.
+pub const MOST_LINES: u32 = 1_000_000;
+
+/// What the words of the command line ask for.
+#[derive(Drop)]
+pub enum Command<'a> {
+    /// Runs a script: `run W SCRIPT ARG*`.
+    Run(RunCommand<'a>),
+    /// Writes the text that a seed gives: `gen SEED LINES`.
+    Gen(Sample),
+    /// Runs the trial's script over this text, as a script of this name, at this width: `trial SEED LINES W`.
+    Trial(Sample, RunCommand<'a>),
+}
+
+/// A command to run a script at a width.
 #[derive(Drop)]
 pub struct RunCommand<'a> {
     /// Over how many parts utilities are spread whose input may be cut, 1 to 16.
@@ -15,4 +29,12 @@ pub struct RunCommand<'a> {
     /// The script's arguments, `$1` first.
     pub arguments: &'a [String],
     ghost spread: { (1 ≤ width) × (width ≤ MOST_WIDTH) },
+}
+
+/// A text that a seed gives (`samples`).
+#[derive(Clone, Copy, Debug, Drop)]
+pub struct Sample {
+    pub seed: u32,
+    /// How many lines it has.
+    pub lines: u32,
 }

@@ -1,8 +1,9 @@
 //! `pash` runs a shell script, whose utilities are dataflow graphs, and leaves what the script means, byte for byte.
 //!
-//! Each graph runs on one thread so far. `top::pash` is the call that this program makes, over the machine's files and streams, and its
-//! contract says what every run leaves: `specs/Starts.antt` is what the words of the command line come to, `specs/Meaning.antt` the meaning
-//! of a command, by that of a script (`sh_eval/specs/Meaning.antt`), and `specs/Runs.antt` how output, errors, files and answer are tied to it.
+//! The nodes of a graph run on threads, where two of them have work of their own (`fl_engines`). `top::pash` is the call that this program
+//! makes, over the machine's files and streams, and its contract says what every run leaves: `specs/Starts.antt` is what the words of the
+//! command line come to, `specs/Meaning.antt` the meaning of a command, by that of a script (`sh_eval/specs/Meaning.antt`), and
+//! `specs/Runs.antt` how output, errors, files and answer are tied to it.
 #![tactic(auto)]
 
 mod answers;
@@ -10,13 +11,14 @@ mod command;
 mod lines;
 mod reading;
 mod run;
+mod samples;
 mod starts;
 #[cfg(test)]
 mod tests;
 mod top;
 mod words;
 
-use fl_core::InTurn;
+use fl_engines::OnThreads;
 use ps_fakes::OpenGate;
 use ps_real::{RealError, RealInput, RealOutput, RealTree};
 use ps_world::Path;
@@ -33,8 +35,9 @@ fn main(rt: HostRuntime) -> io::Result<ExitCode> {
     let out = RealOutput::new(&rt);
     let mut err = RealError::new(&rt);
     let alloc = rt.alloc();
+    let threads = rt.clone()?;
     let mut tree = RealTree::new(rt, home);
-    let mut engine: InTurn<HostRuntime> = InTurn::new(alloc);
+    let mut engine = OnThreads::new(&threads, alloc);
     let end = top::pash(
         alloc,
         words.as_slice(),

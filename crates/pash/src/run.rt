@@ -1,22 +1,27 @@
 //! A run, from the words of the command line to the line of its answer.
-ghost use Rattle.std.specs.Prelude.{◌≡◌, IfOk, IfSome, MatchOption, Ok, OnErr, OnOk};
+ghost use Rattle.std.specs.Prelude.{◌≡◌, ◌≤◌, ◌^◌, ℕ, List, Option, false, vec_len, IfOk, IfSome, IsErrOf, MatchOption, Ok, OnErr, OnOk};
 ghost use Rattle.ps_world.specs.Files.{NoWriterOut};
 ghost use Rattle.ps_world.specs.Told.{then_bytes, GrewByPrefix};
 ghost use Rattle.ps_world.specs.TreeState.{OnlyLent};
 ghost use Rattle.sh_parse.specs.Outcomes.{AreOutcomes, Readings};
 ghost use Rattle.sh_eval.specs.Contract.{drawn_of, faults_of, seen_of};
-ghost use Rattle.pash.specs.Answers.{IsOfScript, IsWithoutScript, line_of, refusing};
+ghost use Rattle.sh_tree.specs.Views.{script_tree};
+ghost use Rattle.pash.specs.Answers.{IsOfRun, IsOfScript, IsWithoutScript, finished, line_of, refusing};
 ghost use Rattle.pash.specs.Meaning.{meaning, run_of, told};
 ghost use Rattle.pash.specs.Runs.{DrawsNothing, OnlyTold, RunsAs, Stops, TellsOnly, came_of as came_of_lem, point_of};
-ghost use Rattle.pash.specs.Starts.{EndsWith, IfAnswered, RunsNothing, as_start};
-ghost use Rattle.pash.specs.Words.{command_of, texts};
+ghost use Rattle.pash.specs.Starts.{EndsWith, IfAnswered, RunsNothing, as_start, draws, text_of, tries, uses_tree};
+ghost use Rattle.pash.specs.Words.{command_of, reads_input, texts, uses_files};
 
 use crate::answers::{Outcome, Stop, Why, answered, ended, of_sink};
+use crate::command::Sample;
 use crate::lines::answer_line;
+use crate::samples::sample_text;
 use crate::starts::{Setup, Start, begin};
-use fl_core::Engine;
+use fl_engines::Engine;
+use ps_fakes::NoFailSource;
 use ps_world::{Gate, Sink, Source, Tree, write_all};
 use sh_eval::{How, Played, run_script};
+use sh_tree::Script;
 use std::alloc::Global;
 
 /// How a run came out, with the input and the output that it was handed.
@@ -55,6 +60,8 @@ pub fn run_words<T: Tree, I: Source + Send, O: Sink + Send, E: Sink, G: Gate, X:
         (result.input ≡ input) × OnlyLent (T.state tree.old) (T.state tree.new) × DrawsNothing
         (seen_of (drawn_of (I.left input) (X.used engine.old)) (O.taken out) (E.taken err.old))
         (seen_of (drawn_of (I.left result.input) (X.used engine.new)) (O.taken result.out) (E.taken err.new)) }
+    ensures unread { reads_input (command_of (texts words.now)) ≡ false → (result.input ≡ input) × (IsErrOf result.outcome Stop.Read → ⊥) }
+    ensures unused { uses_files (command_of (texts words.now)) ≡ false → (tree.new ≡ tree.old) × (IsErrOf result.outcome Stop.Tree → ⊥) }
 {
     match begin(alloc, tree, words) {
         Ok(start) => run_and_tell(alloc, start, tree, input, out, err, gate, engine),
@@ -89,6 +96,8 @@ fn run_and_tell<T: Tree, I: Source + Send, O: Sink + Send, E: Sink, G: Gate, X: 
     ensures answered { IfAnswered start (λ answer. (result.input ≡ input) × (T.state tree.new ≡ T.state tree.old) × TellsOnly answer result.outcome
         (seen_of (drawn_of (I.left input) (X.used engine.old)) (O.taken out) (E.taken err.old))
         (seen_of (drawn_of (I.left result.input) (X.used engine.new)) (O.taken result.out) (E.taken err.new))) }
+    ensures unread { draws start ≡ false → (result.input ≡ input) × (IsErrOf result.outcome Stop.Read → ⊥) }
+    ensures unused { uses_tree start ≡ false → (tree.new ≡ tree.old) × (IsErrOf result.outcome Stop.Tree → ⊥) }
 {
     let Ran {
         outcome,
@@ -135,6 +144,8 @@ fn run_start<T: Tree, I: Source + Send, O: Sink + Send, E: Sink, G: Gate, X: Eng
     ensures answered { IfAnswered start (λ answer. (result.input ≡ input) × (T.state tree.new ≡ T.state tree.old) × (result.outcome ≡ Ok (refusing answer))
         × (seen_of (drawn_of (I.left result.input) (X.used engine.new)) (O.taken result.out) (E.taken err.new)
         ≡ seen_of (drawn_of (I.left input) (X.used engine.old)) (O.taken out) (E.taken err.old))) }
+    ensures unread { draws start ≡ false → (result.input ≡ input) × (IsErrOf result.outcome Stop.Read → ⊥) }
+    ensures unused { uses_tree start ≡ false → (tree.new ≡ tree.old) × (IsErrOf result.outcome Stop.Tree → ⊥) }
 {
     match start {
         Start::Answered(why) => Ran {
@@ -154,7 +165,119 @@ fn run_start<T: Tree, I: Source + Send, O: Sink + Send, E: Sink, G: Gate, X: Eng
                 out,
             }
         }
+        Start::Text(sample) => {
+            let mut out = out;
+            let outcome = write_sample(alloc, sample, &mut out);
+            Ran {
+                outcome,
+                input,
+                out,
+            }
+        }
+        Start::Trial(script, setup, sample) => {
+            let Tried { outcome, out } = run_trial(
+                alloc, &script, setup, sample, tree, out, err, gate, engine,
+            );
+            Ran {
+                outcome,
+                input,
+                out,
+            }
+        }
     }
+}
+
+/// Writes the text that a seed gives.
+#[tactic(auto, using(ps_world::proofs::ToldLemmas::grew_by_nothing))]
+fn write_sample<O: Sink>(alloc: Global, sample: Sample, out: &mut O) -> Result<Outcome, Stop>
+    ensures outcome { IfOk result (λ outcome. outcome ≡ finished 0) }
+    ensures ok { OnOk result (O.taken out.new ≡ then_bytes (O.taken out.old) (text_of sample)) }
+    ensures part { OnErr result (GrewByPrefix (O.taken out.old) (O.taken out.new) (text_of sample)) }
+    ensures own { (IsErrOf result Stop.Read → ⊥) × (IsErrOf result Stop.Tree → ⊥) }
+    ensures cause { Stops (faults_of 0 (O.faults out.old) 0 0) (faults_of 0 (O.faults out.new) 0 0) result }
+{
+    let text = match sample_text(alloc, sample.seed, sample.lines) {
+        Ok(text) => text,
+        Err(_refused) => return Err(Stop::Memory),
+    };
+    match write_all(out, text.as_slice()) {
+        Ok(()) => Ok(Outcome {
+            status: 0,
+            why: Why::Finished,
+        }),
+        Err(error) => Err(of_sink(error)),
+    }
+}
+
+/// How a trial came out, with the output that it was handed.
+struct Tried<O> {
+    outcome: Result<Outcome, Stop>,
+    out: O,
+}
+
+/// Runs a script over the text that a seed gives. Any input stays as it is.
+fn run_trial<T: Tree, O: Sink + Send, E: Sink, G: Gate, X: Engine>(
+    alloc: Global,
+    script: &Script,
+    setup: Setup,
+    sample: Sample,
+    tree: &mut T,
+    out: O,
+    err: &mut E,
+    gate: &G,
+    engine: &mut X,
+) -> Tried<O>
+    requires whole { IfSome (T.state tree.old).held NoWriterOut }
+    ensures runs { (left : Option (List ℕ)) (faults : ℕ) → RunsAs (λ reads. run_of (tries (script_tree script.now) setup (text_of sample)))
+        (point_of (T.state tree.old) (seen_of (drawn_of left (X.used engine.old)) (O.taken out) (E.taken err.old))
+        (faults_of faults (O.faults out) (E.faults err.old) (T.faults tree.old)))
+        result.outcome
+        (point_of (T.state tree.new) (seen_of (drawn_of left (X.used engine.new)) (O.taken result.out) (E.taken err.new))
+        (faults_of faults (O.faults result.out) (E.faults err.new) (T.faults tree.new))) }
+    ensures ends { IfOk result.outcome (λ outcome. IsOfRun outcome.why) }
+    ensures input { IsErrOf result.outcome Stop.Read → ⊥ }
+{
+    match sample_text(alloc, sample.seed, sample.lines) {
+        Ok(text) => run_over(alloc, script, setup, text, tree, out, err, gate, engine),
+        Err(_refused) => Tried {
+            outcome: Err(Stop::Memory),
+            out,
+        },
+    }
+}
+
+/// Runs a script over this text. Any input stays as it is.
+fn run_over<T: Tree, O: Sink + Send, E: Sink, G: Gate, X: Engine>(
+    alloc: Global,
+    script: &Script,
+    setup: Setup,
+    text: Vec<u8>,
+    tree: &mut T,
+    out: O,
+    err: &mut E,
+    gate: &G,
+    engine: &mut X,
+) -> Tried<O>
+    requires whole { IfSome (T.state tree.old).held NoWriterOut }
+    requires most { vec_len text ≤ 2 ^ 40 }
+    ensures runs { (left : Option (List ℕ)) (faults : ℕ) → RunsAs (λ reads. run_of (tries (script_tree script.now) setup text.items))
+        (point_of (T.state tree.old) (seen_of (drawn_of left (X.used engine.old)) (O.taken out) (E.taken err.old))
+        (faults_of faults (O.faults out) (E.faults err.old) (T.faults tree.old)))
+        result.outcome
+        (point_of (T.state tree.new) (seen_of (drawn_of left (X.used engine.new)) (O.taken result.out) (E.taken err.new))
+        (faults_of faults (O.faults result.out) (E.faults err.new) (T.faults tree.new))) }
+    ensures ends { IfOk result.outcome (λ outcome. IsOfRun outcome.why) }
+    ensures input { IsErrOf result.outcome Stop.Read → ⊥ }
+{
+    let source = NoFailSource::new(text);
+    let Setup { shell, width } = setup;
+    let mut shell = shell;
+    let Played { how, input, out } = run_script(
+        alloc, script, width, &mut shell, tree, source, out, err, gate, engine,
+    );
+    drop(input);
+    let outcome = came_of(how, shell.status());
+    Tried { outcome, out }
 }
 
 /// The answer of an evaluation that is over, where `status` is `$?`; or why it stopped.
@@ -183,6 +306,7 @@ fn tell<O: Sink, E: Sink>(
     ensures ok { OnOk result (E.taken err.new ≡ then_bytes (E.taken err.old) (line_of outcome.why)) }
     ensures part { OnErr result (GrewByPrefix (E.taken err.old) (E.taken err.new) (line_of outcome.why)) }
     ensures sent { OnOk result ((O.sent out.new ≡ O.taken out.new) × (E.sent err.new ≡ E.taken err.new)) }
+    ensures own { (IsErrOf result Stop.Read → ⊥) × (IsErrOf result Stop.Tree → ⊥) }
     ensures cause { Stops (faults_of 0 (O.faults out.old) (E.faults err.old) 0) (faults_of 0 (O.faults out.new) (E.faults err.new) 0) result }
 {
     match answer_line(alloc, &outcome.why) {
@@ -201,6 +325,7 @@ fn send<O: Sink, E: Sink>(line: &[u8], out: &mut O, err: &mut E) -> Result<(), S
     ensures ok { OnOk result (E.taken err.new ≡ then_bytes (E.taken err.old) line.now) }
     ensures part { OnErr result (GrewByPrefix (E.taken err.old) (E.taken err.new) line.now) }
     ensures sent { OnOk result ((O.sent out.new ≡ O.taken out.new) × (E.sent err.new ≡ E.taken err.new)) }
+    ensures own { (IsErrOf result Stop.Read → ⊥) × (IsErrOf result Stop.Tree → ⊥) }
     ensures cause { Stops (faults_of 0 (O.faults out.old) (E.faults err.old) 0) (faults_of 0 (O.faults out.new) (E.faults err.new) 0) result }
 {
     match write_all(err, line) {
@@ -213,6 +338,7 @@ fn send<O: Sink, E: Sink>(line: &[u8], out: &mut O, err: &mut E) -> Result<(), S
 fn flush<O: Sink, E: Sink>(out: &mut O, err: &mut E) -> Result<(), Stop>
     ensures taken { (O.taken out.new ≡ O.taken out.old) × (E.taken err.new ≡ E.taken err.old) }
     ensures sent { OnOk result ((O.sent out.new ≡ O.taken out.new) × (E.sent err.new ≡ E.taken err.new)) }
+    ensures own { (IsErrOf result Stop.Read → ⊥) × (IsErrOf result Stop.Tree → ⊥) }
     ensures cause { Stops (faults_of 0 (O.faults out.old) (E.faults err.old) 0) (faults_of 0 (O.faults out.new) (E.faults err.new) 0) result }
 {
     if let Err(error) = out.flush() {

@@ -1,5 +1,5 @@
 //! What the words of the command line come to before anything runs.
-ghost use Rattle.std.specs.Prelude.{◌≡◌, IfErr, IfOk, IfSome, MatchOption};
+ghost use Rattle.std.specs.Prelude.{◌≡◌, false, IfErr, IfOk, IfSome, IsOkAnd, MatchOption};
 ghost use Rattle.ps_world.specs.Files.{NoWriterOut, IsFileAt, bytes_at};
 ghost use Rattle.ps_world.specs.Places.{StandsIn};
 ghost use Rattle.ps_world.specs.TreeState.{OnlyLent};
@@ -8,11 +8,11 @@ ghost use Rattle.sh_tree.specs.Views.{script_tree};
 ghost use Rattle.sh_eval.specs.Contract.{faults_of};
 ghost use Rattle.pash.specs.Readings.{AreReadAlike};
 ghost use Rattle.pash.specs.Runs.{Stops};
-ghost use Rattle.pash.specs.Starts.{IsOfCommand, as_start, file_of, runs, setup_of, shell_of, start_of, start_of_file, start_of_outcome, start_of_run};
-ghost use Rattle.pash.specs.Words.{as_run, command_of, texts};
+ghost use Rattle.pash.specs.Starts.{IsOfCommand, as_start, draws, file_of, over_text, runs, setup_of, shell_of, start_of, start_of_file, start_of_outcome, start_of_run, start_of_trial, text_of, uses_tree};
+ghost use Rattle.pash.specs.Words.{as_run, command_of, reads_input, texts, uses_files};
 
 use crate::answers::{Stop, Why, of_tree, refusal_of};
-use crate::command::RunCommand;
+use crate::command::{Command, RunCommand, Sample};
 use crate::reading::read_script;
 use crate::words::read_command;
 use ps_lines::{Memory, Text};
@@ -31,7 +31,14 @@ pub enum Start {
     Answered(Why),
     /// This script runs, and begins so.
     Script(Script, Setup),
+    /// This text is written.
+    Text(Sample),
+    /// This script runs so over this text.
+    Trial(Script, Setup, Sample),
 }
+
+/// The script of a trial: the three words that stand most often in its text.
+const TRIAL_SCRIPT: &[u8] = b"tr -cs a-z '\\n' | sort | uniq -c | sort -rn | head -n 3";
 
 /// What a script begins with.
 #[derive(Debug, Drop)]
@@ -48,12 +55,43 @@ pub fn begin<T: Tree>(alloc: Global, tree: &mut T, words: &[String]) -> Result<S
     ensures start { IfOk result (λ start. (reads : Readings) → AreOutcomes reads → IfSome (T.state tree.old).held (λ files.
         as_start start ≡ start_of reads files (T.state tree.old).home (command_of (texts words.now)))) }
     ensures usage { IfOk result (λ start. MatchOption (command_of (texts words.now)) (start ≡ Start.Answered Why.Usage) (λ _. IsOfCommand start)) }
+    ensures unread { reads_input (command_of (texts words.now)) ≡ false → IfOk result (λ start. draws start ≡ false) }
+    ensures unused { uses_files (command_of (texts words.now)) ≡ false → (tree.new ≡ tree.old) × IsOkAnd result (λ start. uses_tree start ≡ false) }
     ensures lent { OnlyLent (T.state tree.old) (T.state tree.new) }
     ensures cause { Stops (faults_of 0 0 0 (T.faults tree.old)) (faults_of 0 0 0 (T.faults tree.new)) result }
 {
     match read_command(words) {
-        Some(command) => begin_run(alloc, tree, &command),
+        Some(Command::Run(command)) => begin_run(alloc, tree, &command),
+        Some(Command::Gen(sample)) => Ok(Start::Text(sample)),
+        Some(Command::Trial(sample, command)) => begin_trial(alloc, sample, &command),
         None => Ok(Start::Answered(Why::Usage)),
+    }
+}
+
+/// Makes what a trial begins with.
+fn begin_trial(alloc: Global, sample: Sample, command: &RunCommand<'_>) -> Result<Start, Stop>
+    ensures start { IfOk result (λ start. (reads : Readings) → AreOutcomes reads → as_start start ≡ start_of_trial reads sample (as_run command.now)) }
+    ensures command { IfOk result IsOfCommand }
+    ensures unread { IfOk result (λ start. draws start ≡ false) }
+    ensures memory { IfErr result (λ stop. stop ≡ Stop.Memory) }
+{
+    match begin_text(alloc, command, TRIAL_SCRIPT) {
+        Ok(start) => Ok(over_sample(start, sample)),
+        Err(stop) => Err(stop),
+    }
+}
+
+/// The start of a script whose input is this text.
+fn over_sample(start: Start, sample: Sample) -> Start
+    ensures start { as_start result ≡ over_text (text_of sample) (as_start start) }
+    ensures command { IsOfCommand start → IsOfCommand result }
+    ensures unread { draws result ≡ false }
+{
+    match start {
+        Start::Answered(why) => Start::Answered(why),
+        Start::Script(script, setup) => Start::Trial(script, setup, sample),
+        Start::Text(other) => Start::Text(other),
+        Start::Trial(script, setup, other) => Start::Trial(script, setup, other),
     }
 }
 

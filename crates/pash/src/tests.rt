@@ -4,15 +4,16 @@ ghost use Rattle.ps_world.specs.Files.{NoWriterOut};
 
 mod faults;
 mod files;
+mod meeting;
 mod refusals;
 mod rows;
 mod whole;
 
 use crate::answers::Why;
 use crate::top::pash;
-use fl_core::{Engine, InTurn};
+use fl_engines::{Engine, InTurn, OnThreads};
 use ps_fakes::{MemSink, MemSource, MemTree, OpenGate};
-use ps_world::{Source, Tree};
+use ps_world::{Gate, Source, Tree};
 use sh_eval::Refusal;
 use std::alloc::{AllocError, Global};
 use std::process::Abort;
@@ -174,6 +175,20 @@ fn run_on<X: Engine>(
 ) -> Result<Ran, AllocError>
     requires whole { IfSome (⟦<MemTree as Tree>⟧.state tree).held NoWriterOut }
 {
+    run_through(alloc, words, tree, failing, &OpenGate, engine)
+}
+
+/// Likewise, with a gate that the nodes of graphs pass.
+fn run_through<G: Gate, X: Engine>(
+    alloc: Global,
+    words: &[&str],
+    tree: MemTree,
+    failing: Failing,
+    gate: &G,
+    engine: &mut X,
+) -> Result<Ran, AllocError>
+    requires whole { IfSome (⟦<MemTree as Tree>⟧.state tree).held NoWriterOut }
+{
     let words = owned_words(alloc, words)?;
     let input = MemSource::new(Vec::from_slice(alloc, INPUT)?, failing.of_input(alloc)?);
     let out = MemSink::new(alloc, failing.of_output(alloc)?);
@@ -186,7 +201,7 @@ fn run_on<X: Engine>(
         input,
         out,
         &mut err,
-        &OpenGate,
+        gate,
         engine,
     );
     Ok(Ran {
@@ -199,7 +214,8 @@ fn run_on<X: Engine>(
     })
 }
 
-/// Does what the words ask for in the working directory `/w`, over a tree with these entries.
+/// Does what the words ask for in the working directory `/w`, over a tree with these entries: on threads, as the program does; but what is to
+/// fail runs in turn, since which call comes before which is fixed there alone.
 fn run<R: Abort + AllocGlobal + Threads + Wait + Sync>(
     rt: &R,
     words: &[&str],
@@ -209,7 +225,11 @@ fn run<R: Abort + AllocGlobal + Threads + Wait + Sync>(
     let alloc = rt.alloc();
     let tree = MemTree::of_table(alloc, b"/w", entries, failing.of_tree(alloc)?)?;
     let tree = tree.expect(rt, "the entries make a tree");
-    Ok(run_on(alloc, words, tree, failing, &mut in_turn(rt, alloc))?)
+    let ran = match failing {
+        Failing::Nothing => run_on(alloc, words, tree, failing, &mut OnThreads::new(rt, alloc)),
+        _ => run_on(alloc, words, tree, failing, &mut in_turn(rt, alloc)),
+    };
+    Ok(ran?)
 }
 
 /// A text so often.

@@ -1,5 +1,5 @@
 //! The top call.
-ghost use Rattle.std.specs.Prelude.{◌≡◌, ◌^◌, ◌-◌, ◌<◌, ◌⊎◌, IfSome, IfNone, None};
+ghost use Rattle.std.specs.Prelude.{◌≡◌, ◌^◌, ◌-◌, ◌<◌, ◌⊎◌, false, IfSome, IfNone, None};
 ghost use Rattle.ps_world.specs.Counts.{Rose};
 ghost use Rattle.ps_world.specs.Files.{NoWriterOut};
 ghost use Rattle.ps_world.specs.TreeState.{Balanced, OnlyLent};
@@ -11,18 +11,20 @@ ghost use Rattle.pash.specs.Answers.{HasFaultStatus, IsAnswer, IsWithoutScript};
 ghost use Rattle.pash.specs.Meaning.{meaning, outside_of};
 ghost use Rattle.pash.specs.Runs.{DrawsNothing, Leaves, OnlyTold};
 ghost use Rattle.pash.specs.Starts.{RunsNothing};
-ghost use Rattle.pash.specs.Words.{command_of, texts};
+ghost use Rattle.pash.specs.Words.{command_of, reads_input, texts, uses_files};
 
 use crate::answers::{End, Outcome, Why};
 use crate::run::{Ran, run_words};
-use fl_core::Engine;
+use fl_engines::Engine;
 use ps_world::{Gate, Sink, Source, Tree};
 use std::alloc::Global;
 
 /// Does what the words of the command line ask for, over the objects that are handed in; `words` are those after the program's name.
 ///
 /// `run W SCRIPT ARG*` runs a script: what it leaves is the script's meaning, byte for byte, at every width W. `$0` is SCRIPT, `$1` and on
-/// are the ARGs. The graphs of its utilities run on the engine, whose nodes pass the gate. The input and the output are given back.
+/// are the ARGs. `gen SEED LINES` writes the text that a seed gives, and uses no file. `trial SEED LINES W` runs the trial's script over this
+/// text in the place of the input. The graphs of utilities run on the engine, whose nodes pass the gate. The input and the output are given
+/// back, and `gen` and `trial` read no input.
 ///
 /// `reads` is what each text is, one script or one refusal, and `expansions` is what words expand to. A script that isn't run, for its text,
 /// is told by one line of error: nothing of the output, the tree or the input changes then. One that is refused in the middle is told so too,
@@ -65,6 +67,8 @@ pub fn pash<T: Tree, I: Source + Send, O: Sink + Send, E: Sink, G: Gate, X: Engi
         (result.input ≡ input) × OnlyLent (T.state tree.old) (T.state tree.new) × DrawsNothing
         (seen_of (drawn_of (I.left input) (X.used engine.old)) (O.taken out) (E.taken err.old))
         (seen_of (drawn_of (I.left result.input) (X.used engine.new)) (O.taken result.out) (E.taken err.new)) }
+    ensures unread { reads_input (command_of (texts words.now)) ≡ false → result.input ≡ input }
+    ensures unused { uses_files (command_of (texts words.now)) ≡ false → T.state tree.new ≡ T.state tree.old }
     ensures sent { IsAnswer result.why → (O.sent result.out ≡ O.taken result.out) × (E.sent err.new ≡ E.taken err.new) }
     ensures whole { IsAnswer result.why → IfSome (T.state tree.new).held NoWriterOut }
     ensures lent { Balanced (T.state tree.old) (T.state tree.new) }
@@ -75,6 +79,8 @@ pub fn pash<T: Tree, I: Source + Send, O: Sink + Send, E: Sink, G: Gate, X: Engi
     ensures read_fault { result.why ≡ Why.ReadFault → Rose (I.faults input) (I.faults result.input) }
     ensures write_fault { result.why ≡ Why.WriteFault → Rose (O.faults out) (O.faults result.out) ⊎ Rose (E.faults err.old) (E.faults err.new) }
     ensures tree_fault { result.why ≡ Why.TreeFault → Rose (T.faults tree.old) (T.faults tree.new) }
+    ensures no_read_fault { reads_input (command_of (texts words.now)) ≡ false → result.why ≡ Why.ReadFault → ⊥ }
+    ensures no_tree_fault { uses_files (command_of (texts words.now)) ≡ false → result.why ≡ Why.TreeFault → ⊥ }
     ensures status { HasFaultStatus result.why result.status }
     ensures complete { I.faults result.input ≡ I.faults input → O.faults result.out ≡ O.faults out → E.faults err.new ≡ E.faults err.old
         → T.faults tree.new ≡ T.faults tree.old → I.faults input < 2 ^ 64 - 1 → O.faults out < 2 ^ 64 - 1 → E.faults err.old < 2 ^ 64 - 1

@@ -276,7 +276,7 @@ fn files_and_input_are_left(rt: HostRuntime) -> Result<(), Fail> {
     Ok(())
 }
 
-/// The utilities that the engine was asked for: `cat` hands on what it reads, and is none.
+/// The utilities that the engine was asked for, each once for every part that it runs over: `cat` hands on what it reads, and is none.
 #[test]
 fn the_engine_runs_the_utilities(rt: HostRuntime) -> Result<(), Fail> {
     let alloc = rt.alloc();
@@ -302,7 +302,8 @@ fn the_engine_runs_the_utilities(rt: HostRuntime) -> Result<(), Fail> {
             told.push(b' ')?;
         }
     }
-    assert_eq!(rt; told.as_slice(), b"tr x z tr x z sort wc -l ".as_slice());
+    let wanted = b"tr x z tr x z sort sort wc -l wc -l ";
+    assert_eq!(rt; told.as_slice(), wanted.as_slice());
     Ok(())
 }
 
@@ -339,7 +340,43 @@ fn words_that_are_no_command(rt: HostRuntime) -> Result<(), Fail> {
     tells_usage(&rt, &["run", "17", "s"])?;
     tells_usage(&rt, &["run", "01", "s"])?;
     tells_usage(&rt, &["run"])?;
+    tells_usage(&rt, &["gen", "4294967296", "1"])?;
+    tells_usage(&rt, &["gen", "00", "1"])?;
+    tells_usage(&rt, &["gen", "0", "0"])?;
+    tells_usage(&rt, &["gen", "0", "1000001"])?;
+    tells_usage(&rt, &["gen", "0", "1", "1"])?;
+    tells_usage(&rt, &["trial", "0", "1"])?;
+    tells_usage(&rt, &["trial", "0", "1", "17"])?;
+    tells_usage(&rt, &["trial", "0", "1", "1", "s"])?;
     tells_usage(&rt, &[])
+}
+
+/// The words ask for this, and the input is left as it was.
+fn tells_unread<R: Abort + AllocGlobal + Threads + Wait + Sync>(
+    rt: &R,
+    words: &[&str],
+    output: &[u8],
+) -> Result<(), Fail> {
+    let mut ran = run(rt, words, &[], Failing::Nothing)?;
+    assert!(rt;
+        ran.is(&finished(output, b"", 0)),
+        "{words:?} ended with {:?}",
+        ran.why
+    );
+    assert!(rt; ran.has_left(INPUT), "{words:?}");
+    Ok(())
+}
+
+/// The texts that seeds give, worked out by the rule; and what GNU's tools print for the trial's script over them.
+#[test]
+fn a_seed_gives_a_text(rt: HostRuntime) -> Result<(), Fail> {
+    tells_unread(&rt, &["gen", "0", "2"], b"gb ac eb\nbd cc gb\n")?;
+    tells_unread(&rt, &["gen", "4294967295", "1"], b"fc hc da\n")?;
+    for width in ["1", "3", "16"] {
+        tells_unread(&rt, &["trial", "0", "2", width], b"2 gb\n1 eb\n1 cc\n")?;
+        tells_unread(&rt, &["trial", "7", "200", width], b"27 ga\n27 eb\n26 bc\n")?;
+    }
+    Ok(())
 }
 
 #[test]

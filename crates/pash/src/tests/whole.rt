@@ -6,7 +6,7 @@ ghost use Rattle.pash.specs.Answers.{IsAnswer};
 use super::{Entry, Reply, finished, in_turn, owned_words, refused};
 use crate::answers::Why;
 use crate::top::pash;
-use fl_core::Engine;
+use fl_engines::Engine;
 use ps_fakes::{NoFailSink, NoFailSource, NoFailTree, OpenGate};
 use ps_world::Tree;
 use sh_eval::Refusal;

@@ -1,7 +1,8 @@
 use Rattle.pash.specs.Meaning.{meaning}
 use Rattle.pash.specs.Starts.{as_start, start_of}
 use Rattle.pash.specs.Words.{command_of, texts}
-use Rattle.pash.proofs.RunLemmas.{answer-of, nothing-run, run-begun, run-unbegun, without-script}
+use Rattle.std.proofs.Common.{refl}
+use Rattle.pash.proofs.RunLemmas.{answer-of, no-read, nothing-run, run-begun, run-unbegun, without-script}
 use Rattle.pash.proofs.run.run_words.Goals as goal
 
 pub returns-in-Ok-clause-runs : goal.returns-in-Ok-clause-runs
@@ -24,3 +25,6 @@ pub returns-in-Err-clause-runs : goal.returns-in-Err-clause-runs
 returns-in-Err-clause-runs g c =
     run-unbegun (λ reads expansions. meaning reads expansions
     (texts c.args.words.now)) _ _ _ _ _ _ _ _ c.in-Err.stop c.in-Err.ensures.lent _ c.in-Err.is c.begin.ensures.cause
+
+pub returns-in-Err-clause-unread : goal.returns-in-Err-clause-unread
+returns-in-Err-clause-unread g c = λ unread. (refl, no-read _ _ _ _ _ _ c.in-Err.stop _ c.in-Err.is c.begin.ensures.cause _ refl)

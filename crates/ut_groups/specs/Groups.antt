@@ -4,7 +4,7 @@ use Rattle.std.specs.Str.{bytes_eq}
 use Rattle.ps_lines.specs.declared.newlines.TheConstants.{NEWLINE}
 use Rattle.ut_args.specs.declared.commands.Groups.{Groups}
 use Rattle.ut_args.specs.declared.commands.Groups.TheVariants as groups
-use Rattle.ut_sort.specs.Fields.{behind_fields}
+use Rattle.ut_fields.specs.Fields.{behind_fields}
 use Rattle.ut_groups.specs.declared.counting.TheConstants.{SPACE}
 use Rattle.ut_groups.specs.declared.skips.Skip.{Skip}
 use Rattle.ut_groups.specs.declared.forms.Form.{Form}

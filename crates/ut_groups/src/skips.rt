@@ -3,7 +3,7 @@ ghost use Rattle.std.specs.Prelude.{◌≡◌};
 ghost use Rattle.ut_groups.specs.Groups.{compared as compared_lem, is_same as is_same_lem};
 
 use ut_args::UniqArgs;
-use ut_sort::behind_fields;
+use ut_fields::behind_fields;
 
 /// What is skipped of each line: fields, and then bytes.
 #[derive(Clone, Copy, Debug, PartialEq, Eq)]

@@ -14,7 +14,7 @@ use Rattle.ut_args.specs.Keys.{behind_digits, digits_front}
 use Rattle.ut_args.specs.declared.Key.{Key}
 use Rattle.ut_args.specs.declared.Ordering.{Ordering as Letters}
 use Rattle.ut_sort.specs.Numbers.{above_zero, below_zero, behind_first, begins, fraction, numbers_cmp, sizes_cmp, whole, without_end_zeros}
-use Rattle.ut_sort.specs.Fields.{behind_blanks}
+use Rattle.ut_fields.specs.Fields.{behind_blanks}
 use Rattle.ut_sort.specs.Keys.{bytes_cmp, folded, texts_cmp, directed, letters_of, key_in, key_cmp, keys_cmp}
 use Rattle.ut_sort.specs.Order.{last_cmp}
 use Rattle.ut_sort.specs.LineOrders.{cmp_by, number_by}

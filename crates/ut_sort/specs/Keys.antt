@@ -8,7 +8,7 @@ use Rattle.std.specs.Char.{to_ascii_uppercase}
 use Rattle.ut_args.specs.declared.Key.{Key}
 use Rattle.ut_args.specs.declared.KeyEnd.{KeyEnd}
 use Rattle.ut_args.specs.declared.Ordering.{Ordering}
-use Rattle.ut_sort.specs.Fields.{behind_blanks, behind_fields, field_end, up_to}
+use Rattle.ut_fields.specs.Fields.{behind_blanks, behind_fields, field_end, up_to}
 use Rattle.ut_sort.specs.Numbers.{numbers_cmp}
 
 -- the letters of a key: those at both its ends

@@ -7,7 +7,7 @@ use Rattle.std.specs.Cmp.Lexicographic.{slice_cmp}
 use Rattle.std.specs.Str.Parse.{digits_value}
 use Rattle.ps_lines.specs.Lines.{is_empty}
 use Rattle.ut_args.specs.Keys.{digits_front, behind_digits}
-use Rattle.ut_sort.specs.Fields.{behind_blanks}
+use Rattle.ut_fields.specs.Fields.{behind_blanks}
 use Rattle.ut_sort.specs.declared.numbers.TheConstants.{MINUS, POINT, ZERO}
 
 -- the text begins with this byte

@@ -2,10 +2,10 @@
 ghost use Rattle.std.specs.Prelude.{◌≡◌, ◌-◌, drop};
 ghost use Rattle.ut_sort.specs.Keys.{bytes_cmp, counted_in as counted_in_lem, end_in_field, end_with as end_with_lem, end_with_if as end_with_if_lem, folded, has_letters as has_letters_lem, key_cmp, key_in as key_in_lem, keys_cmp, letters_of as letters_of_lem, texts_cmp, whole_line as whole_line_lem, with_global as with_global_lem};
 
-use crate::fields::{behind_blanks, behind_fields, field_end, up_to};
 use crate::numbers::compare_numbers;
 use std::cmp::Ordering;
 use ut_args::{Key, KeyEnd, Ordering as Letters};
+use ut_fields::{behind_blanks, behind_fields, field_end, up_to};
 
 /// The letters of a key: those at both its ends.
 pub(crate) fn letters_of(key: &Key) -> Letters

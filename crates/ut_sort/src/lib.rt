@@ -7,7 +7,6 @@
 #![tactic(auto)]
 
 mod choices;
-mod fields;
 mod keys;
 pub mod laws;
 mod line_orders;
@@ -22,7 +21,6 @@ mod sorter;
 mod texts;
 mod writing;
 
-pub use fields::behind_fields;
 pub use mergers::Merger;
 pub use merging::{merge, merge_some};
 pub use orders::order;

@@ -7,8 +7,8 @@ ghost use Rattle.std.specs.Str.Parse.{digits_value};
 ghost use Rattle.ut_args.specs.Keys.{behind_digits, digits_front};
 ghost use Rattle.ut_sort.specs.Numbers.{above_sign as above_sign_lem, begins as begins_lem, behind_first as behind_first_lem, below_sign as below_sign_lem, fraction_behind as fraction_behind_lem, numbers_cmp, sizes_cmp, without_end_zeros as without_end_zeros_lem};
 
-use crate::fields::behind_blanks;
 use std::cmp::Ordering;
+use ut_fields::behind_blanks;
 
 /// The sign of a number below zero.
 pub(crate) const MINUS: u8 = b'-';

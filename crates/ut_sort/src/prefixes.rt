@@ -6,10 +6,10 @@ ghost use Rattle.std.specs.Str.Parse.{digits_value};
 ghost use Rattle.ut_sort.specs.Numbers.{behind_first};
 ghost use Rattle.ut_sort.specs.Prefixes.{AreBytes, IsKey, compared, directed_number as directed_number_lem, first_byte, is_exact as is_exact_lem, key_number, letters_number as letters_number_lem, packed, prefix as prefix_lem, size_number as size_number_lem, text_number as text_number_lem, value_number as value_number_lem};
 
-use crate::fields::behind_blanks;
 use crate::keys::{key_in, letters_of};
 use crate::numbers::{ZERO, above_sign, below_sign, fraction_behind, split_digits};
 use ut_args::{Key, Ordering as Letters};
+use ut_fields::behind_blanks;
 
 /// A number whose whole isn't below this has none of its own.
 pub(crate) const LEAST_LARGE: u64 = 8_796_093_022_208;

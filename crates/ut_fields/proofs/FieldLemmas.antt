@@ -1,7 +1,7 @@
 -- Fields behind the line's end.
 use Rattle.std.proofs.Common.{◌≡◌, ℕ, zero, suc, ◌==◌, length, true, List, [], ◌∷◌, Option, Some, None, refl, ap, sym, ◌∙◌, arith}
 use Rattle.std.proofs.lemmas.Bool.{eqb-true}
-use Rattle.ut_sort.specs.Fields.{behind_fields}
+use Rattle.ut_fields.specs.Fields.{behind_fields}
 
 behind_fields-end : (separator : Option ℕ) (count : ℕ) → behind_fields separator count [] ≡ []
 behind_fields-end separator zero = refl

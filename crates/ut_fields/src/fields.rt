@@ -1,11 +1,11 @@
 //! The fields of a line. A place in a line is told as what is left of the line from there on.
 ghost use Rattle.std.specs.Prelude.{◌≡◌};
-ghost use Rattle.ut_sort.specs.Fields.{behind_blanks as behind_blanks_lem, behind_fields as behind_fields_lem, behind_separator as behind_separator_lem, field_end as field_end_lem, from_blank as from_blank_lem, from_byte as from_byte_lem, next_field as next_field_lem, up_to as up_to_lem};
+ghost use Rattle.ut_fields.specs.Fields.{behind_blanks as behind_blanks_lem, behind_fields as behind_fields_lem, behind_separator as behind_separator_lem, field_end as field_end_lem, from_blank as from_blank_lem, from_byte as from_byte_lem, next_field as next_field_lem, up_to as up_to_lem};
 
 use ps_lines::Class;
 
 /// Behind the blanks that the text begins with.
-pub(crate) fn behind_blanks(text: &[u8]) -> &[u8]
+pub fn behind_blanks(text: &[u8]) -> &[u8]
     ensures { result.now ≡ behind_blanks_lem text.now }
 {
     let mut left = text;
@@ -47,7 +47,7 @@ fn from_byte(separator: u8, text: &[u8]) -> &[u8]
 }
 
 /// Where the first field ends.
-pub(crate) fn field_end(separator: Option<u8>, line: &[u8]) -> &[u8]
+pub fn field_end(separator: Option<u8>, line: &[u8]) -> &[u8]
     ensures { result.now ≡ field_end_lem separator line.now }
 {
     match separator {
@@ -90,7 +90,7 @@ pub fn behind_fields(separator: Option<u8>, count: u64, line: &[u8]) -> &[u8]
 }
 
 /// The text from one place up to another; none where that stands before it.
-pub(crate) fn up_to<'t>(start: &'t [u8], end: &[u8]) -> &'t [u8]
+pub fn up_to<'t>(start: &'t [u8], end: &[u8]) -> &'t [u8]
     ensures { result.now ≡ up_to_lem start.now end.now }
 {
     &start[..start.len().saturating_sub(end.len())]

@@ -1,5 +1,5 @@
-use Rattle.ut_sort.proofs.FieldLemmas.{past_the_end}
-use Rattle.ut_sort.proofs.fields.behind_fields.Goals as goal
+use Rattle.ut_fields.proofs.FieldLemmas.{past_the_end}
+use Rattle.ut_fields.proofs.fields.behind_fields.Goals as goal
 
 pub returns-then-is_empty : goal.returns-then-is_empty
 returns-then-is_empty c =

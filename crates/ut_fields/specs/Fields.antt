@@ -1,4 +1,4 @@
--- The fields of a line (XCU sort, -k and -t; how blanks begin a field is own). A place in a line is told as what is left of the line from
+-- The fields of a line (XCU sort, -k and -t, and uniq, -f; how blanks begin a field is own). A place in a line is told as what is left of the line from
 -- there on.
 use Rattle.std.specs.Prelude.{ℕ, ◌-◌, ◌==◌, zero, suc, List, [], ◌∷◌, length, take, drop, Option, Some, None, if◌then◌else◌}
 use Rattle.ps_lines.specs.declared.class.Class.TheVariants as class

@@ -1,6 +1,6 @@
 use Rattle.std.proofs.Common.{◌≡◌, length}
-use Rattle.ut_sort.specs.Fields.{from_byte as from_byte_lem}
-use Rattle.ut_sort.proofs.fields.from_byte.Given as goal
+use Rattle.ut_fields.specs.Fields.{from_byte as from_byte_lem}
+use Rattle.ut_fields.proofs.fields.from_byte.Given as goal
 
 abbrev pub invariant-loop-left : goal.invariant-loop-left
 invariant-loop-left l = from_byte_lem l.separator l.left ≡ from_byte_lem l.separator l.text

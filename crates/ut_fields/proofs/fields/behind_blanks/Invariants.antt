@@ -1,6 +1,6 @@
 use Rattle.std.proofs.Common.{◌≡◌, length}
-use Rattle.ut_sort.specs.Fields.{behind_blanks as behind_blanks_lem}
-use Rattle.ut_sort.proofs.fields.behind_blanks.Given as goal
+use Rattle.ut_fields.specs.Fields.{behind_blanks as behind_blanks_lem}
+use Rattle.ut_fields.proofs.fields.behind_blanks.Given as goal
 
 abbrev pub invariant-loop-left : goal.invariant-loop-left
 invariant-loop-left l = behind_blanks_lem l.left ≡ behind_blanks_lem l.text

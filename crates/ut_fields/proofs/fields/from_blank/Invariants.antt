@@ -1,6 +1,6 @@
 use Rattle.std.proofs.Common.{◌≡◌, length}
-use Rattle.ut_sort.specs.Fields.{from_blank as from_blank_lem}
-use Rattle.ut_sort.proofs.fields.from_blank.Given as goal
+use Rattle.ut_fields.specs.Fields.{from_blank as from_blank_lem}
+use Rattle.ut_fields.proofs.fields.from_blank.Given as goal
 
 abbrev pub invariant-loop-left : goal.invariant-loop-left
 invariant-loop-left l = from_blank_lem l.left ≡ from_blank_lem l.text

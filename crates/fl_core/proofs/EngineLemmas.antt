@@ -12,19 +12,19 @@ use Rattle.fl_graph.specs.declared.pieces.Act.TheVariants as doing
 use Rattle.fl_graph.specs.declared.pieces.Piece.{Piece}
 use Rattle.fl_classes.specs.Flow.{flow, is_source, only, selects, selections}
 use Rattle.fl_classes.specs.Kinds.{is_writer}
-use Rattle.fl_core.specs.Ends.{IsReadOff}
-use Rattle.fl_core.specs.Plans.{outer_edge, AreTold, HasRooms, IsNetOf}
-use Rattle.fl_core.specs.Runs.{AreDrained, Follows, Halted, Halts, Leads}
-use Rattle.fl_core.specs.Steps.{waiting_on}
-use Rattle.fl_core.specs.Stuck.{IsStuck}
-use Rattle.fl_core.specs.declared.nets.Ports.{Ports}
-use Rattle.fl_core.proofs.FinishLemmas.{halted_writes, finished_reads, finished_writes, finished_selects}
-use Rattle.fl_core.proofs.HaltLemmas.{reached_halts}
-use Rattle.fl_core.proofs.LawLemmas.{selections_of_the_flow}
-use Rattle.fl_core.proofs.OutsideLemmas.{some_at}
-use Rattle.fl_core.proofs.ProgressLemmas.{never_stuck, shut_when_stuck}
-use Rattle.fl_core.proofs.StartLemmas.{net_plan}
-use Rattle.fl_core.proofs.StuckLemmas.{said_of}
+use Rattle.fl_net.specs.Ends.{IsReadOff}
+use Rattle.fl_net.specs.Plans.{outer_edge, AreTold, HasRooms, IsNetOf}
+use Rattle.fl_net.specs.Runs.{AreDrained, Follows, Halted, Halts, Leads}
+use Rattle.fl_net.specs.Steps.{waiting_on}
+use Rattle.fl_net.specs.Stuck.{IsStuck}
+use Rattle.fl_net.specs.declared.nets.Ports.{Ports}
+use Rattle.fl_net.proofs.FinishLemmas.{halted_writes, finished_reads, finished_writes, finished_selects}
+use Rattle.fl_net.proofs.HaltLemmas.{reached_halts}
+use Rattle.fl_net.proofs.LawLemmas.{selections_of_the_flow}
+use Rattle.fl_net.proofs.OutsideLemmas.{some_at}
+use Rattle.fl_net.proofs.ProgressLemmas.{never_stuck, shut_when_stuck}
+use Rattle.fl_net.proofs.StartLemmas.{net_plan}
+use Rattle.fl_net.proofs.StuckLemmas.{said_of}
 
 some_is : {X : Type 0} (one other : X) → Some one ≡ Some other → one ≡ other
 some_is one other is = cc

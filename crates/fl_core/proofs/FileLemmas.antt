@@ -11,7 +11,7 @@ use Rattle.fl_graph.specs.declared.kinds.To.TheVariants as to
 use Rattle.fl_classes.specs.Flow.{Write, flow, only, outcome, to_file, writes_of}
 use Rattle.fl_core.specs.EndLists.{file_nodes, writes_file, GrewByFiles}
 use Rattle.fl_classes.specs.Kinds.{is_writer}
-use Rattle.fl_core.proofs.LawLemmas.{writes_of_the_flow}
+use Rattle.fl_net.proofs.LawLemmas.{writes_of_the_flow}
 
 module _ (old new : ℕ → Option (List ℕ)) where
   -- a node and those behind it

@@ -15,7 +15,7 @@ use Rattle.fl_classes.specs.Flow.{Write, flow, only, outcome, to_output, writes_
 use Rattle.fl_core.specs.EndLists.{KeepsOthers, Output, own_end, taken_at, taken_by}
 use Rattle.fl_classes.specs.Kinds.{is_writer}
 use Rattle.fl_core.specs.declared.end_lists.Ends.{Ends}
-use Rattle.fl_core.proofs.LawLemmas.{writes_of_the_flow}
+use Rattle.fl_net.proofs.LawLemmas.{writes_of_the_flow}
 use Rattle.fl_core.proofs.RoleLemmas.{counted, is_counted, mark, marked}
 
 some_is : {X : Type 0} (one other : X) → Some one ≡ Some other → one ≡ other

@@ -19,11 +19,11 @@ use Rattle.fl_classes.specs.Flow.{is_source}
 use Rattle.fl_classes.specs.Kinds.{is_writer}
 use Rattle.fl_core.specs.EndLists.{place_of, numbers_of, end_in, end_of, reads_file, writes_file, NodeEnd, Reader, Writer, Input, Output, own_end, end_at, KeepsOthers}
 use Rattle.fl_core.specs.Roles.{role_of, role_at, AreApart, is_same, is_used, end_by, HasRoles, is_read, is_written, Kept, kept}
-use Rattle.fl_core.specs.Starts.{NodesHave}
+use Rattle.fl_net.specs.Starts.{NodesHave}
 use Rattle.fl_core.specs.declared.end_lists.Ends.{Ends}
 use Rattle.fl_core.specs.declared.roles.Role.{Role}
 use Rattle.fl_core.specs.declared.roles.Role.TheVariants as role
-use Rattle.fl_core.proofs.OutsideLemmas.{some_at}
+use Rattle.fl_net.proofs.OutsideLemmas.{some_at}
 
 some_is : {X : Type 0} (one other : X) → Some one ≡ Some other → one ≡ other
 some_is one other is = cc

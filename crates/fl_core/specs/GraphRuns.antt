@@ -4,8 +4,8 @@ use Rattle.ps_world.specs.Told.{then_bytes, GrewByPrefix}
 use Rattle.fl_graph.specs.declared.graphs.Graph.{Graph}
 use Rattle.fl_classes.specs.Flow.{outcome}
 use Rattle.fl_core.specs.EndLists.{Blames, GrewByFiles, IfDone, KeepsOthers, faults_at, file_nodes, given_back, left_at, taken_at}
-use Rattle.fl_core.specs.Ends.{HasRead, HasWritten, HasWrittenFronts}
-use Rattle.fl_core.specs.Plans.{AreTold}
+use Rattle.fl_net.specs.Ends.{HasRead, HasWritten, HasWrittenFronts}
+use Rattle.fl_net.specs.Plans.{AreTold}
 use Rattle.fl_core.specs.declared.end_lists.Ends.{Ends}
 use Rattle.fl_core.specs.declared.end_lists.Ran.{Ran}
 

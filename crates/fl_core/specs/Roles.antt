@@ -10,7 +10,7 @@ use Rattle.fl_graph.specs.declared.kinds.To.TheVariants as to
 use Rattle.fl_classes.specs.Flow.{is_source}
 use Rattle.fl_classes.specs.Kinds.{is_writer}
 use Rattle.fl_core.specs.EndLists.{place_of, numbers_of, end_in, own_end, NodeEnd, Reader, Writer, Input, Output}
-use Rattle.fl_core.specs.Starts.{NodesHave}
+use Rattle.fl_net.specs.Starts.{NodesHave}
 use Rattle.fl_core.specs.declared.end_lists.Ends.{Ends}
 use Rattle.fl_core.specs.declared.roles.Role.{Role}
 use Rattle.fl_core.specs.declared.roles.Role.TheVariants as role

@@ -6,14 +6,14 @@ ghost use Rattle.fl_graph.specs.Valid.{Valid};
 ghost use Rattle.fl_graph.specs.declared.kinds.NodeKind.{NodeKind};
 ghost use Rattle.fl_graph.specs.declared.pieces.TheConstants.{MAX_PIECE};
 ghost use Rattle.fl_classes.specs.Flow.{is_source, outcome};
-ghost use Rattle.fl_core.specs.Ends.{HasRead, HasWritten, HasWrittenFronts, OnDone};
+ghost use Rattle.fl_core.specs.Endings.{OnDone};
+ghost use Rattle.fl_net.specs.Ends.{HasRead, HasWritten, HasWrittenFronts};
 ghost use Rattle.fl_classes.specs.Kinds.{are_run, is_writer};
-ghost use Rattle.fl_core.specs.Plans.{AreTold};
+ghost use Rattle.fl_net.specs.Plans.{AreTold};
 
-use crate::ends::NodeEnds;
 use crate::graph_nets::{ROOM, net_of};
-use crate::outside::Halt;
 use fl_graph::{Graph, MAX_PIECE};
+use fl_net::{Halt, NodeEnds};
 use ps_lines::Memory;
 use std::alloc::Global;
 

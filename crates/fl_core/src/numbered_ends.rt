@@ -7,8 +7,8 @@ ghost use Rattle.fl_core.specs.EndLists.{end_in, numbers_of, left_by, taken_by, 
 ghost use Rattle.fl_core.specs.Roles.{AreApart, Kept, end_by, is_read, is_written, kept, role_at as role_at_lem};
 
 use crate::end_lists::Ends;
-use crate::ends::NodeEnds;
 use crate::roles::{Role, role_at};
+use fl_net::NodeEnds;
 use ps_world::{Sink, Source, WorldErr, write_all};
 
 /// The ends of a graph's nodes, and which of them each node has.

@@ -20,7 +20,7 @@ use Rattle.fl_classes.specs.Kinds.{is_writer}
 use Rattle.fl_classes.specs.Sources.{source_texts, text_read}
 use Rattle.fl_core.specs.EndLists.{GrewByFiles, HasItsEnds, NodeEnd, Reader, Writer, end_at, end_in, end_of, file_nodes, file_sources, left_at, left_by, numbers_of, numbers_where, own_end, place_of, reads_file, writes_file}
 use Rattle.fl_engines.specs.OwnEnds.{HasOwnEnds, IsTold, each_of, grown, texts_for}
-use Rattle.fl_core.specs.Plans.{AreTold}
+use Rattle.fl_net.specs.Plans.{AreTold}
 use Rattle.fl_core.specs.declared.end_lists.Ends.{Ends}
 use Rattle.fl_core.proofs.RoleLemmas.{one_found}
 

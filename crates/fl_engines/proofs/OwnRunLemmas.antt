@@ -16,7 +16,7 @@ use Rattle.fl_graph.specs.declared.kinds.To.TheVariants as to
 use Rattle.fl_classes.specs.Flow.{is_source, outcome}
 use Rattle.fl_classes.specs.Sources.{source_texts}
 use Rattle.fl_core.specs.EndLists.{GrewByFiles, NodeEnd, Input, Output, end_at, faults_by, file_nodes, file_sources, given_back, left_at, left_by, numbers_where, own_end, reads_file, taken_by, writes_file}
-use Rattle.fl_core.specs.Ends.{IsReadOff}
+use Rattle.fl_net.specs.Ends.{IsReadOff}
 use Rattle.fl_engines.specs.Engines.{RunsGraph}
 use Rattle.fl_engines.specs.Logs.{Log}
 use Rattle.fl_engines.specs.OwnEnds.{EndCounts, HasCause, HasOwnEnds, IfCame, IsTold, RoseAmong, RunsOwn, came_at, came_by, came_of, counts_by, each_of, grown, has_input, has_output, texts_for}
@@ -26,7 +26,7 @@ use Rattle.fl_core.specs.declared.end_lists.Ran.TheVariants as ran
 use Rattle.fl_engines.specs.declared.own_ends.Came.TheVariants as came
 use Rattle.fl_core.proofs.OutputLemmas.{sought}
 use Rattle.fl_engines.proofs.OwnLemmas.{are_told, grew-in-order, map-nodes, node-has, of-readers, of-writers}
-use Rattle.fl_core.proofs.PortLemmas.{port_of}
+use Rattle.fl_net.proofs.PortLemmas.{port_of}
 use Rattle.fl_core.proofs.RoleLemmas.{none_found, one_found}
 
 get-mapped : (f : ℕ → ℕ) (numbers : List ℕ) (place number : ℕ) → slice_get numbers place ≡ Some number → slice_get (map f numbers) place ≡ Some (f number)

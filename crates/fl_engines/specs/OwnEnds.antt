@@ -18,7 +18,7 @@ use Rattle.fl_graph.specs.declared.kinds.To.TheVariants as to
 use Rattle.fl_classes.specs.Flow.{Outcome, outcome}
 use Rattle.fl_classes.specs.Sources.{source_texts}
 use Rattle.fl_core.specs.EndLists.{file_nodes, file_sources, numbers_of}
-use Rattle.fl_core.specs.Ends.{IsReadOff}
+use Rattle.fl_net.specs.Ends.{IsReadOff}
 use Rattle.fl_engines.specs.Engines.{then_used}
 use Rattle.fl_engines.specs.Logs.{Log}
 use Rattle.fl_core.specs.declared.end_lists.Ends.{Ends}

@@ -15,16 +15,16 @@ use Rattle.fl_graph.specs.declared.kinds.To.TheVariants as to
 use Rattle.fl_graph.specs.declared.machines.Machine.{Ghosts as MachineGhosts}
 use Rattle.fl_classes.specs.Flow.{outcome, status_by}
 use Rattle.fl_core.specs.EndLists.{Blames, GrewByFiles, HasItsEnds, IfDone, KeepsOthers, NodeEnd, Reader, Writer, Input, Output, end_at, end_in, end_of, faults_at, faults_by, file_nodes, given_back, left_at, left_by, numbers_of, own_end, place_of, taken_at, taken_by}
-use Rattle.fl_core.specs.Ends.{HasRead, HasWritten, HasWrittenFronts}
+use Rattle.fl_net.specs.Ends.{HasRead, HasWritten, HasWrittenFronts}
 use Rattle.fl_core.specs.GraphRuns.{HasRun}
-use Rattle.fl_core.specs.Plans.{AreTold}
+use Rattle.fl_net.specs.Plans.{AreTold}
 use Rattle.fl_core.specs.Roles.{HasRoles, end_by, is_used, role_of}
 use Rattle.fl_core.specs.declared.end_lists.Ends.{Ends}
 use Rattle.fl_core.specs.declared.end_lists.Ran.{Ran}
 use Rattle.fl_core.specs.declared.end_lists.Ran.TheVariants as ran
 use Rattle.fl_core.specs.declared.roles.Role.{Role}
 use Rattle.fl_core.specs.declared.roles.Role.TheVariants as role
-use Rattle.fl_core.proofs.OutsideLemmas.{some_at}
+use Rattle.fl_net.proofs.OutsideLemmas.{some_at}
 use Rattle.fl_core.proofs.RoleLemmas.{keeps_others}
 use Rattle.fl_edges.specs.Settled.{AreSettled}
 use Rattle.fl_edges.proofs.EachLemmas.{each-length}

@@ -17,12 +17,12 @@ use Rattle.fl_classes.specs.Flow.{flow, only, outcome, status_by}
 use Rattle.fl_classes.specs.Kinds.{is_writer}
 use Rattle.fl_core.specs.EndLists.{KeepsOthers, NodeEnd, Reader, Writer, Input, Output, end_at, faults_at, faults_by, left_at, left_by, own_end, taken_at, taken_by}
 use Rattle.fl_core.specs.GraphRuns.{HasRun}
-use Rattle.fl_core.specs.Plans.{AreTold}
+use Rattle.fl_net.specs.Plans.{AreTold}
 use Rattle.fl_core.specs.declared.end_lists.Ends.{Ends}
 use Rattle.fl_core.specs.declared.end_lists.Ran.TheVariants as ran
 use Rattle.fl_core.proofs.FileLemmas.{files_grew}
 use Rattle.fl_core.proofs.OutputLemmas.{output_grows}
-use Rattle.fl_core.proofs.OutsideLemmas.{some_at}
+use Rattle.fl_net.proofs.OutsideLemmas.{some_at}
 use Rattle.fl_nodes.specs.Ends.{EndState}
 use Rattle.fl_nodes.specs.Work.{is_fault}
 use Rattle.fl_relay.specs.Rule.{is_clean as is_clean_put}

@@ -16,12 +16,12 @@ use Rattle.fl_classes.specs.Flow.{is_source}
 use Rattle.fl_classes.specs.Kinds.{is_writer}
 use Rattle.fl_core.specs.EndLists.{HasItsEnds, NodeEnd, Reader, Writer, end_in, own_end}
 use Rattle.fl_core.specs.Roles.{HasRoles, end_by}
-use Rattle.fl_core.specs.Starts.{BeginsAs}
+use Rattle.fl_net.specs.Starts.{BeginsAs}
 use Rattle.fl_core.specs.declared.end_lists.Ends.{Ends}
 use Rattle.fl_core.specs.declared.machines.NodeMachine.{NodeMachine}
 use Rattle.fl_core.specs.declared.roles.Role.{Role}
 use Rattle.fl_core.specs.declared.roles.Role.TheVariants as role
-use Rattle.fl_core.proofs.PlanLemmas.{holds_at, source_ports}
+use Rattle.fl_net.proofs.PlanLemmas.{holds_at, source_ports}
 use Rattle.fl_edges.proofs.EachLemmas.{each-length}
 use Rattle.fl_nodes.specs.Ends.{EndState}
 use Rattle.fl_nodes.specs.Work.{IsReady}

@@ -13,9 +13,9 @@ use Rattle.fl_graph.specs.declared.pieces.Piece.{Piece}
 use Rattle.fl_classes.specs.Flow.{is_source}
 use Rattle.fl_classes.specs.Kinds.{is_writer, run_ins, run_outs}
 use Rattle.fl_core.specs.EndLists.{NodeEnd, Reader, Writer, end_of, own_end}
-use Rattle.fl_core.specs.Starts.{BeginsAs}
+use Rattle.fl_net.specs.Starts.{BeginsAs}
 use Rattle.fl_core.specs.declared.end_lists.Ends.{Ends}
-use Rattle.fl_core.proofs.PlanLemmas.{source_no_writer}
+use Rattle.fl_net.proofs.PlanLemmas.{source_no_writer}
 use Rattle.fl_edges.specs.Halves.{HasHalves, no_pieces}
 use Rattle.fl_edges.specs.declared.dealing.NodeHalves.{NodeHalves}
 use Rattle.fl_nodes.specs.Ends.{EndState}

@@ -25,17 +25,17 @@ use Rattle.fl_graph.proofs.StateLemmas.{closed_ends}
 use Rattle.fl_classes.specs.Flow.{flow, is_source, only, selections, selects}
 use Rattle.fl_classes.specs.Kinds.{is_sink, is_writer, run_ins, run_kind, run_outs}
 use Rattle.fl_classes.specs.Nodes.{Begins, texts_at}
-use Rattle.fl_core.specs.Ends.{HasRead, HasWritten, HasWrittenFronts, IsReadOff}
-use Rattle.fl_core.specs.Laws.{at_ports, is_clean, Keeps}
-use Rattle.fl_core.specs.Plans.{AreTold, IsPlanOf, edges_in, edges_out, outer_edge}
-use Rattle.fl_core.specs.Runs.{Halted, Plan}
-use Rattle.fl_core.specs.Starts.{BeginsAs}
-use Rattle.fl_core.proofs.FinishLemmas.{halted_writes, writer_carries}
-use Rattle.fl_core.proofs.KeepLemmas.{halted_keeps}
-use Rattle.fl_core.proofs.LawLemmas.{edge_completed, selections_of_the_flow, texts-values}
-use Rattle.fl_core.proofs.PlanLemmas.{own_in_below, own_out_below, source_edge, source_has, writer_edge}
-use Rattle.fl_core.proofs.PortLemmas.{port_of, stands-has}
-use Rattle.fl_core.proofs.StartLemmas.{no_state}
+use Rattle.fl_net.specs.Ends.{HasRead, HasWritten, HasWrittenFronts, IsReadOff}
+use Rattle.fl_net.specs.Laws.{at_ports, is_clean, Keeps}
+use Rattle.fl_net.specs.Plans.{AreTold, IsPlanOf, edges_in, edges_out, outer_edge}
+use Rattle.fl_net.specs.Runs.{Halted, Plan}
+use Rattle.fl_net.specs.Starts.{BeginsAs}
+use Rattle.fl_net.proofs.FinishLemmas.{halted_writes, writer_carries}
+use Rattle.fl_net.proofs.KeepLemmas.{halted_keeps}
+use Rattle.fl_net.proofs.LawLemmas.{edge_completed, selections_of_the_flow, texts-values}
+use Rattle.fl_net.proofs.PlanLemmas.{own_in_below, own_out_below, source_edge, source_has, writer_edge}
+use Rattle.fl_net.proofs.PortLemmas.{port_of, stands-has}
+use Rattle.fl_net.proofs.StartLemmas.{no_state}
 use Rattle.fl_nodes.specs.Ends.{EndState}
 use Rattle.fl_nodes.specs.Work.{Moved, at, side}
 use Rattle.fl_relay.specs.Rule.{is_clean as is_clean_put}

@@ -4,7 +4,7 @@ use Rattle.std.proofs.lemmas.List.{take-append-drop}
 use Rattle.fl_graph.specs.Machines.{State}
 use Rattle.fl_graph.specs.declared.graphs.Cell.{Cell}
 use Rattle.fl_graph.specs.declared.kinds.NodeKind.{NodeKind}
-use Rattle.fl_core.specs.Starts.{BeginsAs}
+use Rattle.fl_net.specs.Starts.{BeginsAs}
 use Rattle.fl_core.specs.declared.machines.NodeMachine.{NodeMachine}
 use Rattle.fl_edges.specs.Halves.{AreDealt, HasHalves}
 use Rattle.fl_edges.specs.declared.dealing.NodeHalves.{NodeHalves}

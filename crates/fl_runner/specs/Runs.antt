@@ -6,7 +6,7 @@ use Rattle.fl_graph.specs.declared.kinds.NodeKind.{NodeKind}
 use Rattle.fl_graph.specs.declared.machines.Machine.{Ghosts as MachineGhosts}
 use Rattle.fl_classes.specs.Flow.{is_source}
 use Rattle.fl_classes.specs.Kinds.{is_writer}
-use Rattle.fl_core.specs.Starts.{BeginsAs}
+use Rattle.fl_net.specs.Starts.{BeginsAs}
 use Rattle.fl_core.specs.declared.end_lists.Ends.{Ends}
 use Rattle.fl_core.specs.declared.end_lists.Ran.{Ran}
 use Rattle.fl_core.specs.declared.end_lists.Ran.TheVariants as ran

@@ -4,7 +4,7 @@ use Rattle.std.specs.Global.{Vec}
 use Rattle.fl_graph.specs.Machines.{State}
 use Rattle.fl_graph.specs.declared.graphs.Cell.{Cell}
 use Rattle.fl_graph.specs.declared.kinds.NodeKind.{NodeKind}
-use Rattle.fl_core.specs.Starts.{BeginsAs}
+use Rattle.fl_net.specs.Starts.{BeginsAs}
 use Rattle.fl_edges.specs.Halves.{HasHalves}
 use Rattle.fl_graph.specs.declared.machines.Machine.{Ghosts as MachineGhosts}
 use Rattle.fl_nodes.specs.declared.ends.OwnEnd.{Ghosts as EndGhosts}

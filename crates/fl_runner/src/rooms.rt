@@ -3,8 +3,9 @@ ghost use Rattle.std.specs.Prelude.{◌≡◌, ◌≤◌, [], IfOk, vec_len, vec
 ghost use Rattle.fl_edges.specs.Settled.{IsBare};
 ghost use Rattle.fl_runner.specs.Rooms.{HasBackRooms, HasRooms};
 
-use fl_core::{Ends, edge_count};
+use fl_core::Ends;
 use fl_graph::{Graph, Node};
+use fl_net::edge_count;
 use fl_relay::{EdgeGiver, EdgeTaker};
 use ps_lines::Memory;
 use std::alloc::Global;

@@ -7,9 +7,10 @@ ghost use Rattle.fl_graph.specs.Kinds.{has_its_ports, reads_one_input, runs_what
 ghost use Rattle.fl_graph.specs.Valid.{Valid};
 ghost use Rattle.fl_runner.specs.Starts.{AreStarts};
 
-use fl_core::{NodeMachine, edge_count, machine_of, rooms_of};
+use fl_core::{NodeMachine, machine_of};
 use fl_edges::{NodeHalves, deal, make_halves};
 use fl_graph::{Graph, Machine, Node};
+use fl_net::{edge_count, rooms_of};
 use ps_lines::Memory;
 use std::alloc::Global;
 

@@ -3,8 +3,8 @@ use Rattle.ps_world.specs.Told.{then_bytes, GrewByPrefix}
 use Rattle.ps_world.proofs.ToldLemmas.{grew_by_nothing, then_bytes-nil}
 use Rattle.fl_classes.specs.Flow.{outcome}
 use Rattle.fl_core.specs.EndLists.{KeepsOthers, faults_by, left_at, left_by, taken_at, taken_by}
-use Rattle.fl_core.specs.Ends.{HasRead, HasWritten, HasWrittenFronts}
-use Rattle.fl_core.specs.Plans.{AreTold}
+use Rattle.fl_net.specs.Ends.{HasRead, HasWritten, HasWrittenFronts}
+use Rattle.fl_net.specs.Plans.{AreTold}
 use Rattle.fl_core.proofs.EndListLemmas.{are_apart, blames_node, blames_none, keeps, moved, reads_all, writes_all}
 use Rattle.fl_core.proofs.FileLemmas.{files_grew}
 use Rattle.fl_core.proofs.OutputLemmas.{output_grows}

@@ -1,9 +1,9 @@
 use Rattle.std.proofs.Common.{ap, subst, arith}
 use Rattle.ps_world.proofs.ToldLemmas.{grew_by_nothing}
 use Rattle.fl_classes.specs.Flow.{selections}
-use Rattle.fl_core.specs.Runs.{AreDrained}
+use Rattle.fl_net.specs.Runs.{AreDrained}
 use Rattle.fl_core.proofs.EngineLemmas.{all_shut, all_stop, done_counted, done_reads, done_selects, done_writes, halted_front, reached_front, reached_whole}
-use Rattle.fl_core.proofs.StartLemmas.{net_under_way}
+use Rattle.fl_net.proofs.StartLemmas.{net_under_way}
 use Rattle.fl_core.proofs.engine.run_over_ends.Goals as goal
 
 pub returns-then-len-clause-front : goal.returns-then-len-clause-front

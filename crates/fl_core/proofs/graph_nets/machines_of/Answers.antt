@@ -1,7 +1,8 @@
 use Rattle.std.proofs.Common.{rules}
 use Rattle.fl_graph.specs.Kinds.{has_its_ports, reads_one_input, runs_what_is_built}
 use Rattle.fl_classes.specs.Kinds.{is_run}
-use Rattle.fl_core.proofs.GraphNetLemmas.{begins_here, node_holds, nodes_more}
+use Rattle.fl_net.proofs.GraphNetLemmas.{node_holds, nodes_more}
+use Rattle.fl_core.proofs.MachineLemmas.{begins_here}
 use Rattle.fl_core.proofs.graph_nets.machines_of.Goals as goal
 
 pub machine_of-requires-clause-ports : goal.machine_of-requires-clause-ports

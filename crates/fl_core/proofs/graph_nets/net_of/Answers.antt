@@ -1,14 +1,10 @@
-use Rattle.fl_core.proofs.GraphNetLemmas.{net_is_of, state_of}
-use Rattle.fl_core.proofs.RoomLemmas.{nodes_rooms}
+use Rattle.std.proofs.Common.{List, subst}
+use Rattle.fl_graph.specs.declared.graphs.Cell.{Cell}
+use Rattle.fl_graph.specs.declared.kinds.NodeKind.{NodeKind}
+use Rattle.fl_net.specs.Starts.{NodesHave}
+use Rattle.fl_core.proofs.MachineLemmas.{begins_here}
 use Rattle.fl_core.proofs.graph_nets.net_of.Goals as goal
 
-pub returns-clause-net : goal.returns-clause-net
-returns-clause-net c =
-    net_is_of state_of c.args.graph.now.nodes c.as_slice-nodes.result.now c.in_ok-edges.edges c.in_ok-count.count c.in_ok-ports.ports.items c.in_ok-machines.machines.items c.in_ok-wires.wires.items
-    c.as_slice-nodes.ensures c.in_ok-edges.ensures c.in_ok-count.ensures.sum c.in_ok-ports.ensures.all c.in_ok-ports.ensures.each c.in_ok-machines.ensures.all c.in_ok-machines.ensures.each
-    c.in_ok-wires.ensures.all c.in_ok-wires.ensures.none
-
-pub returns-clause-rooms : goal.returns-clause-rooms
-returns-clause-rooms c =
-    nodes_rooms c.args.graph.now.nodes c.as_slice-nodes.result.now c.args.graph.now.status c.requires.valid c.args.cap c.in_ok-rooms.rooms.items c.in_ok-edges.edges
-    c.as_slice-nodes.ensures c.in_ok-edges.ensures c.in_ok-rooms.ensures.all c.in_ok-rooms.ensures.each
+pub of_graph-requires-clause-each : goal.of_graph-requires-clause-each
+of_graph-requires-clause-each c =
+    subst (λ (nodes : List (Cell NodeKind)). NodesHave begins_here nodes c.in_ok-machines.machines.items) c.as_slice.ensures c.in_ok-machines.ensures.each

@@ -1,7 +1,7 @@
 use Rattle.std.proofs.Common.{◌≡◌, rules}
 use Rattle.fl_core.specs.EndLists.{numbers_of}
 use Rattle.fl_core.specs.Roles.{role_of}
-use Rattle.fl_core.proofs.GraphNetLemmas.{nodes_more}
+use Rattle.fl_net.proofs.GraphNetLemmas.{nodes_more}
 use Rattle.fl_core.proofs.RoleLemmas.{has_roles}
 use Rattle.fl_core.proofs.roles.roles_of_nodes.Goals as goal
 

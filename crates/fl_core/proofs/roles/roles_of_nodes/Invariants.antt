@@ -1,7 +1,7 @@
 use Rattle.std.proofs.Common.{◌≡◌, length}
 use Rattle.fl_core.specs.EndLists.{numbers_of}
 use Rattle.fl_core.specs.Roles.{role_of}
-use Rattle.fl_core.specs.Starts.{NodesHave}
+use Rattle.fl_net.specs.Starts.{NodesHave}
 use Rattle.fl_core.proofs.roles.roles_of_nodes.Given as goal
 
 abbrev pub invariant-loop-node : goal.invariant-loop-node

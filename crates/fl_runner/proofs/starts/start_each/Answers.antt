@@ -4,7 +4,7 @@ use Rattle.std.proofs.lemmas.List.{nil_from_length}
 use Rattle.fl_graph.specs.Kinds.{has_its_ports, reads_one_input, runs_what_is_built}
 use Rattle.fl_classes.specs.Kinds.{is_run}
 use Rattle.fl_core.specs.contracts.machines.NodeMachineMachine.TheImpl as machine
-use Rattle.fl_core.proofs.GraphNetLemmas.{node_holds}
+use Rattle.fl_net.proofs.GraphNetLemmas.{node_holds}
 use Rattle.fl_runner.proofs.StartLemmas.{begun-all, begun-next, begun-within}
 use Rattle.fl_runner.proofs.starts.start_each.Goals as goal
 

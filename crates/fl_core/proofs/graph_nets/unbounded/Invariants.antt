@@ -1,6 +1,0 @@
-use Rattle.std.proofs.Common.{◌≡◌, ℕ, None, length}
-use Rattle.fl_core.specs.Steps.{room_on}
-use Rattle.fl_core.proofs.graph_nets.unbounded.Given as goal
-
-abbrev pub invariant-loop : goal.invariant-loop
-invariant-loop l = (length l.rooms.items ≡ l.counter) × ((edge : ℕ) → room_on l.rooms.items edge ≡ None)

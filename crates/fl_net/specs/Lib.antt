@@ -1,0 +1,11 @@
+pub mod Laws
+pub mod Steps
+pub mod Runs
+pub mod Plans
+pub mod Causes
+pub mod Points
+pub mod Ends
+pub mod Starts
+pub mod Moves
+pub mod Inputs
+pub mod Stuck

@@ -112,6 +112,22 @@ received-failed was now failure why none same counts = record {
   fails = fails-now failure why was.faults now.faults none counts;
 }
 
+-- it isn't read any more, since another node has failed, and the node fails as one that is refused memory
+pub received-broken_off : (was : EndState) (failure : Option WorldErr) → is_some failure ≡ false → Received was was failure (Some error.Memory) piece.Broken
+received-broken_off was failure none = record {
+  same = record { role = refl; reads = refl; writes = refl };
+  read = λ never. absurd (true≢false never);
+  ended = λ never. absurd (true≢false never);
+  whole = λ never. absurd (true≢false never);
+  broken = λ is. refl;
+  fails = record {
+    kept = λ some. absurd (true≢false (sym some ∙ none));
+    fault = λ before failed. absurd (true≢false (sym failed));
+    calm = λ calm. refl;
+    later = omega arith;
+  };
+}
+
 pub same_end : (from was now : EndState) → SameEnd from was → SameEnd was now → SameEnd from now
 same_end from was now first second =
     record { role = second.role ∙ first.role; reads = second.reads ∙ first.reads; writes = second.writes ∙ first.writes }

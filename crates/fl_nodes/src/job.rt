@@ -2,6 +2,7 @@
 
 use crate::came::run_node;
 use crate::ends::OwnEnd;
+use crate::failures::AnyFailure;
 use crate::nodes::{NodeDone, NodeJob};
 use fl_graph::Machine;
 use fl_threads::Job;
@@ -11,16 +12,16 @@ use std::sync::Wait;
 impl<'a, M: Machine, E: OwnEnd + Drop + Send, G: Gate> Job for NodeJob<'a, M, E, G> {
     ghost use Rattle.fl_nodes.specs.Came.{NodeCame};
 
-    type Shared = ();
+    type Shared = AnyFailure;
 
     type Done = NodeDone<E>;
 
     ghost comes = { λ job done. NodeCame job done };
 
-    fn run<H: Wait>(self, rt: &H, _shared: &()) -> NodeDone<E> {
+    fn run<H: Wait>(self, rt: &H, in_run: &AnyFailure) -> NodeDone<E> {
         let (number, gate) = (self.number, self.gate);
         gate.reach(number, Reach::First);
-        let done = run_node(rt, self);
+        let done = run_node(rt, in_run, self);
         gate.reach(number, Reach::Last);
         done
     }

@@ -2,7 +2,8 @@
 //!
 //! `NodeJob` is what a thread gets, and `NodeDone` what it gives back. The thread does what the machine does next until that has stopped: it
 //! takes from its relays and puts on them, and where the node has an end outside, a source's in comes from there and the first out of a
-//! node that writes goes there. Where its end fails, or memory is refused, it puts Broken on its outs and takes its ins to their ends.
+//! node that writes goes there. Where its end fails, or memory is refused, it puts Broken on its outs and takes its ins to their ends. The
+//! nodes that read outside break off then too: each looks before a read whether a node of its run has failed.
 //!
 //! `run_nodes` runs nodes beside each other. `make_edge`, `halves_at` and `settle_at` deal out the halves of edges before a run, and put them
 //! together again behind it.
@@ -15,6 +16,7 @@ mod beside;
 mod came;
 mod edges;
 mod ends;
+mod failures;
 mod inlets;
 mod job;
 pub mod laws;

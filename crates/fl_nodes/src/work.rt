@@ -5,6 +5,7 @@ ghost use Rattle.fl_nodes.specs.Points.{point};
 ghost use Rattle.fl_nodes.specs.Work.{edge_at as edge_at_lem, IsHeld, IsUnderWay, Leads, Received, Sends};
 
 use crate::ends::OwnEnd;
+use crate::failures::AnyFailure;
 use crate::machines::{draw, hand_in, shut_off, wanted};
 use crate::ports::{put_at, take_at};
 use crate::worker::Worker;
@@ -13,23 +14,34 @@ use ps_world::WorldErr;
 use std::alloc::Global;
 use std::sync::Wait;
 
-/// Does what the machine does next, until it has stopped.
-pub(crate) fn work<M: Machine, E: OwnEnd, H: Wait>(rt: &H, alloc: Global, worker: &mut Worker<M, E>)
+/// Does what the machine does next, until it has stopped. Where the node fails, it notes that for all nodes of its run.
+pub(crate) fn work<M: Machine, E: OwnEnd, H: Wait>(
+    rt: &H,
+    alloc: Global,
+    in_run: &AnyFailure,
+    worker: &mut Worker<M, E>,
+)
     requires way { IsUnderWay (point M.state E.state worker.old) }
     ensures leads { Leads (point M.state E.state worker.old) (point M.state E.state worker.new) }
     ensures stop { (M.state worker.new.machine).act ≡ Act.Stop }
     ensures may { MayDo (M.state worker.new.machine) (M.state worker.new.machine).act }
 {
     for _ in rt.forever() {
-        if !step(rt, alloc, worker) {
+        if !step(rt, alloc, in_run, worker) {
             return;
         }
+        in_run.note(worker.failure.is_some());
     }
     unreachable!()
 }
 
 /// Does what the machine does next, and answers whether it hadn't stopped.
-fn step<M: Machine, E: OwnEnd, H: Wait>(rt: &H, alloc: Global, worker: &mut Worker<M, E>) -> bool
+fn step<M: Machine, E: OwnEnd, H: Wait>(
+    rt: &H,
+    alloc: Global,
+    in_run: &AnyFailure,
+    worker: &mut Worker<M, E>,
+) -> bool
     requires way { IsUnderWay (point M.state E.state worker.old) }
     ensures leads { Leads (point M.state E.state worker.old) (point M.state E.state worker.new) }
     ensures stop { result ≡ false → (M.state worker.new.machine).act ≡ Act.Stop }
@@ -37,7 +49,7 @@ fn step<M: Machine, E: OwnEnd, H: Wait>(rt: &H, alloc: Global, worker: &mut Work
 {
     match worker.machine.next() {
         Act::Take(port) => {
-            take(rt, alloc, worker, port);
+            take(rt, alloc, in_run, worker, port);
             true
         }
         Act::Put(port) => {
@@ -49,14 +61,20 @@ fn step<M: Machine, E: OwnEnd, H: Wait>(rt: &H, alloc: Global, worker: &mut Work
 }
 
 /// Takes the piece that the machine takes next.
-fn take<M: Machine, E: OwnEnd, H: Wait>(rt: &H, alloc: Global, worker: &mut Worker<M, E>, port: u32)
+fn take<M: Machine, E: OwnEnd, H: Wait>(
+    rt: &H,
+    alloc: Global,
+    in_run: &AnyFailure,
+    worker: &mut Worker<M, E>,
+    port: u32,
+)
     requires way { IsUnderWay (point M.state E.state worker.old) }
     requires turn { (M.state worker.old.machine).act ≡ Act.Take port }
     requires may { MayDo (M.state worker.old.machine) (M.state worker.old.machine).act }
     ensures { Leads (point M.state E.state worker.old) (point M.state E.state worker.new) }
 {
     if worker.own.is_read() {
-        take_from_outside(alloc, worker, port);
+        take_from_outside(alloc, in_run, worker, port);
     } else {
         take_from_edge(rt, worker, port);
     }
@@ -75,20 +93,27 @@ fn take_from_edge<M: Machine, E: OwnEnd, H: Wait>(rt: &H, worker: &mut Worker<M,
 }
 
 /// Takes it from the outside, where the one in of a node that reads is.
-fn take_from_outside<M: Machine, E: OwnEnd>(alloc: Global, worker: &mut Worker<M, E>, port: u32)
+fn take_from_outside<M: Machine, E: OwnEnd>(
+    alloc: Global,
+    in_run: &AnyFailure,
+    worker: &mut Worker<M, E>,
+    port: u32,
+)
     requires way { IsUnderWay (point M.state E.state worker.old) }
     requires turn { (M.state worker.old.machine).act ≡ Act.Take port }
     requires may { MayDo (M.state worker.old.machine) (M.state worker.old.machine).act }
     requires reads { (E.state worker.old.own).reads ≡ true }
     ensures { Leads (point M.state E.state worker.old) (point M.state E.state worker.new) }
 {
-    let (piece, failure) = receive(alloc, &mut worker.own, worker.failure);
+    let (piece, failure) = receive(alloc, in_run, &mut worker.own, worker.failure);
     worker.failure = hand_in(&mut worker.machine, piece, failure);
 }
 
-/// Reads a piece, or gives Broken in its place: where the node has failed, and where its end fails now.
+/// Reads a piece, or gives Broken in its place: where the node has failed, where its end fails now, and where another node of the run has
+/// failed. Nothing more is wanted of its end then, and it breaks off as one that is refused memory: the failure of the other one is told.
 fn receive<E: OwnEnd>(
     alloc: Global,
+    in_run: &AnyFailure,
     own: &mut E,
     failure: Option<WorldErr>,
 ) -> (Piece, Option<WorldErr>)
@@ -97,6 +122,9 @@ fn receive<E: OwnEnd>(
 {
     if failure.is_some() {
         return (Piece::Broken, failure);
+    }
+    if in_run.is_noted() {
+        return (Piece::Broken, Some(WorldErr::Memory));
     }
     match own.read_piece(alloc) {
         Ok(piece) => (piece, None),

@@ -1,9 +1,12 @@
 use Rattle.std.proofs.Common.{◌≡◌, false, is_some, rules}
-use Rattle.fl_nodes.proofs.MovedLemmas.{received-before, received-failed, received-now}
+use Rattle.fl_nodes.proofs.MovedLemmas.{received-before, received-broken_off, received-failed, received-now}
 use Rattle.fl_nodes.proofs.work.receive.Goals as goal
 
 pub returns-then-is_some : goal.returns-then-is_some
 returns-then-is_some g c = received-before _ _ (search rules)
+
+pub returns-then-is_noted : goal.returns-then-is_noted
+returns-then-is_noted g c = received-broken_off _ _ (search rules)
 
 pub returns-in-Ok : goal.returns-in-Ok
 returns-in-Ok g c =

@@ -2,12 +2,14 @@
 //!
 //! Each keeps its trait's contract and tells its content. Its calls that answer a Result have numbers from 0: a call fails where its
 //! number is on the object's list, and the count of faults rises there. A number past the last call changes nothing. The `NoFail` objects
-//! are the same ones without such a list: their count is the constant 0.
+//! are the same ones without such a list: their count is the constant 0. `DelayGate` and `DelayedSource` let others run, as a seed gives, where
+//! nodes begin and end and before reads.
 //!
 //! `specs/` has the words that callers' contracts cite: `Trees` for what a tree is made of, `Standing` and `Bounded` for what its maker
 //! owes, `Reads` for how the readers of a path give their bytes.
 #![tactic(auto)]
 
+mod delays;
 mod gates;
 mod listing;
 mod meet_gate;
@@ -21,6 +23,7 @@ mod standing;
 mod stored;
 mod tree;
 
+pub use delays::{DelayGate, DelayedSource};
 pub use gates::OpenGate;
 pub use meet_gate::MeetGate;
 pub use no_fail::{NoFailSink, NoFailSource, NoFailTree, are_bounded};

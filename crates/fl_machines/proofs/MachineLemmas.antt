@@ -1,7 +1,7 @@
 -- Streams in machines, and what is due of a machine at its beginning.
-use Rattle.std.proofs.Common.{◌≡◌, ℕ, zero, suc, ◌+◌, ◌-◌, ◌≤◌, ◌<◌, ◌==◌, ◌&&◌, nat_lt, List, [], ◌∷◌, ◌++◌, Bool, true, false, if◌then◌else◌, get_or, refl, ap, sym, ◌∙◌, append-nil, subst, arith}
+use Rattle.std.proofs.Common.{◌≡◌, ℕ, zero, suc, ◌+◌, ◌-◌, ◌≤◌, ◌<◌, ◌==◌, ◌&&◌, nat_lt, List, [], ◌∷◌, Bool, true, false, if◌then◌else◌, get_or, refl, ap, sym, ◌∙◌, append-nil, subst, arith}
 use Rattle.std.specs.List.{list_all}
-use Rattle.std.proofs.lemmas.Bool.{cond-true, le-leb, true≢false, and_from, and_parts, eqb-true, eq-eqb, ltb-true, lt-ltb, false_from_ne_true}
+use Rattle.std.proofs.lemmas.Bool.{le-leb, true≢false, and_from, and_parts, eqb-true, eq-eqb, ltb-true, lt-ltb, false_from_ne_true}
 use Rattle.std.proofs.Math.Dec.{eqb-suc-zero}
 use Rattle.ps_lines.specs.Lines.{is_empty}
 use Rattle.ut_streams.proofs.StreamLemmas.{Wrote-put}
@@ -25,8 +25,7 @@ use Rattle.ut_args.specs.Invocations.{command_of}
 use Rattle.ut_sort.specs.Order.{sorted_text}
 use Rattle.ut_bytes.specs.Tr.{tr_output}
 use Rattle.ut_slices.specs.Cut.{cut_output}
-use Rattle.ut_slices.specs.Tail.{tail_by, tail_output}
-use Rattle.ut_slices.proofs.EndLemmas.{behind-empty}
+use Rattle.ut_slices.specs.Tail.{tail_output}
 use Rattle.fl_machines.specs.Kinds.{is_utility_node, maps_as_whole, reads_apart, runs_utility, stream_output, stream_selects, takes_apart, RunsApart}
 use Rattle.fl_machines.specs.InSeries.{due_in_series, ports_from, selects_in_series, texts_from}
 use Rattle.fl_machines.specs.Through.{only_port}

@@ -1,8 +1,8 @@
 //! The machines of nodes that run a utility: maps, wholes and finishes.
 //!
 //! Each utility is a stream, a series where it reads its inputs one after another, or a stream of several inputs at once: `Through`, `InSeries`
-//! and `AtPorts` make machines of any of these, and `util_machine` takes the one that a node's kind asks for. What the machine owes at its
-//! beginning is the node's equation, `fl_classes`' word.
+//! and `AtPorts` make machines of any of these. That of `sort` is `Sorting`, which writes its output in pieces. `util_machine` takes the one
+//! that a node's kind asks for; what it owes at its beginning is the node's equation, `fl_classes`' word.
 #![tactic(auto)]
 
 mod any_series;
@@ -12,6 +12,7 @@ mod copies;
 mod in_series;
 mod kinds;
 mod machines;
+mod sorting;
 mod through;
 
 pub use any_series::AnySeries;
@@ -20,4 +21,5 @@ pub use at_ports::AtPorts;
 pub use in_series::InSeries;
 pub use kinds::is_utility_node;
 pub use machines::{UtilMachine, util_machine};
+pub use sorting::Sorting;
 pub use through::Through;

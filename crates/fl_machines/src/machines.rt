@@ -1,27 +1,32 @@
 //! The machine of a node that runs a utility.
-ghost use Rattle.std.specs.Prelude.{◌≡◌, true, false, IfOk, IfNone, IfSome};
+ghost use Rattle.std.specs.Prelude.{◌≡◌, ◌<◌, ℕ, List, true, false, IfOk, IfNone, IfSome};
 ghost use Rattle.ut_args.specs.declared.invocations.Inv.TheVariants.{Paste};
 ghost use Rattle.fl_graph.specs.declared.kinds.NodeKind.TheVariants.{Whole};
 ghost use Rattle.fl_classes.specs.Nodes.{Begins};
-ghost use Rattle.fl_machines.specs.Kinds.{is_utility_node, maps_as_whole as maps_as_whole_lem, reads_apart as reads_apart_lem, reads_at_once, takes_apart, RunsApart};
+ghost use Rattle.fl_machines.specs.Kinds.{is_utility_node, maps_as_whole as maps_as_whole_lem, reads_apart as reads_apart_lem, reads_at_once, stream_output, stream_selects, takes_apart, RunsApart};
+ghost use Rattle.ut_sort.specs.Order.{sorted_text};
 
 use crate::any_series::AnySeries;
 use crate::any_stream::AnyStream;
 use crate::at_ports::AtPorts;
 use crate::copies::Copy;
 use crate::in_series::InSeries;
+use crate::sorting::Sorting;
 use crate::through::Through;
 use fl_graph::{Act, Machine, NodeKind, Piece};
 use ps_lines::Memory;
 use std::alloc::Global;
-use ut_args::{Inv, PasteInv};
+use ut_args::{Inv, PasteInv, SortInv};
 use ut_slices::Side;
+use ut_sort::Sorter;
 
 /// The machine of a map, a whole or a finish.
 #[derive(Drop)]
 pub enum UtilMachine {
     /// That of a stream, with one in or none.
     One(Through<AnyStream>),
+    /// That of a `sort`, with one in.
+    Sorting(Sorting),
     /// That of a series, with any number of ins.
     InSeries(InSeries<AnySeries>),
     /// That of a stream of several inputs at once, with any number of ins.
@@ -47,8 +52,8 @@ pub fn util_machine(
             Ok(machine) => Ok(machine),
             Err(memory) => Err(memory),
         },
-        None => match stream_machine(alloc, kind, ins, outs) {
-            Ok(machine) => Ok(UtilMachine::One(machine)),
+        None => match joined_machine(alloc, kind, ins, outs) {
+            Ok(machine) => Ok(machine),
             Err(memory) => Err(memory),
         },
     }
@@ -174,7 +179,66 @@ fn series_machine(
     Ok(InSeries::new(alloc, series, ins))
 }
 
-/// The machine of the stream of any other node.
+/// The machine of any other node. A `sort` has one of its own: its stream would hold the whole of its output.
+fn joined_machine(
+    alloc: Global,
+    kind: &NodeKind,
+    ins: u32,
+    outs: u32,
+) -> Result<UtilMachine, Memory>
+    requires node { is_utility_node kind.now ins outs ≡ true }
+    requires joined { takes_apart kind.now ≡ false }
+    ensures { IfOk result (λ machine. Begins kind.now ins outs (⟦<UtilMachine as Machine>⟧.state machine)) }
+{
+    if ins > 0 {
+        if let Some(sort) = sort_of(kind) {
+            return match sorting_machine(alloc, kind, sort, ins, outs) {
+                Ok(machine) => Ok(UtilMachine::Sorting(machine)),
+                Err(memory) => Err(memory),
+            };
+        }
+    }
+    match stream_machine(alloc, kind, ins, outs) {
+        Ok(machine) => Ok(UtilMachine::One(machine)),
+        Err(memory) => Err(memory),
+    }
+}
+
+/// The invocation of a map or a whole of `sort`.
+#[tactic(auto, using(crate::proofs::MachineLemmas::wholes))]
+fn sort_of(kind: &NodeKind) -> Option<&SortInv>
+    ensures output { IfSome result (λ sort. (text : List ℕ) → stream_output kind.now text ≡ sorted_text sort.now.args text) }
+    ensures selects { IfSome result (λ sort. (text : List ℕ) → stream_selects kind.now text ≡ false) }
+{
+    match kind {
+        NodeKind::Map(Inv::Sort(sort)) => Some(sort),
+        NodeKind::Whole(Inv::Sort(sort)) => Some(sort),
+        _ => None,
+    }
+}
+
+/// The machine of a node with an in that writes its text in this order.
+fn sorting_machine(
+    alloc: Global,
+    kind: &NodeKind,
+    sort: &SortInv,
+    ins: u32,
+    outs: u32,
+) -> Result<Sorting, Memory>
+    requires node { is_utility_node kind.now ins outs ≡ true }
+    requires joined { takes_apart kind.now ≡ false }
+    requires some { 0 < ins }
+    requires output { (text : List ℕ) → stream_output kind.now text ≡ sorted_text sort.now.args text }
+    requires selects { (text : List ℕ) → stream_selects kind.now text ≡ false }
+    ensures { IfOk result (λ machine. Begins kind.now ins outs (⟦<Sorting as Machine>⟧.state machine)) }
+{
+    match Sorter::new(alloc, sort) {
+        Ok(sorter) => Ok(Sorting::new(alloc, sorter)),
+        Err(memory) => Err(memory),
+    }
+}
+
+/// The machine of the stream of such a node.
 fn stream_machine(
     alloc: Global,
     kind: &NodeKind,
@@ -202,6 +266,7 @@ impl Machine for UtilMachine {
 
     ghost state = { λ util. elim util [
       | variant.One machine ↦ ⟦<Through<AnyStream> as Machine>⟧.state machine
+      | variant.Sorting machine ↦ ⟦<Sorting as Machine>⟧.state machine
       | variant.InSeries machine ↦ ⟦<InSeries<AnySeries> as Machine>⟧.state machine
       | variant.AtOnce machine ↦ ⟦<AtPorts<Side> as Machine>⟧.state machine
     ] };
@@ -209,6 +274,7 @@ impl Machine for UtilMachine {
     fn next(&self) -> Act {
         match self {
             UtilMachine::One(machine) => machine.next(),
+            UtilMachine::Sorting(machine) => machine.next(),
             UtilMachine::InSeries(machine) => machine.next(),
             UtilMachine::AtOnce(machine) => machine.next(),
         }
@@ -217,6 +283,7 @@ impl Machine for UtilMachine {
     fn take(&mut self, piece: Piece) -> Result<(), Memory> {
         match self {
             UtilMachine::One(machine) => machine.take(piece),
+            UtilMachine::Sorting(machine) => machine.take(piece),
             UtilMachine::InSeries(machine) => machine.take(piece),
             UtilMachine::AtOnce(machine) => machine.take(piece),
         }
@@ -225,6 +292,7 @@ impl Machine for UtilMachine {
     fn put(&mut self) -> Result<Piece, Memory> {
         match self {
             UtilMachine::One(machine) => machine.put(),
+            UtilMachine::Sorting(machine) => machine.put(),
             UtilMachine::InSeries(machine) => machine.put(),
             UtilMachine::AtOnce(machine) => machine.put(),
         }
@@ -233,6 +301,7 @@ impl Machine for UtilMachine {
     fn break_off(&mut self) {
         match self {
             UtilMachine::One(machine) => machine.break_off(),
+            UtilMachine::Sorting(machine) => machine.break_off(),
             UtilMachine::InSeries(machine) => machine.break_off(),
             UtilMachine::AtOnce(machine) => machine.break_off(),
         }
@@ -241,6 +310,7 @@ impl Machine for UtilMachine {
     fn selected(&self) -> bool {
         match self {
             UtilMachine::One(machine) => machine.selected(),
+            UtilMachine::Sorting(machine) => machine.selected(),
             UtilMachine::InSeries(machine) => machine.selected(),
             UtilMachine::AtOnce(machine) => machine.selected(),
         }

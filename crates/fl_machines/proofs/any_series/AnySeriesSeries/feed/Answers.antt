@@ -1,4 +1,3 @@
-use Rattle.std.proofs.Common.{rules}
 use Rattle.fl_machines.proofs.any_series.AnySeriesSeries.feed.Goals as goal
 
 pub returns-in-Grep-clause-wrote : goal.returns-in-Grep-clause-wrote

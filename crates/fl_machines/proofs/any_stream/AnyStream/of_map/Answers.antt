@@ -1,5 +1,4 @@
-use Rattle.std.proofs.Common.{ap, sym, ◌∙◌}
-use Rattle.ut_args.specs.Built.{is_built_of}
+use Rattle.std.proofs.Common.{sym, ◌∙◌}
 use Rattle.fl_classes.proofs.ClassLemmas.{tr-map}
 use Rattle.fl_machines.proofs.any_stream.AnyStream.of_map.Goals as goal
 

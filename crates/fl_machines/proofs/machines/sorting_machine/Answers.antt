@@ -1,0 +1,12 @@
+use Rattle.std.proofs.Common.{rules, ◌==◌, [], ap, sym, ◌∙◌, if◌then◌else◌}
+use Rattle.fl_machines.proofs.MachineLemmas.{begins-some}
+use Rattle.fl_machines.proofs.machines.sorting_machine.Goals as goal
+
+pub returns-in-Ok : goal.returns-in-Ok
+returns-in-Ok c =
+    let machine = c.new-in-Ok.result in
+    let facts = c.new-in-Ok.ensures in
+    begins-some c.args.kind.now c.args.ins c.args.outs c.requires.node c.requires.joined _ machine.taking machine.putting machine.broken _ _ facts.putting facts.broken (search rules) facts.taking
+    (λ texts port. rw (facts.pieces, facts.taking, facts.sorter)
+    (ap (λ text. if port == 0 then text else []) (c.in-Ok.ensures.due (texts 0) ∙ sym (c.requires.output (texts 0)))))
+    (λ texts. sym (c.requires.selects (texts 0)))

@@ -67,24 +67,24 @@ out-returned count first old mid new lent back out =
     subst (λ (it : TreeState). AreOut count first it) (sym (back ∙ ap take_back lent)) (out-take_back count first (lend old) (out-lend count first old out))
 
 -- counts that rose go on to stand above, and one of those that are told last rises the tree's
-rose-later : (first before now : ℕ) → Rose first before → before ≤ now → Rose first now
+pub rose-later : (first before now : ℕ) → Rose first before → before ≤ now → Rose first now
 rose-later first before now rose later = omega (arith, rose, later)
 
-rose-earlier : (first before now : ℕ) → first ≤ before → Rose before now → Rose first now
+pub rose-earlier : (first before now : ℕ) → first ≤ before → Rose before now → Rose first now
 rose-earlier first before now earlier rose = omega (arith, earlier, rose)
 
-either : (one two : Bool) → (one || two) ≡ false → (one ≡ false) × (two ≡ false)
+pub either : (one two : Bool) → (one || two) ≡ false → (one ≡ false) × (two ≡ false)
 either false false is = (refl, refl)
 either false true is = absurd (cc)
 either true two is = absurd (cc)
 
-none-above : (count : ℕ) → nat_lt 0 count ≡ false → count ≡ 0
+pub none-above : (count : ℕ) → nat_lt 0 count ≡ false → count ≡ 0
 none-above zero is = refl
 none-above (suc count) is = let above : 0 < suc count = omega arith in absurd (true≢false (sym (lt-ltb 0 (suc count) above) ∙ is))
 
 -- readers that are left, and the last of them, which goes back
 module _ {End : Type 0} (faults : End → ℕ) (entries rest : List (ℕ × End)) (number : ℕ) (end : End) (is : entries ≡ rest ++ (number, end) ∷ []) where
-  counted : has_count (each_of faults entries) ≡ (has_count (each_of faults rest) || nat_lt 0 (faults end))
+  pub counted : has_count (each_of faults entries) ≡ (has_count (each_of faults rest) || nat_lt 0 (faults end))
   counted = ap has_count (each-more faults rest entries number end (faults end) is refl) ∙ count-more (each_of faults rest) (faults end)
 
   pub shorter : length entries ≡ suc (length rest)

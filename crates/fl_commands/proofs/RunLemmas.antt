@@ -1,15 +1,16 @@
 -- What comes of stages that are run, from what comes of their graph.
-use Rattle.std.proofs.Common.{◌≡◌, inl, ℕ, zero, suc, ◌≤◌, ◌<◌, ◌+◌, List, [], ◌∷◌, ◌++◌, Bool, true, false, ◌||◌, nat_lt, if◌then◌else◌, length, map, slice_get, Option, Some, None, Err, refl, sym, ap, ◌∙◌, subst, arith}
-use Rattle.std.specs.List.{cons_option, list_any}
+use Rattle.std.proofs.Common.{◌≡◌, inl, ℕ, zero, suc, ◌≤◌, ◌<◌, ◌+◌, List, [], ◌∷◌, ◌++◌, Bool, true, false, ◌||◌, nat_lt, if◌then◌else◌, length, map, slice_get, Option, Some, None, Result, Ok, Err, OnOk, IsErrOf, refl, sym, ap, ◌∙◌, subst, append-nil, arith}
+use Rattle.std.specs.List.{cons_option, list_all, list_any}
 use Rattle.std.specs.Option.{IfSome, option_map}
-use Rattle.std.proofs.lemmas.Bool.{lt-ltb, true≢false}
-use Rattle.std.proofs.lemmas.List.{length-map}
+use Rattle.std.proofs.lemmas.Bool.{and_parts, lt-ltb, true≢false}
+use Rattle.std.proofs.lemmas.List.{length-append, length-map, map-append}
 use Rattle.ps_world.specs.Counts.{Rose}
 use Rattle.ps_world.specs.Counts.{Counts as CountsOf}
 use Rattle.ps_world.specs.Files.{Files, bytes_at}
 use Rattle.ps_world.specs.Paths.{Components}
 use Rattle.ps_world.specs.Told.{then_bytes, GrewByPrefix}
 use Rattle.ps_world.specs.TreeState.{AreOut, Balanced, TreeState}
+use Rattle.ps_world.specs.declared.tree.Mode.{Mode}
 use Rattle.ps_world.specs.declared.error.WorldErr.{WorldErr}
 use Rattle.ps_world.specs.declared.error.WorldErr.TheVariants as error
 use Rattle.ps_world.proofs.ToldLemmas.{grew_by_nothing}
@@ -23,38 +24,49 @@ use Rattle.fl_graph.specs.declared.kinds.NodeKind.TheVariants as kind
 use Rattle.fl_graph.specs.declared.kinds.To.TheVariants as to
 use Rattle.fl_graph.specs.Kinds.{is_input}
 use Rattle.fl_graph.specs.Valid.{Valid}
-use Rattle.fl_classes.specs.Flow.{Outcome, outcome}
+use Rattle.fl_classes.specs.Flow.{Outcome, only}
+use Rattle.fl_classes.specs.Flow.{outcome as outcome_of}
 use Rattle.fl_classes.specs.Kinds.{are_run}
 use Rattle.fl_classes.specs.Used.{words_used}
 use Rattle.fl_classes.specs.Sources.{source_texts}
 use Rattle.fl_core.specs.EndLists.{file_nodes, file_sources, numbers_of, reads_file, writes_file}
 use Rattle.fl_engines.specs.Engines.{then_used}
 use Rattle.fl_engines.specs.Logs.{Log, with_words}
-use Rattle.fl_engines.specs.OwnEnds.{EndCounts, IfCame, IsTold, RoseAmong, RunsOwn, counts_by, each_of, has_input}
+use Rattle.fl_engines.specs.OwnEnds.{EndCounts, IfCame, IsTold, RoseAmong, RunsOwn, counts_by, each_of, grown, has_input, texts_for}
 use Rattle.fl_engines.specs.OwnEnds.{HasCause as CauseOf}
 use Rattle.fl_core.specs.declared.end_lists.Ends.{Ends}
 use Rattle.fl_engines.specs.declared.own_ends.Came.{Came}
 use Rattle.fl_engines.specs.declared.own_ends.Came.TheVariants as came
-use Rattle.fl_segments.specs.Chains.{begins_with, chain_means}
+use Rattle.fl_segments.specs.Chains.{begins_with, chain_means, files_teed, led_to_file, output_by, stage_means, stage_of, tee_mode, text_in, texts_read}
+use Rattle.fl_segments.specs.Groups.{marks_hold}
 use Rattle.fl_segments.specs.Noted.{noted_in, used_at}
-use Rattle.fl_segments.specs.Stages.{files_read, files_written, reads_input, words_at}
+use Rattle.fl_segments.specs.Stages.{file_out, files_read, files_written, is_stage, reads_input, words_at}
+use Rattle.fl_segments.specs.declared.stages.Does.{Does}
+use Rattle.fl_segments.specs.declared.stages.Does.TheVariants as does
 use Rattle.fl_segments.specs.declared.stages.First.{First}
+use Rattle.fl_segments.specs.declared.stages.Out.{Out}
+use Rattle.fl_segments.specs.declared.stages.Out.TheVariants as out
 use Rattle.fl_segments.specs.declared.stages.Stage.{Stage}
+use Rattle.fl_segments.proofs.FitLemmas.{skips-files}
 use Rattle.fl_segments.proofs.NotedLemmas.{used-so}
-use Rattle.fl_commands.specs.Inner.Overs.{Opens, RunsOver, ended_by, ended_of}
+use Rattle.fl_commands.specs.Inner.Overs.{Lends, RunsOver, done_by, ended_by, ended_of}
 use Rattle.fl_commands.specs.Inner.Segments.{IsGraphOf, segment_asks}
+use Rattle.fl_commands.specs.Inner.Writing.{AreApart, AreTold, Fills, Returns, out_at}
 use Rattle.fl_commands.specs.Readers.{has_count}
 use Rattle.fl_commands.specs.Runs.{Asks, Counts, HasCause, IfDone, NoFewer, Runs, counts_of, left_behind, with_noted}
+use Rattle.fl_commands.specs.Writers.{AreFilled, all_added, filled}
 use Rattle.fl_commands.specs.declared.runs.Ended.{Ended}
 use Rattle.fl_commands.specs.declared.runs.Ended.TheVariants as ended
+use Rattle.fl_commands.proofs.ReaderLemmas.{rose-earlier, rose-later}
+use Rattle.fl_commands.proofs.WriterLemmas.{filled-added, filled-out, grown-told, texts_begun, told-count}
 
--- what is said of the graph of stages that write no file, in one
+-- what is said of the graph of stages, in one
 pub graph-so : (width : ℕ) (segment : List Stage) (from : First) (graph : Graph) → Valid graph.nodes graph.status → are_run graph.nodes ≡ true → paths_read graph.nodes ≡ files_read segment
-    → paths_written graph.nodes ≡ files_written segment → files_written segment ≡ [] → list_any (λ cell. is_input cell.kind) graph.nodes ≡ reads_input segment from
-    → ((input : List ℕ) (files : Components → List ℕ) → outcome graph (source_texts graph.nodes input files) ≡ chain_means segment (begins_with from input) files)
+    → paths_written graph.nodes ≡ files_written segment → list_any (λ cell. is_input cell.kind) graph.nodes ≡ reads_input segment from
+    → ((input : List ℕ) (files : Components → List ℕ) → marks_hold files segment ≡ true → outcome_of graph (source_texts graph.nodes input files) ≡ chain_means segment (begins_with from input) files)
     → words_used graph.nodes ≡ words_at width segment → IsGraphOf width segment from graph
-graph-so width segment from graph valid kinds reads writes none input outcome_is used =
-    record { valid = valid; kinds = kinds; reads = reads; writes = writes ∙ none; input = input; outcome_is = outcome_is; used = used }
+graph-so width segment from graph valid kinds reads writes input outcome_is used =
+    record { valid = valid; kinds = kinds; reads = reads; writes = writes; input = input; outcome_is = outcome_is; used = used }
 
 -- HOW MANY ENDS A GRAPH HAS
 cons-length : {X : Type 0} (one : Option X) (items others : List X) → length items ≡ length others → length (cons_option one items) ≡ length (cons_option one others)
@@ -70,19 +82,50 @@ sources-count number (cell ∷ cells) = by_kind cell.kind (sources-count (number
     by_kind (kind.Source (from.File path)) same = ap suc same
     by_kind other same = same
 
-pub nodes-most : (number : ℕ) (cells : List (Cell NodeKind)) → length (file_nodes number cells) ≤ length (paths_written cells)
-nodes-most number [] = omega arith
-nodes-most number (cell ∷ cells) = by_kind cell.kind (nodes-most (number + 1) cells)
+pub nodes-count : (number : ℕ) (cells : List (Cell NodeKind)) → length (file_nodes number cells) ≡ length (paths_written cells)
+nodes-count number [] = refl
+nodes-count number (cell ∷ cells) = by_kind cell.kind (nodes-count (number + 1) cells)
   where
-    by_kind : (it : NodeKind) → length (file_nodes (number + 1) cells) ≤ length (paths_written cells)
-        → length (if writes_file it then number ∷ file_nodes (number + 1) cells else file_nodes (number + 1) cells) ≤ length (cons_option (path_written it) (paths_written cells))
-    by_kind (kind.Sink (to.File path mode)) most = omega (arith, most)
-    by_kind (kind.TeeFile path mode) most = omega (arith, most)
-    by_kind other most = most
+    by_kind : (it : NodeKind) → length (file_nodes (number + 1) cells) ≡ length (paths_written cells)
+        → length (if writes_file it then number ∷ file_nodes (number + 1) cells else file_nodes (number + 1) cells) ≡ length (cons_option (path_written it) (paths_written cells))
+    by_kind (kind.Sink (to.File path mode)) same = ap suc same
+    by_kind (kind.TeeFile path mode) same = ap suc same
+    by_kind other same = same
 
--- no file is written
-pub none-written : (number : ℕ) (cells : List (Cell NodeKind)) → paths_written cells ≡ [] → length (file_nodes number cells) ≡ 0
-none-written number cells none = let most = nodes-most number cells in let empty = ap (λ (it : List Components). length it) none in omega (arith, most, empty)
+-- HOW MANY TEXTS FOR FILES STAGES LEAVE
+-- as many as they write files
+mapped-many : (give : Components → Components × (Mode × List ℕ)) (paths : List Components) → length (map give paths) ≡ length paths
+mapped-many give paths = length-map paths give
+
+stage-many : (stage : Stage) → is_stage stage ≡ true → (texts : List (List ℕ)) → length (texts_for (stage_of stage texts).files) ≡ length (stage.tees ++ file_out stage.out)
+stage-many stage is texts =
+    let led : List (Components × (Mode × List ℕ)) = led_to_file stage.out (stage.first ++ output_by stage.does texts) in
+    length-map (files_teed stage.does stage.tees texts ++ led) (λ (file : Components × (Mode × List ℕ)). file.1.1) ∙ length-append (files_teed stage.does stage.tees texts) led
+    ∙ (let of_tees = by_does stage.does refl in let of_out = by_out stage.out in let all = length-append stage.tees (file_out stage.out) in omega (arith, of_tees, of_out, all))
+  where
+    by_does : (it : Does) → stage.does ≡ it → length (files_teed it stage.tees texts) ≡ length stage.tees
+    by_does does.Skip same = sym (ap (λ (it : List Components). length it) (skips-files stage is same))
+    by_does (does.Util inv) same = mapped-many (λ (path : Components). (path, (tee_mode inv, only (texts_read inv texts)))) stage.tees
+
+    by_out : (it : Out) → length (led_to_file it (stage.first ++ output_by stage.does texts)) ≡ length (file_out it)
+    by_out out.Next = refl
+    by_out (out.File path mode) = refl
+    by_out out.Null = refl
+
+pub chain-many : (segment : List Stage) → list_all is_stage segment ≡ true → (stream : List ℕ) (files : Components → List ℕ)
+    → length (texts_for (chain_means segment stream files).files) ≡ length (files_written segment)
+chain-many [] all stream files = refl
+chain-many (stage ∷ []) all stream files =
+    stage-many stage (and_parts (is_stage stage) true all).0 (map (text_in stream files) stage.ins) ∙ ap (λ (it : List Components). length it) (sym (append-nil (stage.tees ++ file_out stage.out)))
+chain-many (stage ∷ next ∷ stages) all stream files =
+    let parts = and_parts (is_stage stage) (list_all is_stage (next ∷ stages)) all in
+    let means : Outcome = stage_means stage stream files in
+    let others : Outcome = chain_means (next ∷ stages) means.output files in
+    let here = stage-many stage parts.0 (map (text_in stream files) stage.ins) in
+    let rest = chain-many (next ∷ stages) parts.1 means.output files in
+    let texts = ap (λ (it : List (List ℕ)). length it) (map-append (λ (file : Components × (Mode × List ℕ)). file.1.1) means.files others.files) ∙ length-append (texts_for means.files) (texts_for others.files) in
+    let paths = length-append (stage.tees ++ file_out stage.out) (files_written (next ∷ stages)) in
+    omega (arith, here, rest, texts, paths)
 
 -- as many are there as before they were numbered
 pub as-many : {End : Type 0} (one other : List (ℕ × End)) → map (λ entry. entry.1) one ≡ map (λ entry. entry.1) other → length one ≡ length other
@@ -136,39 +179,60 @@ nothing-ran asks tree left taken counts used = record {
   status = λ input files told is. tt;
   read = tt;
   noted = tt;
+  added = λ input files told is. tt;
+  filled = tt;
   part = λ input files told is. grew_by_nothing _ _;
-  held = refl;
+  held = λ none. refl;
   lent = balanced-none tree;
   later = no-fewer counts;
   cause = tt;
 }
 
 -- a file wasn't opened
-pub none-opened : {Given : Type 0} (asks : Asks) (tree tree' : TreeState) (left taken : Option (List ℕ)) (input output before now : ℕ) (used : Option Log)
-    (error : WorldErr) → Balanced tree tree' → tree'.held ≡ tree.held → CountsOf {T = Given} before now (Err error)
-    → Runs asks tree tree' left left taken taken (counts_of input output before) (counts_of input output now) used used (ended_of error)
-none-opened asks tree tree' left taken input output before now used error.Failed lent held counts = record {
+pub none-opened : (asks : Asks) (tree tree' : TreeState) (left taken : Option (List ℕ)) (input output before now : ℕ) (used : Option Log)
+    (fault : WorldErr) → Balanced tree tree' → (asks.paths ≡ [] → tree'.held ≡ tree.held) → before ≤ now → (fault ≡ error.Failed → Rose before now)
+    → Runs asks tree tree' left left taken taken (counts_of input output before) (counts_of input output now) used used (ended_of fault)
+none-opened asks tree tree' left taken input output before now used error.Failed lent held later failed = record {
   output = λ text files told is. tt;
   status = λ text files told is. tt;
   read = tt;
   noted = tt;
+  added = λ text files told is. tt;
+  filled = tt;
   part = λ text files told is. grew_by_nothing _ _;
   held = held;
   lent = lent;
-  later = record { input = omega arith; output = omega arith; tree = counts.later };
-  cause = counts.failed refl;
+  later = record { input = omega arith; output = omega arith; tree = later };
+  cause = failed refl;
 }
-none-opened asks tree tree' left taken input output before now used error.Memory lent held counts = record {
+none-opened asks tree tree' left taken input output before now used error.Memory lent held later failed = record {
   output = λ text files told is. tt;
   status = λ text files told is. tt;
   read = tt;
   noted = tt;
+  added = λ text files told is. tt;
+  filled = tt;
   part = λ text files told is. grew_by_nothing _ _;
   held = held;
   lent = lent;
-  later = record { input = omega arith; output = omega arith; tree = counts.later };
+  later = record { input = omega arith; output = omega arith; tree = later };
   cause = tt;
 }
+
+-- marks couldn't be set
+pub none-marked : {Given : Type 0} (asks : Asks) (tree tree' : TreeState) (left taken : Option (List ℕ)) (input output before now : ℕ) (used : Option Log)
+    (fault : WorldErr) → tree' ≡ tree → CountsOf {T = Given} before now (Err fault)
+    → Runs asks tree tree' left left taken taken (counts_of input output before) (counts_of input output now) used used (ended_of fault)
+none-marked {Given} asks tree tree' left taken input output before now used fault same counts =
+    none-opened asks tree tree' left taken input output before now used fault (subst (Balanced tree) (sym same) (balanced-none tree)) (λ none. ap (λ (state : TreeState). state.held) same)
+    counts.later (λ is. counts.failed (ap Err is))
+
+-- what ran behind a call that leaves the tree as it was
+pub ran-behind : (asks : Asks) (tree mid last : TreeState) (left left' taken taken' : Option (List ℕ)) (input output before between : ℕ) (new : Counts) (used used' : Option Log) (how : Ended) → mid ≡ tree → between ≡ before
+    → Runs asks mid last left left' taken taken' (counts_of input output between) new used used' how → Runs asks tree last left left' taken taken' (counts_of input output before) new used used' how
+ran-behind asks tree mid last left left' taken taken' input output before between new used used' how same calm ran =
+    subst (λ (begun : TreeState). Runs asks begun last left left' taken taken' (counts_of input output before) new used used' how) same
+    (subst (λ (count : ℕ). Runs asks mid last left left' taken taken' (counts_of input output count) new used used' how) calm ran)
 
 -- one of the counts is above 0 where one rose
 risen : (old new : List ℕ) → RoseAmong old new → has_count new ≡ true
@@ -196,53 +260,146 @@ risen old new among = by_place new among.place among.is
         or-true true rest = refl
         or-true false rest = rest
 
--- what holds of a status that is left
-done-so : {P Q : ℕ → Type 0} (it : Came) → IfCame it P → ((status : ℕ) → P status → Q status) → IfDone (ended_by it) Q
-done-so (came.Done status) holds next = next status holds
-done-so came.Input holds next = tt
-done-so came.Output holds next = tt
-done-so came.Reader holds next = tt
-done-so came.Writer holds next = tt
-done-so came.Memory holds next = tt
+-- what holds of a status that is left, where its writers went back so
+done-so : {P Q : ℕ → Type 0} (it : Came) (outcome : Result Unit WorldErr) → IfCame it P → ((status : ℕ) → P status → Q status) → IfDone (ended_by it outcome) Q
+done-so (came.Done status) (Ok done) holds next = next status holds
+done-so (came.Done status) (Err error.Failed) holds next = tt
+done-so (came.Done status) (Err error.Memory) holds next = tt
+done-so came.Input outcome holds next = tt
+done-so came.Output outcome holds next = tt
+done-so came.Reader outcome holds next = tt
+done-so came.Writer outcome holds next = tt
+done-so came.Memory outcome holds next = tt
 
-done-all : {Q : ℕ → Type 0} (it : Came) → ((status : ℕ) → Q status) → IfDone (ended_by it) Q
-done-all (came.Done status) all = all status
-done-all came.Input all = tt
-done-all came.Output all = tt
-done-all came.Reader all = tt
-done-all came.Writer all = tt
-done-all came.Memory all = tt
+done-all : {Q : ℕ → Type 0} (it : Came) (outcome : Result Unit WorldErr) → ((status : ℕ) → Q status) → IfDone (ended_by it outcome) Q
+done-all (came.Done status) (Ok done) all = all status
+done-all (came.Done status) (Err error.Failed) all = tt
+done-all (came.Done status) (Err error.Memory) all = tt
+done-all came.Input outcome all = tt
+done-all came.Output outcome all = tt
+done-all came.Reader outcome all = tt
+done-all came.Writer outcome all = tt
+done-all came.Memory outcome all = tt
+
+done-back : {P Back Q : Type 0} (it : Came) (outcome : Result Unit WorldErr) → IfCame it (λ status. P) → OnOk outcome Back → (P → Back → Q) → IfDone (ended_by it outcome) (λ status. Q)
+done-back (came.Done status) (Ok done) holds back next = next holds back
+done-back (came.Done status) (Err error.Failed) holds back next = tt
+done-back (came.Done status) (Err error.Memory) holds back next = tt
+done-back came.Input outcome holds back next = tt
+done-back came.Output outcome holds back next = tt
+done-back came.Reader outcome holds back next = tt
+done-back came.Writer outcome holds back next = tt
+done-back came.Memory outcome holds back next = tt
+
+came-all : {P : Type 0} (it : Came) → P → IfCame it (λ status. P)
+came-all (came.Done status) holds = holds
+came-all came.Input holds = tt
+came-all came.Output holds = tt
+came-all came.Reader holds = tt
+came-all came.Writer holds = tt
+came-all came.Memory holds = tt
+
+came-so : {P : ℕ → Type 0} {Q : Type 0} (it : Came) → IfCame it P → ((status : ℕ) → P status → Q) → IfCame it (λ status. Q)
+came-so (came.Done status) holds next = next status holds
+came-so came.Input holds next = tt
+came-so came.Output holds next = tt
+came-so came.Reader holds next = tt
+came-so came.Writer holds next = tt
+came-so came.Memory holds next = tt
+
+-- files with these paths whose writers went back
+out-filled-held : (held : Option Files) (paths : List Components) (texts : List (List ℕ)) → length texts ≡ length paths
+    → option_map (filled paths texts) (option_map (out_at paths) held) ≡ option_map (filled paths texts) held
+out-filled-held None paths texts many = refl
+out-filled-held (Some files) paths texts many = ap Some (filled-out paths texts files many)
+
+held-none : (held : Option Files) (paths : List Components) → paths ≡ [] → option_map (out_at paths) held ≡ held
+held-none held paths none = ap (λ (it : List Components). option_map (out_at it) held) none ∙ by_held held
+  where
+    by_held : (it : Option Files) → option_map (out_at []) it ≡ it
+    by_held None = refl
+    by_held (Some files) = refl
+
+empty-of : {X : Type 0} (items : List X) → length items ≡ 0 → items ≡ []
+empty-of [] none = refl
+empty-of (item ∷ items) none = absurd (omega (arith, none))
 
 module _ {R W I O : Type 0} (of_reader : R → Option (List ℕ)) (of_input : I → Option (List ℕ)) (of_writer : W → Option (List ℕ)) (of_output : O → Option (List ℕ))
     (reader_faults : R → ℕ) (writer_faults : W → ℕ) (input_faults : I → ℕ) (output_faults : O → ℕ)
     (width : ℕ) (segment : List Stage) (from : First) (graph : Graph) (is : IsGraphOf width segment from graph)
-    (first mid last : TreeState) (readers : List (ℕ × R)) (opens : Opens of_reader reader_faults segment first mid readers) (held_mid : mid.held ≡ first.held)
+    (first lent : TreeState) (readers : List (ℕ × R)) (writers : List (ℕ × W)) (lends : Lends of_reader reader_faults of_writer writer_faults segment first lent readers writers)
     (input : I) (out : O) (used used' : Option Log) (how : Came) (back : Ends R W I O)
-    (over : RunsOver of_reader of_input of_writer of_output reader_faults writer_faults input_faults output_faults graph readers input out used used' how back) where
-  -- as many readers come back, and no writer
+    (over : RunsOver of_reader of_input of_writer of_output reader_faults writer_faults input_faults output_faults graph readers writers input out used used' how back) where
+  -- as many readers and writers come back
   pub readers-back : length back.readers.items ≡ length readers
   readers-back = as-numbered back.readers.items over.numbered.readers.items over.runs.readers ∙ as-many over.numbered.readers.items readers over.readers_are
 
-  pub writers-back : length back.writers.items ≡ 0
-  writers-back = as-numbered back.writers.items over.numbered.writers.items over.runs.writers ∙ over.writers_are
+  pub writers-back : length back.writers.items ≡ length (files_written segment)
+  writers-back =
+      as-numbered back.writers.items over.numbered.writers.items over.runs.writers ∙ as-many over.numbered.writers.items writers over.writers_are ∙ lends.begins.count
 
   told-so : (text : List ℕ) (files : Files) → first.held ≡ Some files → of_input input ≡ Some text → IsTold of_reader of_input graph.nodes over.numbered text (bytes_at files)
   told-so text files told is_text =
       record {
         from_input = λ has. ap of_input over.input_is ∙ is_text;
-        from_files = each-same of_reader over.numbered.readers.items readers over.readers_are ∙ opens.texts files told ∙ ap (map (λ path. Some (bytes_at files path))) (sym is.reads);
+        from_files = each-same of_reader over.numbered.readers.items readers over.readers_are ∙ lends.opens.texts files told ∙ ap (map (λ path. Some (bytes_at files path))) (sym is.reads);
       }
 
-  module _ (before between now : ℕ) (calm_mid : between ≡ before)
-      (given_back : (begun : TreeState) → AreOut (length back.readers.items) begun mid → Balanced begun last) (held_last : last.held ≡ mid.held) (later : between ≤ now)
-      (is_width : IfSome used (λ log. width ≡ log.width)) (calm : has_count (each_of reader_faults back.readers.items) ≡ false → now ≡ between) (rises : has_count (each_of reader_faults back.readers.items) ≡ true → Rose between now) where
-    read-so : (reads : Bool) → has_input graph.nodes ≡ reads → IfDone (ended_by how) (λ status. of_input back.input ≡ left_behind reads (of_input input))
-    read-so true has = done-so how (over.runs.read has) (λ status read. read ∙ ap (λ (it : I). option_map (λ _. []) (of_input it)) over.input_is)
-    read-so false has = done-all how (λ status. ap of_input (over.runs.input has ∙ over.input_is))
+  module _ (stages : list_all is_stage segment ≡ true) (apart : AreApart (files_written segment)) (returned last : TreeState) (before middle later now : ℕ) (calm_lent : middle ≡ before)
+      (outcome : Result Unit WorldErr) (returns : Returns of_writer writer_faults (files_written segment) back.writers.items lent returned middle later outcome)
+      (given_back : (begun : TreeState) → AreOut (length back.readers.items) begun returned → Balanced begun last) (held_last : last.held ≡ returned.held) (more : later ≤ now)
+      (marks : (files : Files) → first.held ≡ Some files → marks_hold (bytes_at files) segment ≡ true) (is_width : IfSome used (λ log. width ≡ log.width)) (calm : has_count (each_of reader_faults back.readers.items) ≡ false → now ≡ later) (rises : has_count (each_of reader_faults back.readers.items) ≡ true → Rose later now) where
+    read-so : (reads : Bool) → has_input graph.nodes ≡ reads → IfDone (ended_by how outcome) (λ status. of_input back.input ≡ left_behind reads (of_input input))
+    read-so true has = done-so how outcome (over.runs.read has) (λ status read. read ∙ ap (λ (it : I). option_map (λ _. []) (of_input it)) over.input_is)
+    read-so false has = done-all how outcome (λ status. ap of_input (over.runs.input has ∙ over.input_is))
 
-    cause-so : (it : Came) → CauseOf it (counts_by reader_faults writer_faults input_faults output_faults over.numbered) (counts_by reader_faults writer_faults input_faults output_faults back)
-        → HasCause (ended_by it) (counts_of (input_faults input) (output_faults out) before) (counts_of (input_faults back.input) (output_faults back.out) now)
-    cause-so (came.Done status) same = λ i. record { input = of_it i; output = of_out i; tree = of_tree i }
+    -- the files
+    lent-held : lent.held ≡ option_map (out_at (files_written segment)) first.held
+    lent-held = lends.begins.held ∙ ap (option_map (out_at (files_written segment))) lends.held
+
+    filled-so : Fills (files_written segment) (each_of of_writer back.writers.items) lent.held returned.held → AreFilled (files_written segment) first.held last.held
+    filled-so fills =
+        let many : length fills.texts ≡ length (files_written segment) =
+        told-count (each_of of_writer back.writers.items) fills.texts fills.told_are ∙ length-map back.writers.items (λ entry. of_writer entry.1) ∙ writers-back in
+        record {
+          texts = fills.texts;
+          many = many;
+          is = held_last ∙ fills.is ∙ ap (option_map (filled (files_written segment) fills.texts)) lent-held ∙ out-filled-held first.held (files_written segment) fills.texts many;
+        }
+
+    added-so : (text : List ℕ) (files : Files) → first.held ≡ Some files → (means : Outcome) → means ≡ chain_means segment (begins_with from text) (bytes_at files)
+        → each_of of_writer back.writers.items ≡ grown (each_of of_writer over.numbered.writers.items) (texts_for means.files)
+        → Fills (files_written segment) (each_of of_writer back.writers.items) lent.held returned.held
+        → last.held ≡ Some (all_added (files_written segment) (texts_for (chain_means segment (begins_with from text) (bytes_at files)).files) files)
+    added-so text files told means means_is grew fills =
+        let paths : List Components = files_written segment in
+        let texts : List (List ℕ) = texts_for (chain_means segment (begins_with from text) (bytes_at files)).files in
+        let many : length texts ≡ length paths = chain-many segment stages (begins_with from text) (bytes_at files) in
+        let told_is : each_of of_writer back.writers.items ≡ grown (map (λ path. Some (bytes_at files path)) paths) texts =
+        grew ∙ ap (λ (it : Outcome). grown (each_of of_writer over.numbered.writers.items) (texts_for it.files)) means_is
+        ∙ ap (λ (it : List (Option (List ℕ))). grown it texts) (each-same of_writer over.numbered.writers.items writers over.writers_are ∙ lends.begins.texts files (lends.held ∙ told)) in
+        let finals : fills.texts ≡ texts_begun files paths texts =
+        grown-told files paths texts fills.texts many (subst (λ (it : List (Option (List ℕ))). AreTold it fills.texts) told_is fills.told_are) in
+        held_last ∙ fills.is ∙ ap (λ (it : List (List ℕ)). option_map (filled paths it) lent.held) finals
+        ∙ ap (option_map (filled paths (texts_begun files paths texts))) (lent-held ∙ ap (option_map (out_at paths)) told)
+        ∙ ap Some (filled-added paths texts files apart many)
+
+    held-so : files_written segment ≡ [] → last.held ≡ first.held
+    held-so none =
+        let empty : back.writers.items ≡ [] = empty-of back.writers.items (writers-back ∙ ap (λ (it : List Components). length it) none) in
+        held_last ∙ ap (λ (state : TreeState). state.held) (returns.none empty) ∙ lent-held ∙ held-none first.held (files_written segment) none
+
+    -- the counts
+    before-now : before ≤ now
+    before-now = let returns_later = returns.later in omega (arith, calm_lent, returns_later, more)
+
+    rose-returned : Rose middle later → Rose before now
+    rose-returned rose = rose-later before later now (subst (λ (it : ℕ). Rose it later) calm_lent rose) more
+
+    done-cause : (it : Result Unit WorldErr) (status : ℕ) → counts_by reader_faults writer_faults input_faults output_faults back ≡ counts_by reader_faults writer_faults input_faults output_faults over.numbered
+        → OnOk it (later ≡ middle) → (IsErrOf it error.Failed → Rose middle later)
+        → HasCause (done_by status it) (counts_of (input_faults input) (output_faults out) before) (counts_of (input_faults back.input) (output_faults back.out) now)
+    done-cause (Ok done) status same still failed = λ i. record { input = of_it i; output = of_out i; tree = of_tree i }
       where
         of_it : input_faults back.input ≡ input_faults input
         of_it = ap (λ (counts : EndCounts). counts.input) same ∙ ap input_faults over.input_is
@@ -252,13 +409,32 @@ module _ {R W I O : Type 0} (of_reader : R → Option (List ℕ)) (of_input : I 
 
         of_tree : now ≡ before
         of_tree =
-            calm (ap has_count (ap (λ (counts : EndCounts). counts.readers) same ∙ each-same reader_faults over.numbered.readers.items readers over.readers_are) ∙ opens.fresh)
-            ∙ calm_mid
+            calm (ap has_count (ap (λ (counts : EndCounts). counts.readers) same ∙ each-same reader_faults over.numbered.readers.items readers over.readers_are) ∙ lends.opens.fresh)
+            ∙ still ∙ calm_lent
+    done-cause (Err error.Failed) status same still failed = rose-returned (failed refl)
+    done-cause (Err error.Memory) status same still failed = tt
+
+    cause-so : (it : Came) → CauseOf it (counts_by reader_faults writer_faults input_faults output_faults over.numbered) (counts_by reader_faults writer_faults input_faults output_faults back)
+        → HasCause (ended_by it outcome) (counts_of (input_faults input) (output_faults out) before) (counts_of (input_faults back.input) (output_faults back.out) now)
+    cause-so (came.Done status) same =
+        done-cause outcome status same
+        (returns.calm (ap has_count (ap (λ (counts : EndCounts). counts.writers) same ∙ each-same writer_faults over.numbered.writers.items writers over.writers_are) ∙ lends.begins.fresh))
+        returns.failed
     cause-so came.Input rose = subst (λ (it : I). Rose (input_faults it) (input_faults back.input)) over.input_is rose
     cause-so came.Output rose = subst (λ (it : O). Rose (output_faults it) (output_faults back.out)) over.out_is rose
-    cause-so came.Reader rose = subst (λ (it : ℕ). Rose it now) calm_mid (rises (risen (each_of reader_faults over.numbered.readers.items) (each_of reader_faults back.readers.items) rose))
-    cause-so came.Writer rose = tt
+    cause-so came.Reader rose =
+        let earlier : before ≤ later = (let returns_later = returns.later in omega (arith, calm_lent, returns_later)) in
+        rose-earlier before later now earlier (rises (risen (each_of reader_faults over.numbered.readers.items) (each_of reader_faults back.readers.items) rose))
+    cause-so came.Writer rose = rose-returned (returns.rose (risen (each_of writer_faults over.numbered.writers.items) (each_of writer_faults back.writers.items) rose))
     cause-so came.Memory same = tt
+
+    -- all that was lent is back
+    lent-so : Balanced first last
+    lent-so =
+        given_back first (returns.out first (length back.readers.items)
+        (subst (λ (it : ℕ). AreOut it first lent)
+        (let of_readers = readers-back in let of_writers = writers-back in let many = lends.begins.count in omega (arith, of_readers, of_writers, many))
+        (lends.begins.out first (length readers) lends.opens.out)))
 
     -- the engine's words are those of the utilities that are noted
     noted-so : (told : Option Log) → IfSome told (λ log. width ≡ log.width) → then_used told graph ≡ option_map (with_noted (noted_in segment)) told
@@ -267,26 +443,30 @@ module _ {R W I O : Type 0} (of_reader : R → Option (List ℕ)) (of_input : I 
         ap (λ words. Some (with_words words log)) (is.used ∙ used-so width segment ∙ ap (λ it. used_at it (noted_in segment)) is_width)
 
     pub ran-so : Runs (segment_asks segment from) first last (of_input input) (of_input back.input) (of_output out) (of_output back.out)
-        (counts_of (input_faults input) (output_faults out) before) (counts_of (input_faults back.input) (output_faults back.out) now) used used' (ended_by how)
+        (counts_of (input_faults input) (output_faults out) before) (counts_of (input_faults back.input) (output_faults back.out) now) used used' (ended_by how outcome)
     ran-so =
         record {
-          output = λ text files told is_text. done-so how (over.runs.leaves text (bytes_at files) (told-so text files told is_text)) (λ status left.
-              left.output ∙ ap (λ (it : O). then_bytes (of_output it) (outcome graph (source_texts graph.nodes text (bytes_at files))).output) over.out_is
-              ∙ ap (λ (it : Outcome). then_bytes (of_output out) it.output) (is.outcome_is text (bytes_at files)));
-          status = λ text files told is_text. done-so how (over.runs.leaves text (bytes_at files) (told-so text files told is_text)) (λ status left.
-              left.status ∙ ap (λ (it : Outcome). it.status) (is.outcome_is text (bytes_at files)));
+          output = λ text files told is_text. done-so how outcome (over.runs.leaves text (bytes_at files) (told-so text files told is_text)) (λ status left.
+              left.output ∙ ap (λ (it : O). then_bytes (of_output it) (outcome_of graph (source_texts graph.nodes text (bytes_at files))).output) over.out_is
+              ∙ ap (λ (it : Outcome). then_bytes (of_output out) it.output) (is.outcome_is text (bytes_at files) (marks files told)));
+          status = λ text files told is_text. done-so how outcome (over.runs.leaves text (bytes_at files) (told-so text files told is_text)) (λ status left.
+              left.status ∙ ap (λ (it : Outcome). it.status) (is.outcome_is text (bytes_at files) (marks files told)));
           read = read-so (reads_input segment from) is.input;
-          noted = done-so how over.runs.used_whole (λ status noted. noted ∙ noted-so used is_width);
+          noted = done-so how outcome over.runs.used_whole (λ status noted. noted ∙ noted-so used is_width);
+          added = λ text files told is_text. done-back how outcome
+              (came-so how (over.runs.leaves text (bytes_at files) (told-so text files told is_text)) (λ status left. left.writers)) returns.fills
+              (added-so text files told (outcome_of graph (source_texts graph.nodes text (bytes_at files))) (is.outcome_is text (bytes_at files) (marks files told)));
+          filled = done-back how outcome (came-all {P = Unit {0}} how tt) returns.fills (λ nothing fills. filled-so fills);
           part = λ text files told is_text.
-              subst (λ (it : Outcome). GrewByPrefix (of_output out) (of_output back.out) it.output) (is.outcome_is text (bytes_at files))
-              (subst (λ (it : O). GrewByPrefix (of_output it) (of_output back.out) (outcome graph (source_texts graph.nodes text (bytes_at files))).output) over.out_is
+              subst (λ (it : Outcome). GrewByPrefix (of_output out) (of_output back.out) it.output) (is.outcome_is text (bytes_at files) (marks files told))
+              (subst (λ (it : O). GrewByPrefix (of_output it) (of_output back.out) (outcome_of graph (source_texts graph.nodes text (bytes_at files))).output) over.out_is
               (over.runs.part text (bytes_at files) (told-so text files told is_text)));
-          held = held_last ∙ held_mid;
-          lent = given_back first (subst (λ (count : ℕ). AreOut count first mid) (sym readers-back) opens.out);
+          held = held-so;
+          lent = lent-so;
           later = record {
             input = let same = ap input_faults over.input_is in let more = over.runs.later_input in omega (arith, same, more);
             output = let same = ap output_faults over.out_is in let more = over.runs.later_output in omega (arith, same, more);
-            tree = omega (arith, calm_mid, later);
+            tree = before-now;
           };
           cause = cause-so how over.runs.cause;
         }

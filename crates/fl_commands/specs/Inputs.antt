@@ -1,5 +1,6 @@
 -- What a utility makes of its inputs (XCU, each utility's page).
 use Rattle.std.specs.Prelude.{ℕ, List, [], ◌∷◌, Bool, true, false, not, ◌&&◌, ◌||◌, ◌==◌, map, if◌then◌else◌}
+use Rattle.std.specs.List.{flat_map}
 use Rattle.ut_args.specs.Classes.{class_by}
 use Rattle.ut_args.specs.declared.commands.Command.{Command}
 use Rattle.ut_args.specs.declared.commands.Command.TheVariants as command
@@ -23,6 +24,10 @@ output_for asked inputs = (utility_by asked).output (inputs_read asked inputs)
 
 abbrev pub selects_for : Command → List Input → Bool
 selects_for asked inputs = (utility_by asked).selects (inputs_read asked inputs)
+
+-- all that it reads: the files of tee get it (XCU tee)
+abbrev pub text_taken : List Input → List ℕ
+text_taken inputs = flat_map (λ input. input.text) inputs
 
 -- the status, by whether an operand has no input, and whether a line is selected (XCU grep, sort)
 abbrev pub status_of : Command → Bool → Bool → ℕ

@@ -1,5 +1,6 @@
 pub mod Operands
 pub mod Readers
+pub mod Writers
 pub mod Inputs
 pub mod Members
 pub mod Runs

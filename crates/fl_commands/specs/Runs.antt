@@ -1,9 +1,10 @@
 -- What comes of utilities that are run over their inputs (own).
-use Rattle.std.specs.Prelude.{◌≡◌, ◌≤◌, ℕ, List, [], ◌++◌, ◌&&◌, Bool, Option, Some, if◌then◌else◌}
+use Rattle.std.specs.Prelude.{◌≡◌, ◌≤◌, ℕ, List, [], ◌++◌, ◌&&◌, map, Bool, Option, Some, if◌then◌else◌}
 use Rattle.std.specs.List.{list_any}
 use Rattle.std.specs.Option.{option_map}
 use Rattle.ps_world.specs.Counts.{Rose}
 use Rattle.ps_world.specs.Files.{Files, bytes_at}
+use Rattle.ps_world.specs.Paths.{Components}
 use Rattle.ps_world.specs.Told.{then_bytes, GrewByPrefix}
 use Rattle.ps_world.specs.TreeState.{Balanced, TreeState}
 use Rattle.ut_args.specs.Inputs.{operands_of}
@@ -16,9 +17,10 @@ use Rattle.fl_segments.specs.Noted.{Noted, used_at}
 use Rattle.fl_segments.specs.Stages.{is_shell_input, is_stream}
 use Rattle.fl_segments.specs.declared.stages.First.{First}
 use Rattle.fl_commands.specs.Inner.Stages.{command_left, inputs_with, some_lacks, run_noted}
-use Rattle.fl_commands.specs.Inputs.{output_for, selects_for, status_of}
-use Rattle.fl_commands.specs.Members.{noted_of, output_through, reads_first, status_through}
+use Rattle.fl_commands.specs.Inputs.{output_for, selects_for, status_of, text_taken}
+use Rattle.fl_commands.specs.Members.{files_teed, noted_of, output_through, reads_first, status_through, texts_through}
 use Rattle.fl_commands.specs.Operands.{deals, ins_of}
+use Rattle.fl_commands.specs.Writers.{AreFilled, all_added}
 use Rattle.fl_commands.specs.declared.members.Member.{Member}
 use Rattle.fl_commands.specs.declared.operands.Operand.{Operand}
 use Rattle.fl_commands.specs.declared.runs.Ended.{Ended}
@@ -55,12 +57,14 @@ pub record NoFewer (old new : Counts) : Type 0 where
   pub tree : old.tree ≤ new.tree
 
 -- what is asked for: what is written and the status that is left, for the text of the input and the files; whether the input is read; and the
--- utilities that are noted
+-- utilities that are noted; the files that are written beside the output, and what each gets
 pub record Asks : Type 0 where
   pub output : List ℕ → Files → List ℕ
   pub status : List ℕ → Files → ℕ
   pub reads : Bool
   pub noted : List Noted
+  pub paths : List Components
+  pub texts : List ℕ → Files → List (List ℕ)
 
 -- what is left of the input
 abbrev pub left_behind : Bool → Option (List ℕ) → Option (List ℕ)
@@ -78,9 +82,12 @@ pub record Runs (asks : Asks) (tree tree' : TreeState) (left left' taken taken' 
   pub status : (input : List ℕ) (files : Files) → tree.held ≡ Some files → left ≡ Some input → IfDone came (λ status. status ≡ asks.status input files)
   pub read : IfDone came (λ status. left' ≡ left_behind asks.reads left)
   pub noted : IfDone came (λ status. used' ≡ option_map (with_noted asks.noted) used)
-  -- whatever comes, a front of its output is written
+  -- then each file that it writes has its text behind what it held; whatever the input tells, it is a file
+  pub added : (input : List ℕ) (files : Files) → tree.held ≡ Some files → left ≡ Some input → IfDone came (λ status. tree'.held ≡ Some (all_added asks.paths (asks.texts input files) files))
+  pub filled : IfDone came (λ status. AreFilled asks.paths tree.held tree'.held)
+  -- whatever comes, a front of its output is written, and no file where it writes none
   pub part : (input : List ℕ) (files : Files) → tree.held ≡ Some files → left ≡ Some input → GrewByPrefix taken taken' (asks.output input files)
-  pub held : tree'.held ≡ tree.held
+  pub held : asks.paths ≡ [] → tree'.held ≡ tree.held
   pub lent : Balanced tree tree'
   pub later : NoFewer old new
   pub cause : HasCause came old new
@@ -93,18 +100,20 @@ reads_input deals operands from = is_shell_input from && list_any is_stream (ins
 abbrev pub inputs_at : Inv → List Operand → First → List ℕ → Files → List Input
 inputs_at inv operands from input files = inputs_with (deals (command_of inv)) (operands_of inv) operands (begins_with from input) (bytes_at files)
 
--- an invocation with these operands ran
-abbrev pub command_asks : Inv → List Operand → First → Asks
-command_asks inv operands from = record {
+-- an invocation with these operands ran, which writes these files
+abbrev pub command_asks : Inv → List Operand → List Components → First → Asks
+command_asks inv operands tees from = record {
   output = λ input files. output_for (command_left (command_of inv) operands) (inputs_at inv operands from input files);
   status = λ input files. status_of (command_of inv) (some_lacks operands) (selects_for (command_left (command_of inv) operands) (inputs_at inv operands from input files));
   reads = reads_input (deals (command_of inv)) operands from;
   noted = run_noted inv operands;
+  paths = tees;
+  texts = λ input files. map (λ path. text_taken (inputs_at inv operands from input files)) tees;
 }
 
-abbrev pub RunsCommand : Inv → List Operand → First → TreeState → TreeState → Option (List ℕ) → Option (List ℕ) → Option (List ℕ) → Option (List ℕ) → Counts → Counts
+abbrev pub RunsCommand : Inv → List Operand → List Components → First → TreeState → TreeState → Option (List ℕ) → Option (List ℕ) → Option (List ℕ) → Option (List ℕ) → Counts → Counts
     → Option Log → Option Log → Ended → Type 0
-RunsCommand inv operands from tree tree' left left' taken taken' old new used used' came = Runs (command_asks inv operands from) tree tree' left left' taken taken' old new used used' came
+RunsCommand inv operands tees from tree tree' left left' taken taken' old new used used' came = Runs (command_asks inv operands tees from) tree tree' left left' taken taken' old new used used' came
 
 -- the members of a pipeline ran, each over the output of the one before
 abbrev pub pipeline_asks : List Member → First → Asks
@@ -113,6 +122,8 @@ pipeline_asks members from = record {
   status = λ input files. status_through members (bytes_at files) (begins_with from input);
   reads = is_shell_input from && reads_first members;
   noted = noted_of members;
+  paths = files_teed members;
+  texts = λ input files. texts_through members (bytes_at files) (begins_with from input);
 }
 
 abbrev pub RunsPipeline : List Member → First → TreeState → TreeState → Option (List ℕ) → Option (List ℕ) → Option (List ℕ) → Option (List ℕ) → Counts → Counts

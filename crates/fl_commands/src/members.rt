@@ -1,5 +1,6 @@
 //! The members of a pipeline.
 use crate::operands::Operand;
+use ps_world::Path;
 use ut_args::Inv;
 
 /// A member of a pipeline: a utility, with what its operands name (`look_at`).
@@ -7,4 +8,6 @@ use ut_args::Inv;
 pub struct Member {
     pub inv: Inv,
     pub operands: Vec<Operand>,
+    /// The files that it writes: those of `tee`, which are there already. They get its input behind what they hold.
+    pub tees: Vec<Path>,
 }

@@ -1,28 +1,34 @@
 //! Runs of utilities over what their operands name.
-ghost use Rattle.std.specs.Prelude.{◌≡◌, ◌+◌, ◌<◌, ◌≤◌, ◌^◌, [], length, true, IfSome};
-ghost use Rattle.std.specs.List.{list_all};
-ghost use Rattle.ps_world.specs.Files.{NoWriterOut};
+ghost use Rattle.std.specs.Prelude.{◌≡◌, ◌+◌, ◌<◌, ◌≤◌, ◌^◌, length, true, Some, IfSome};
+ghost use Rattle.std.specs.List.{filter_map, list_all};
+ghost use Rattle.ps_world.specs.Files.{Files, NoWriterOut, bytes_at};
 ghost use Rattle.ut_args.specs.Built.{is_built_of};
 ghost use Rattle.ut_args.specs.Inputs.{operands_of};
+ghost use Rattle.ut_args.specs.Invocations.{command_of};
 ghost use Rattle.fl_graph.specs.Paths.{ArePathsApart, paths_read, paths_written};
 ghost use Rattle.fl_graph.specs.Valid.{Valid};
 ghost use Rattle.fl_classes.specs.Kinds.{are_run};
-ghost use Rattle.fl_segments.specs.Stages.{files_read, files_written, is_stage};
-ghost use Rattle.fl_commands.specs.Inner.Overs.{RunsOver, ended_by, ended_of};
+ghost use Rattle.fl_segments.specs.Groups.{marks_hold};
+ghost use Rattle.fl_segments.specs.Stages.{file_in, files_read, files_written, is_stage};
+ghost use Rattle.fl_commands.specs.Inner.Overs.{RunsOver, done_by, ended_by, ended_of};
 ghost use Rattle.fl_commands.specs.Inner.Segments.{AllThere, segment_asks};
-ghost use Rattle.fl_commands.specs.Members.{AllCanRun, AllNamesStand};
-ghost use Rattle.fl_commands.specs.Operands.{AllStand, AreNamed};
+ghost use Rattle.fl_commands.specs.Members.{AllCanRun, AllNamesStand, files_named, files_teed};
+ghost use Rattle.fl_commands.specs.Operands.{AllStand, AreNamed, deals, ins_of as ins_of_lem};
 ghost use Rattle.fl_commands.specs.Runs.{Runs, RunsCommand, RunsPipeline, counts_of};
+ghost use Rattle.fl_commands.specs.Writers.{AreBegun, AreFilesAt, AreWrittenApart, MayWrite};
 
+use crate::lending::{Lent, lend};
+use crate::marks::stages_at;
 use crate::members::Member;
 use crate::operands::Operand;
-use crate::readers::{Opened, give_back, open_files};
-use crate::stages::{stage_of, stages_of};
+use crate::readers::give_back;
+use crate::stages::stage_of;
+use crate::writers::end_writers;
 use fl_core::Ends;
 use fl_engines::{Came, Engine, Over, number_ends, run_own};
 use fl_graph::Graph;
 use fl_segments::{First, MAX_STAGES, Stage, compile};
-use ps_world::{Gate, Sink, Source, Tree, WorldErr};
+use ps_world::{Gate, Path, Sink, Source, Tree, WorldErr};
 use std::alloc::Global;
 use ut_args::Inv;
 
@@ -51,15 +57,17 @@ pub struct Commanded<I, O> {
 /// Runs a utility over what its operands name, as a graph on the engine, and writes its output.
 ///
 /// `operands` are what the words of its operands name (`look_at`); none of an operand that has no input is read. The stream that `-` names,
-/// and the lack of an operand, begins so; where that is the input, it is read to its end. Done leaves the output of the utility without the
-/// operands that have no input behind what the output has taken, and its words behind those that the engine has noted; after any other answer
-/// a front of the output is written. Each reader that the tree lent has gone back to it. A fault is told only where the count of its object rose.
+/// and the lack of an operand, begins so; where that is the input, it is read to its end. `tees` are the files that `tee` writes: they are
+/// there already, and get its input behind what they hold. Done leaves the output of the utility without the operands that have no input
+/// behind what the output has taken, and its words behind those that the engine has noted; after any other answer a front of the output is
+/// written. Each reader and writer that the tree lent has gone back to it. A fault is told only where the count of its object rose.
 ///
 /// What some utilities do where an operand has no input, nothing at all, is the caller's: it doesn't run them then.
 pub fn run_command<T: Tree, I: Source + Send, O: Sink + Send, G: Gate, X: Engine>(
     alloc: Global,
     inv: &Inv,
     operands: &[Operand],
+    tees: &[Path],
     from: &First,
     tree: &mut T,
     input: I,
@@ -70,13 +78,16 @@ pub fn run_command<T: Tree, I: Source + Send, O: Sink + Send, G: Gate, X: Engine
     requires built { is_built_of inv.now ≡ true }
     requires named { AreNamed (operands_of inv.now) operands.now }
     requires few { length operands.now + 1 < 2 ^ 32 }
+    requires tees { MayWrite inv.now tees.now }
+    requires apart { AreWrittenApart (filter_map file_in (ins_of_lem (deals (command_of inv.now)) operands.now)) tees.now }
     requires stand { IfSome (T.state tree.old).held (λ files. AllStand files operands.now) }
     requires whole { IfSome (T.state tree.old).held NoWriterOut }
-    ensures { RunsCommand inv.now operands.now from.now (T.state tree.old) (T.state tree.new) (I.left input) (I.left result.input) (O.taken out) (O.taken result.out)
+    requires begun { AreBegun (T.state tree.old).held tees.now }
+    ensures { RunsCommand inv.now operands.now tees.now from.now (T.state tree.old) (T.state tree.new) (I.left input) (I.left result.input) (O.taken out) (O.taken result.out)
         (counts_of (I.faults input) (O.faults out) (T.faults tree.old)) (counts_of (I.faults result.input) (O.faults result.out) (T.faults tree.new))
         (X.used engine.old) (X.used engine.new) result.ended }
 {
-    let Ok(stage) = stage_of(alloc, inv, operands) else {
+    let Ok(stage) = stage_of(alloc, inv, operands, tees) else {
         return Commanded {
             ended: Ended::Memory,
             input,
@@ -99,7 +110,7 @@ pub fn run_command<T: Tree, I: Source + Send, O: Sink + Send, G: Gate, X: Engine
 /// one writes.
 ///
 /// No call gathers what goes from one member to the next: it goes over the edges of the graph. The stream of the first begins so, and what is said of a utility
-/// (`run_command`) holds of each member. The status is the last one's.
+/// (`run_command`) holds of each member, also of the files that `tee` writes. The status is the last one's.
 pub fn run_pipeline<T: Tree, I: Source + Send, O: Sink + Send, G: Gate, X: Engine>(
     alloc: Global,
     members: &[Member],
@@ -113,18 +124,23 @@ pub fn run_pipeline<T: Tree, I: Source + Send, O: Sink + Send, G: Gate, X: Engin
     requires some { 1 ≤ length members.now }
     requires most { length members.now ≤ MAX_STAGES }
     requires ready { AllCanRun members.now }
+    requires apart { AreWrittenApart (files_named members.now) (files_teed members.now) }
     requires stand { IfSome (T.state tree.old).held (λ files. AllNamesStand files members.now) }
     requires whole { IfSome (T.state tree.old).held NoWriterOut }
+    requires begun { AreBegun (T.state tree.old).held (files_teed members.now) }
     ensures { RunsPipeline members.now from.now (T.state tree.old) (T.state tree.new) (I.left input) (I.left result.input) (O.taken out) (O.taken result.out)
         (counts_of (I.faults input) (O.faults out) (T.faults tree.old)) (counts_of (I.faults result.input) (O.faults result.out) (T.faults tree.new))
         (X.used engine.old) (X.used engine.new) result.ended }
 {
-    let Ok(stages) = stages_of(alloc, members) else {
-        return Commanded {
-            ended: Ended::Memory,
-            input,
-            out,
-        };
+    let stages = match stages_at(alloc, engine.width(), members, tree) {
+        Ok(stages) => stages,
+        Err(error) => {
+            return Commanded {
+                ended: of_tree(error),
+                input,
+                out,
+            };
+        }
     };
     run_segment(
         alloc,
@@ -138,7 +154,9 @@ pub fn run_pipeline<T: Tree, I: Source + Send, O: Sink + Send, G: Gate, X: Engin
     )
 }
 
-/// Runs stages that write no file.
+/// Runs stages, whose files are there, and those that are marked closed are so.
+///
+/// A file that is written gets its text behind what it holds.
 fn run_segment<T: Tree, I: Source + Send, O: Sink + Send, G: Gate, X: Engine>(
     alloc: Global,
     segment: &[Stage],
@@ -153,8 +171,9 @@ fn run_segment<T: Tree, I: Source + Send, O: Sink + Send, G: Gate, X: Engine>(
     requires most { length segment.now ≤ MAX_STAGES }
     requires stages { list_all is_stage segment.now ≡ true }
     requires paths { ArePathsApart (files_read segment.now) (files_written segment.now) }
-    requires writes { files_written segment.now ≡ [] }
     requires there { IfSome (T.state tree.old).held (λ files. AllThere files segment.now) }
+    requires begun { IfSome (T.state tree.old).held (λ files. AreFilesAt files (files_written segment.now)) }
+    requires marks { (files : Files) → (T.state tree.old).held ≡ Some files → marks_hold (bytes_at files) segment.now ≡ true }
     ensures { Runs (segment_asks segment.now from.now) (T.state tree.old) (T.state tree.new) (I.left input) (I.left result.input) (O.taken out) (O.taken result.out)
         (counts_of (I.faults input) (O.faults out) (T.faults tree.old)) (counts_of (I.faults result.input) (O.faults result.out) (T.faults tree.new))
         (X.used engine.old) (X.used engine.new) result.ended }
@@ -166,8 +185,8 @@ fn run_segment<T: Tree, I: Source + Send, O: Sink + Send, G: Gate, X: Engine>(
             out,
         };
     };
-    let opened = match open_files(alloc, segment, tree) {
-        Ok(opened) => opened,
+    let lent = match lend(alloc, segment, tree) {
+        Ok(lent) => lent,
         Err(error) => {
             return Commanded {
                 ended: of_tree(error),
@@ -176,9 +195,14 @@ fn run_segment<T: Tree, I: Source + Send, O: Sink + Send, G: Gate, X: Engine>(
             };
         }
     };
-    let Opened { readers, paths } = opened;
+    let Lent {
+        readers,
+        paths,
+        writers,
+        written,
+    } = lent;
     let Over { came, ends } = run_over::<T, I, O, G, X>(
-        alloc, &graph, readers, input, out, gate, engine,
+        alloc, &graph, readers, writers, input, out, gate, engine,
     );
     let Ends {
         readers,
@@ -186,25 +210,36 @@ fn run_segment<T: Tree, I: Source + Send, O: Sink + Send, G: Gate, X: Engine>(
         input,
         out,
     } = ends;
-    writers.destroy_empty();
+    let returned = end_writers(writers, written, tree);
     give_back(readers, paths, tree);
     Commanded {
-        ended: how_ended(came),
+        ended: how_ended(came, returned),
         input,
         out,
     }
 }
 
-/// How a run of utilities came out, by how that of its graph did. It has no writers.
-fn how_ended(came: Came) -> Ended
-    ensures { result ≡ ended_by came }
+/// How a run of utilities came out, by how that of its graph did, and how its writers went back.
+fn how_ended(came: Came, returned: Result<(), WorldErr>) -> Ended
+    ensures { result ≡ ended_by came returned }
 {
     match came {
-        Came::Done(status) => Ended::Done(status),
+        Came::Done(status) => done(status, returned),
         Came::Input => Ended::Input,
         Came::Output => Ended::Output,
         Came::Reader => Ended::Tree,
-        Came::Writer | Came::Memory => Ended::Memory,
+        Came::Writer => Ended::Tree,
+        Came::Memory => Ended::Memory,
+    }
+}
+
+/// How one that has run to its end came out, by how its writers went back.
+fn done(status: u8, returned: Result<(), WorldErr>) -> Ended
+    ensures { result ≡ done_by status returned }
+{
+    match returned {
+        Ok(()) => Ended::Done(status),
+        Err(error) => of_tree(error),
     }
 }
 
@@ -218,11 +253,12 @@ fn of_tree(error: WorldErr) -> Ended
     }
 }
 
-/// Runs a graph that writes no file over these readers, the input and the output.
+/// Runs a graph over these readers and writers, the input and the output.
 fn run_over<T: Tree, I: Source + Send, O: Sink + Send, G: Gate, X: Engine>(
     alloc: Global,
     graph: &Graph,
     readers: Vec<(u32, T::Reader)>,
+    writers: Vec<(u32, T::Writer)>,
     input: I,
     out: O,
     gate: &G,
@@ -231,12 +267,12 @@ fn run_over<T: Tree, I: Source + Send, O: Sink + Send, G: Gate, X: Engine>(
     requires valid { Valid graph.now.nodes graph.now.status }
     requires kinds { are_run graph.now.nodes ≡ true }
     requires reads { length readers.items ≡ length (paths_read graph.now.nodes) }
-    requires writes { paths_written graph.now.nodes ≡ [] }
-    ensures { RunsOver T.Reader.left I.left T.Writer.taken O.taken T.Reader.faults T.Writer.faults I.faults O.faults graph.now readers.items input out (X.used engine.old) (X.used engine.new) result.came result.ends }
+    requires writes { length writers.items ≡ length (paths_written graph.now.nodes) }
+    ensures { RunsOver T.Reader.left I.left T.Writer.taken O.taken T.Reader.faults T.Writer.faults I.faults O.faults graph.now readers.items writers.items input out (X.used engine.old) (X.used engine.new) result.came result.ends }
 {
     let mut ends = Ends {
         readers,
-        writers: Vec::new(alloc),
+        writers,
         input,
         out,
     };

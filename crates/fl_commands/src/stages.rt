@@ -5,9 +5,11 @@ ghost use Rattle.fl_commands.specs.Inner.Stages.{AreStagesOf, IsStageOf, plain_s
 
 use crate::members::Member;
 use crate::operands::{Operand, deals, ins_of, lacking, lacks};
+use crate::writers::copies_of;
 use fl_graph::Seq;
 use fl_segments::{Does, Out, Stage};
 use ps_lines::{Memory, Text};
+use ps_world::Path;
 use std::alloc::Global;
 use ut_args::Inv;
 
@@ -29,18 +31,29 @@ pub(crate) fn stages_of(alloc: Global, members: &[Member]) -> Result<Vec<Stage>,
 fn add_stage(alloc: Global, member: &Member, stages: &mut Vec<Stage>) -> Result<(), Memory>
     ensures { (members : List Member) → AreStagesOf members stages.old.items → OnOk result (AreStagesOf (members ++ member.now ∷ []) stages.new.items) }
 {
-    let stage = stage_of(alloc, &member.inv, member.operands.as_slice())?;
+    let stage = stage_of(
+        alloc,
+        &member.inv,
+        member.operands.as_slice(),
+        member.tees.as_slice(),
+    )?;
     stages.push(stage)?;
     Ok(())
 }
 
-/// The stage of a utility, whose output goes on.
-pub(crate) fn stage_of(alloc: Global, inv: &Inv, operands: &[Operand]) -> Result<Stage, Memory>
-    ensures { IfOk result (λ stage. IsStageOf inv.now operands.now stage) }
+/// The stage of a utility that writes these files, whose output goes on.
+pub(crate) fn stage_of(
+    alloc: Global,
+    inv: &Inv,
+    operands: &[Operand],
+    tees: &[Path],
+) -> Result<Stage, Memory>
+    ensures { IfOk result (λ stage. IsStageOf inv.now operands.now tees.now stage) }
 {
     let flags = lacking(alloc, operands)?;
     // Behind the invocation no call may fail: an exit at which it's let go is long.
     let ins = ins_of(alloc, operands, deals(inv))?;
+    let tees = copies_of(alloc, tees)?;
     let without = inv.without(alloc, flags.as_slice())?;
     Ok(Stage {
         does: Does::Util(without),
@@ -51,7 +64,7 @@ pub(crate) fn stage_of(alloc: Global, inv: &Inv, operands: &[Operand]) -> Result
         status: status_where(inv, some_lacks(operands)),
         reads: Seq::from_vec(Vec::new(alloc)),
         writes: Seq::from_vec(Vec::new(alloc)),
-        tees: Seq::from_vec(Vec::new(alloc)),
+        tees: Seq::from_vec(tees),
     })
 }
 

@@ -1,16 +1,20 @@
 -- Nodes that are added one behind the other are drawn as one list of steps.
-use Rattle.std.proofs.Common.{◌≡◌, ℕ, ◌+◌, ◌-◌, ◌≤◌, List, [], ◌∷◌, ◌++◌, Bool, length, get_or, take, drop, ap, sym, subst, ◌∙◌, append_assoc, length-append, arith, append-nil}
+use Rattle.std.proofs.Common.{◌≡◌, ℕ, suc, ◌+◌, ◌-◌, ◌<◌, ◌≤◌, List, [], ◌∷◌, ◌++◌, Bool, false, length, get_or, take, drop, ap, sym, subst, ◌∙◌, append_assoc, length-append, arith, append-nil}
 use Rattle.std.specs.Prelude.{Result, Ok, Err, OnOk}
 use Rattle.std.proofs.lemmas.List.{take_all}
+use Rattle.ps_world.specs.Paths.{Components}
 use Rattle.ut_args.specs.declared.invocations.Inv.{Inv}
 use Rattle.fl_graph.specs.declared.graphs.Cell.{Cell}
 use Rattle.fl_graph.specs.declared.kinds.NodeKind.{NodeKind}
 use Rattle.fl_graph.specs.declared.kinds.NodeKind.TheVariants as kind
+use Rattle.fl_classes.specs.Parts.{slice}
+use Rattle.fl_segments.specs.Groups.{group_start}
 use Rattle.fl_segments.specs.Stages.{is_reader}
 use Rattle.fl_segments.specs.Inner.Drawing.{Step, drawn, behind, step}
-use Rattle.fl_segments.specs.Inner.Steps.{begins, chain_nodes, chain_rule, chain_steps, comes_behind, comes_cut, comes_from, does_nodes, does_parts, does_steps, done_next, done_parts, done_steps, drain_steps, earlier_steps, ends_from, first_parts, first_steps, front_edges, front_steps, goes_from, in_edges, in_steps, join_steps, joined_edges, last_steps, main_nodes, main_parts, main_steps, parts_on, read_edges, read_steps, Tree, Leaf, Join, half_of, joins_of, tree_edge, tree_over, tree_steps, finish_edge, finish_steps, fold_parts, fold_steps, folded_edge, folded_steps, mapped_parts, mapped_steps, spread_parts, spread_steps}
+use Rattle.fl_segments.specs.Inner.Steps.{begins, beside_parts, beside_steps, cat_steps, chain_nodes, chain_rule, chain_steps, comes_behind, comes_cut, comes_from, does_nodes, done_next, done_parts, done_steps, drain_steps, earlier_steps, ends_from, files_parts, files_steps, first_parts, first_steps, front_edges, front_steps, goes_from, in_edges, in_steps, join_steps, joined_edges, last_steps, main_nodes, main_parts, main_steps, parts_on, read_edges, read_steps, Tree, Leaf, Join, half_of, joins_of, tree_edge, tree_over, tree_steps, finish_edge, finish_steps, fold_parts, fold_steps, folded_edge, folded_steps, mapped_parts, mapped_steps, spread_parts, spread_steps, stage_parts, stage_steps, group_steps, groups_from}
 use Rattle.fl_segments.specs.declared.parts.Coming.{Coming}
 use Rattle.fl_segments.specs.declared.parts.Parts.{Parts}
+use Rattle.fl_segments.specs.declared.stages.Does.{Does}
 use Rattle.fl_segments.specs.declared.stages.Does.TheVariants as does
 use Rattle.fl_segments.specs.declared.stages.In.{In}
 use Rattle.fl_segments.specs.declared.stages.Stage.{Stage}
@@ -203,6 +207,62 @@ module _ (width number : ℕ) (inv : Inv) (taken : Parts) (next on : ℕ) (maps 
   spread-gives parts is =
       gives-both next (mapped_steps width number inv taken.edges next) (λ (maps : Parts) (from : ℕ). fold_steps number inv maps.edges from) (mapped_parts width number inv taken.edges next taken.cut) on maps on_is maps_are (fold_parts number inv) parts is
 
+-- the files of tee, and what comes before what they hand on
+module _ (number : ℕ) (it : Does) (paths : List Components) (text : List ℕ) (parts : Parts) (next on : ℕ) (teed : Parts)
+    (on_is : on ≡ behind next (files_steps number it paths parts.edges next)) (teed_is : teed ≡ files_parts number it paths parts next) where
+  pub beside-adds : (old mid new : List (Cell NodeKind)) → mid ≡ old ++ drawn next (files_steps number it paths parts.edges next) → new ≡ mid ++ drawn on (first_steps number it text teed.edges)
+      → new ≡ old ++ drawn next (beside_steps number it paths text parts next)
+  beside-adds old mid new mid_is new_is =
+      adds-both next (files_steps number it paths parts.edges next) (λ (teed : Parts) (from : ℕ). first_steps number it text teed.edges) (files_parts number it paths parts next) on teed on_is teed_is old mid new mid_is new_is
+
+  pub beside-next : (last : ℕ) → last ≡ behind on (first_steps number it text teed.edges) → last ≡ behind next (beside_steps number it paths text parts next)
+  beside-next last is =
+      next-both next (files_steps number it paths parts.edges next) (λ (teed : Parts) (from : ℕ). first_steps number it text teed.edges) (files_parts number it paths parts next) on teed on_is teed_is last is
+
+  pub beside-gives : (both : Parts) → both ≡ first_parts number it text teed on → both ≡ beside_parts number it paths text parts next
+  beside-gives both is =
+      gives-both next (files_steps number it paths parts.edges next) (λ (teed : Parts) (from : ℕ). first_steps number it text teed.edges) (files_parts number it paths parts next) on teed on_is teed_is (first_parts number it text) both is
+
+-- GROUPS OF FILES
+-- the groups from this one on are still to be added
+pub record GroupsLeft (width number : ℕ) (edges : List ℕ) (before : List (Cell NodeKind)) (from group : ℕ) (now : List (Cell NodeKind)) (next : ℕ) : Type 0 where
+  pub nodes : now ++ drawn next (cat_steps number (groups_from width edges group (width - group))) ≡ before ++ drawn from (group_steps width number edges)
+  pub behind_is : behind next (cat_steps number (groups_from width edges group (width - group))) ≡ behind from (group_steps width number edges)
+
+module _ (width number : ℕ) (edges : List ℕ) (before : List (Cell NodeKind)) (from : ℕ) where
+  pub groups-begin : GroupsLeft width number edges before from 0 before from
+  groups-begin =
+      let all : width - 0 ≡ width = omega arith in
+      record {
+        nodes = ap (λ (left : ℕ). before ++ drawn from (cat_steps number (groups_from width edges 0 left))) all;
+        behind_is = ap (λ (left : ℕ). behind from (cat_steps number (groups_from width edges 0 left))) all;
+      }
+
+  -- one more is added
+  pub groups-next : (group : ℕ) (now new : List (Cell NodeKind)) (next on : ℕ) → group < width → GroupsLeft width number edges before from group now next
+      → new ≡ now ++ drawn next (step (kind.Cat false) (slice edges (group_start width (length edges) group) (group_start width (length edges) (group + 1))) number ∷ []) → on ≡ next + 1
+      → GroupsLeft width number edges before from (group + 1) new on
+  groups-next group now new next on more left new_is on_is =
+      let it : Step = step (kind.Cat false) (slice edges (group_start width (length edges) group) (group_start width (length edges) (group + 1))) number in
+      let rest : List Step = cat_steps number (groups_from width edges (group + 1) (width - (group + 1))) in
+      let count : width - group ≡ suc (width - (group + 1)) = omega (arith, more) in
+      let steps : cat_steps number (groups_from width edges group (width - group)) ≡ it ∷ rest = ap (λ (left : ℕ). cat_steps number (groups_from width edges group left)) count in
+      record {
+        nodes = ap (λ (on : ℕ). new ++ drawn on rest) on_is ∙ ap (λ (cells : List (Cell NodeKind)). cells ++ drawn (next + 1) rest) new_is
+            ∙ append_assoc now (drawn next (it ∷ [])) (drawn (next + 1) rest) ∙ sym (ap (λ (steps : List Step). now ++ drawn next steps) steps) ∙ left.nodes;
+        behind_is = ap (λ (on : ℕ). behind on rest) on_is ∙ sym (ap (behind next) steps) ∙ left.behind_is;
+      }
+
+  pub groups-added : (group : ℕ) (now : List (Cell NodeKind)) (next : ℕ) → width ≤ group → GroupsLeft width number edges before from group now next → now ≡ before ++ drawn from (group_steps width number edges)
+  groups-added group now next all left =
+      let none : width - group ≡ 0 = omega (arith, all) in
+      sym (append-nil now) ∙ sym (ap (λ (left : ℕ). now ++ drawn next (cat_steps number (groups_from width edges group left))) none) ∙ left.nodes
+
+  pub groups-behind : (group : ℕ) (now : List (Cell NodeKind)) (next : ℕ) → width ≤ group → GroupsLeft width number edges before from group now next → next ≡ behind from (group_steps width number edges)
+  groups-behind group now next all left =
+      let none : width - group ≡ 0 = omega (arith, all) in
+      sym (ap (λ (left : ℕ). behind next (cat_steps number (groups_from width edges group left))) none) ∙ left.behind_is
+
 -- A STAGE
 module _ (width number : ℕ) (comes : Coming) (stage : Stage) (next : ℕ) where
   -- what it adds up to where its output goes
@@ -211,20 +271,20 @@ module _ (width number : ℕ) (comes : Coming) (stage : Stage) (next : ℕ) wher
     pub to_front : to_one ≡ behind next (front_steps number comes stage next)
     pub taken_is : taken ≡ parts_on (front_edges number comes stage next) (comes_cut comes)
     pub leads_is : leads ≡ begins comes
-    pub does_so : two ≡ one ++ drawn to_one (does_steps width number leads stage.does stage.first taken.edges to_one)
-    pub to_does : to_two ≡ behind to_one (does_steps width number leads stage.does stage.first taken.edges to_one)
-    pub done_is : done ≡ does_parts width number leads stage.does taken to_one
+    pub does_so : two ≡ one ++ drawn to_one (stage_steps width number leads stage.does stage.ins stage.first taken.edges to_one)
+    pub to_does : to_two ≡ behind to_one (stage_steps width number leads stage.does stage.ins stage.first taken.edges to_one)
+    pub done_is : done ≡ stage_parts width number leads stage.does stage.ins taken to_one
     pub nodes_are : nodes ≡ does_nodes width number leads stage.does taken.edges (length one)
-    pub first_so : three ≡ two ++ drawn to_two (first_steps number stage.does stage.first done.edges)
-    pub to_first : to_three ≡ behind to_two (first_steps number stage.does stage.first done.edges)
-    pub both_is : both ≡ first_parts number stage.does stage.first done to_two
+    pub beside_so : three ≡ two ++ drawn to_two (beside_steps number stage.does stage.tees stage.first done to_two)
+    pub to_beside : to_three ≡ behind to_two (beside_steps number stage.does stage.tees stage.first done to_two)
+    pub both_is : both ≡ beside_parts number stage.does stage.tees stage.first done to_two
 
   module _ (old one two three : List (Cell NodeKind)) (leads : Bool) (to_one to_two to_three : ℕ) (taken done both : Parts) (nodes : List ℕ) (main : Main old one two three leads to_one to_two to_three taken done both nodes) where
-    same-does : does_steps width number leads stage.does stage.first taken.edges to_one ≡ done_steps width number comes stage next
+    same-does : stage_steps width number leads stage.does stage.ins stage.first taken.edges to_one ≡ done_steps width number comes stage next
     same-does =
-        ap (λ (leads : Bool). does_steps width number leads stage.does stage.first taken.edges to_one) main.leads_is
-        ∙ ap (λ (taken : Parts). does_steps width number (begins comes) stage.does stage.first taken.edges to_one) main.taken_is
-        ∙ ap (does_steps width number (begins comes) stage.does stage.first (front_edges number comes stage next)) main.to_front
+        ap (λ (leads : Bool). stage_steps width number leads stage.does stage.ins stage.first taken.edges to_one) main.leads_is
+        ∙ ap (λ (taken : Parts). stage_steps width number (begins comes) stage.does stage.ins stage.first taken.edges to_one) main.taken_is
+        ∙ ap (stage_steps width number (begins comes) stage.does stage.ins stage.first (front_edges number comes stage next)) main.to_front
 
     two-behind : to_two ≡ behind to_one (done_steps width number comes stage next)
     two-behind = main.to_does ∙ ap (behind to_one) same-does
@@ -234,30 +294,33 @@ module _ (width number : ℕ) (comes : Coming) (stage : Stage) (next : ℕ) wher
 
     done-same : done ≡ done_parts width number comes stage next
     done-same =
-        main.done_is ∙ ap (λ (leads : Bool). does_parts width number leads stage.does taken to_one) main.leads_is
-        ∙ ap (λ (taken : Parts). does_parts width number (begins comes) stage.does taken to_one) main.taken_is
-        ∙ ap (does_parts width number (begins comes) stage.does (parts_on (front_edges number comes stage next) (comes_cut comes))) main.to_front
+        main.done_is ∙ ap (λ (leads : Bool). stage_parts width number leads stage.does stage.ins taken to_one) main.leads_is
+        ∙ ap (λ (taken : Parts). stage_parts width number (begins comes) stage.does stage.ins taken to_one) main.taken_is
+        ∙ ap (stage_parts width number (begins comes) stage.does stage.ins (parts_on (front_edges number comes stage next) (comes_cut comes))) main.to_front
 
-    same-first : first_steps number stage.does stage.first done.edges ≡ first_steps number stage.does stage.first (done_parts width number comes stage next).edges
-    same-first = ap (λ (done : Parts). first_steps number stage.does stage.first done.edges) done-same
+    abbrev besides : List Step
+    besides = beside_steps number stage.does stage.tees stage.first (done_parts width number comes stage next) (done_next width number comes stage next)
+
+    same-beside : beside_steps number stage.does stage.tees stage.first done to_two ≡ besides
+    same-beside =
+        ap (λ (done : Parts). beside_steps number stage.does stage.tees stage.first done to_two) done-same
+        ∙ ap (beside_steps number stage.does stage.tees stage.first (done_parts width number comes stage next)) two-is
 
     pub main-adds : three ≡ old ++ drawn next (main_steps width number comes stage next)
     main-adds =
-        let firsts : List Step = first_steps number stage.does stage.first (done_parts width number comes stage next).edges in
-        adds-append next (front_steps number comes stage next) (done_steps width number comes stage next ++ firsts) old one three to_one main.front main.to_front
-        (adds-append to_one (done_steps width number comes stage next) firsts one two three to_two (main.does_so ∙ ap (λ (steps : List Step). one ++ drawn to_one steps) same-does) two-behind
-        (main.first_so ∙ ap (λ (steps : List Step). two ++ drawn to_two steps) same-first))
+        adds-append next (front_steps number comes stage next) (done_steps width number comes stage next ++ besides) old one three to_one main.front main.to_front
+        (adds-append to_one (done_steps width number comes stage next) besides one two three to_two (main.does_so ∙ ap (λ (steps : List Step). one ++ drawn to_one steps) same-does) two-behind
+        (main.beside_so ∙ ap (λ (steps : List Step). two ++ drawn to_two steps) same-beside))
 
     pub main-behind : to_three ≡ behind next (main_steps width number comes stage next)
     main-behind =
-        let firsts : List Step = first_steps number stage.does stage.first (done_parts width number comes stage next).edges in
-        next-append next (front_steps number comes stage next) (done_steps width number comes stage next ++ firsts) to_one to_three main.to_front
-        (next-append to_one (done_steps width number comes stage next) firsts to_two to_three two-behind (main.to_first ∙ ap (behind to_two) same-first))
+        next-append next (front_steps number comes stage next) (done_steps width number comes stage next ++ besides) to_one to_three main.to_front
+        (next-append to_one (done_steps width number comes stage next) besides to_two to_three two-behind (main.to_beside ∙ ap (behind to_two) same-beside))
 
     pub main-gives : both ≡ main_parts width number comes stage next
     main-gives =
-        main.both_is ∙ ap (λ (done : Parts). first_parts number stage.does stage.first done to_two) done-same
-        ∙ ap (first_parts number stage.does stage.first (done_parts width number comes stage next)) two-is
+        main.both_is ∙ ap (λ (done : Parts). beside_parts number stage.does stage.tees stage.first done to_two) done-same
+        ∙ ap (beside_parts number stage.does stage.tees stage.first (done_parts width number comes stage next)) two-is
 
     pub main-named : nodes ≡ main_nodes width number comes stage next (length old)
     main-named =
@@ -293,10 +356,10 @@ pub record IsAt (width : ℕ) (before now : List (Cell NodeKind)) (from next : �
   pub count : number + 1 + length left ≡ length segment
 
 -- a slice's first element, and the rest
-pub left-parts : (left : List Stage) (stage : Stage) → stage ≡ get_or left 0 stage → 1 ≤ length left → left ≡ stage ∷ take (length left - 1) (drop 1 left)
-left-parts [] stage is some = absurd (omega (arith, some))
-left-parts (first ∷ left) stage is some =
-    ap (λ (it : Stage). it ∷ left) (sym is) ∙ ap (λ (rest : List Stage). stage ∷ rest) (sym (take_all (length (first ∷ left) - 1) left (omega arith)))
+pub left-parts : {X : Type 0} (left : List X) (item : X) → item ≡ get_or left 0 item → 1 ≤ length left → left ≡ item ∷ take (length left - 1) (drop 1 left)
+left-parts [] item is some = absurd (omega (arith, some))
+left-parts {X} (first ∷ left) item is some =
+    ap (λ (it : X). it ∷ left) (sym is) ∙ ap (λ (rest : List X). item ∷ rest) (sym (take_all (length (first ∷ left) - 1) left (omega arith)))
 
 module _ (width : ℕ) (before now : List (Cell NodeKind)) (from next : ℕ) (begin comes : Coming) (segment : List Stage) (stage : Stage) (number : ℕ) where
   pub goes-on : (following : Stage) (others : List Stage) → IsAt width before now from next begin comes segment (following ∷ others) stage number

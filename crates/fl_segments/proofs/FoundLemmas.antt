@@ -1,11 +1,12 @@
 -- What is gathered over the nodes of a segment, by the kind of each and the number of its ins: tests, paths, ends and words.
 use Rattle.std.proofs.Common.{◌≡◌, ℕ, zero, suc, ◌+◌, ◌-◌, ◌≤◌, ◌==◌, List, [], ◌∷◌, ◌++◌, ◌⊎◌, inl, inr, Bool, true, false, ◌&&◌, ◌||◌, not, Option, Some, None, if◌then◌else◌, length, nat_lt, replicate, refl, ap, sym, subst, ◌∙◌, append-nil, append_assoc, length-append, arith}
 use Rattle.std.specs.List.{list_all, list_any, count_by, filter_map, flat_map, cons_option}
-use Rattle.std.proofs.lemmas.Bool.{true≢false, and_from, and_parts, eq-eqb, leb-true, lt-ltb, ltb-true, ne_eqb}
+use Rattle.std.proofs.lemmas.Bool.{true≢false, and_from, and_parts, cond-true, eq-eqb, leb-true, lt-ltb, ltb-true, ne_eqb}
 use Rattle.std.proofs.lemmas.List.FromFn.{length-range_with_len}
 use Rattle.std.proofs.lemmas.List.Sums.{sum_by-cons}
 use Rattle.ps_lines.specs.Lines.{is_empty}
 use Rattle.ps_world.specs.Paths.{Components}
+use Rattle.ps_world.specs.declared.tree.Mode.{Mode}
 use Rattle.ut_args.specs.Built.{is_built_of}
 use Rattle.ut_args.specs.Inputs.{inputs_of}
 use Rattle.ut_args.specs.Invocations.{words_of}
@@ -21,9 +22,10 @@ use Rattle.fl_graph.specs.declared.kinds.To.TheVariants as to
 use Rattle.fl_graph.proofs.ListLemmas.{and-true}
 use Rattle.fl_classes.specs.Used.{is_cat, words_by as words_of_node, words_with}
 use Rattle.fl_classes.proofs.ClassLemmas.{or-none}
+use Rattle.fl_segments.specs.Chains.{tee_mode}
 use Rattle.fl_segments.specs.Stages.{closes_before, file_in, file_out, files_read, files_written, gives_output, goes_on, ins_of, ins_read, is_none, is_reader, is_shell_input, is_spread, is_stage, is_stream, joins_before, read_of, reads_stream, words_at, words_by, has_finish}
 use Rattle.fl_segments.specs.Inner.Drawing.{Step, step, split_step, behind}
-use Rattle.fl_segments.specs.Inner.Steps.{begins, chain_steps, comes_behind, comes_on, does_steps, done_parts, done_steps, drain_steps, each_ended, earlier_steps, end_edge, end_next, first_steps, front_edges, front_next, front_steps, goes_steps, hands_on, in_edges, in_steps, input_edges, input_steps, is_joined, is_leading_cat, is_next, join_steps, joined_edges, kind_first, kind_in, last_steps, main_parts, main_steps, map_steps, on_steps, out_steps, piped_steps, read_edges, read_steps, split_edges, split_steps, spread_steps, stands, stream_steps, takes_parts, util_steps, whole_steps, Tree, Leaf, Join, finish_steps, fold_steps, joins_of, mapped_parts, tree_edge, tree_of, tree_steps, folded_steps, tree_over}
+use Rattle.fl_segments.specs.Inner.Steps.{begins, beside_steps, cat_steps, chain_steps, comes_behind, comes_on, does_steps, done_next, done_parts, done_steps, drain_steps, each_ended, earlier_steps, end_edge, end_next, files_parts, files_steps, first_steps, front_edges, front_next, front_steps, goes_steps, group_steps, groups_from, hands_on, in_edges, in_steps, input_edges, input_steps, is_joined, is_leading_cat, is_next, join_steps, joined_edges, kind_first, kind_in, last_steps, main_parts, main_steps, map_steps, on_steps, out_steps, piped_steps, read_edges, read_steps, split_edges, split_steps, spread_steps, stands, stream_steps, takes_parts, tee_steps, util_steps, whole_edge, whole_steps, Tree, Leaf, Join, finish_steps, fold_steps, joins_of, mapped_parts, tree_edge, tree_of, tree_steps, folded_steps, tree_over}
 use Rattle.fl_segments.specs.declared.parts.Coming.{Coming}
 use Rattle.fl_segments.specs.declared.parts.Coming.TheVariants as coming
 use Rattle.fl_segments.specs.declared.parts.Parts.{Parts}
@@ -37,7 +39,9 @@ use Rattle.fl_segments.specs.declared.stages.Out.{Out}
 use Rattle.fl_segments.specs.declared.stages.Out.TheVariants as out
 use Rattle.fl_segments.specs.declared.stages.Stage.{Stage}
 use Rattle.fl_segments.proofs.ComingLemmas.{IsSingle, IsTaken, MayBegin, MayCome, goes-may, lone-edges, same-util, taken-of}
-use Rattle.fl_segments.proofs.FitLemmas.{Fits, few-streams, no-tees, parts-of}
+use Rattle.fl_segments.proofs.FitLemmas.{Fits, few-streams, parts-of, skips-files}
+use Rattle.fl_segments.specs.Groups.{is_grouped}
+use Rattle.fl_segments.proofs.GroupLemmas.{GoesInGroups, grouped-so, groups-some, has_some}
 use Rattle.fl_segments.proofs.StageLemmas.{split-count, spread-one, spread-wide, tree-joins}
 use Rattle.ut_args.specs.Classes.{class_of}
 
@@ -70,6 +74,26 @@ joined-count leads inv ins edges next cat same =
         let many : nat_lt 1 (length (it ∷ other ∷ ins)) ≡ true = lt-ltb 1 (length (it ∷ other ∷ ins)) (omega arith) in
         let some : (length (it ∷ other ∷ ins) == 0) ≡ false = ne_eqb (length (it ∷ other ∷ ins)) 0 (λ same. omega (arith, same)) in
         ap (λ (joined : Bool). length (if joined then next ∷ [] else edges)) many ∙ sym (ap (λ (none : Bool). if none then 0 else 1) some)
+
+-- a cat that goes in groups takes an edge of each file
+begins-single : (comes : Coming) → begins comes ≡ true → IsSingle comes
+begins-single (coming.Begins begin) leads = tt
+begins-single (coming.On parts) leads = absurd (true≢false (sym leads))
+begins-single coming.Nothing leads = absurd (true≢false (sym leads))
+
+module _ (width number : ℕ) (comes : Coming) (stage : Stage) (next : ℕ) (so : GoesInGroups width (begins comes) stage.does stage.ins) where
+  pub grouped-edges : front_edges number comes stage next ≡ in_edges number comes stage.ins next
+  grouped-edges =
+      ap (λ (it : Does). read_edges number comes it stage.ins next) so.runs
+      ∙ ap (λ (cat : Bool). if (joins_before so.inv && (not cat && nat_lt 1 (length stage.ins))) then behind next (in_steps number comes stage.ins) ∷ [] else in_edges number comes stage.ins next) so.cat
+      ∙ by_joins (joins_before so.inv)
+    where
+      by_joins : (joins : Bool) → (if (joins && false) then behind next (in_steps number comes stage.ins) ∷ [] else in_edges number comes stage.ins next) ≡ in_edges number comes stage.ins next
+      by_joins true = refl
+      by_joins false = refl
+
+  pub grouped-count : length (front_edges number comes stage next) ≡ length stage.ins
+  grouped-count = ap length grouped-edges ∙ edges-count number comes stage.ins next (begins-single comes (and_parts (is_cat so.inv) (begins comes) so.cat).1)
 
 -- so many texts a stage reads
 abbrev pub read_count : Does → ℕ → ℕ
@@ -170,6 +194,14 @@ module _ {Found : Type 0} (width : ℕ) (none : Found) (both : Found → Found �
       if is_leading_cat leads inv then none
       else if is_spread width inv then both (repeated width (value (kind.Map inv) 1 1)) (if has_aggregator (class_of inv) then folds_value inv else none) else value (kind.Whole inv) count 1
 
+  abbrev pub tees_value : Mode → List Components → Found
+  tees_value mode [] = none
+  tees_value mode (path ∷ paths) = both (value (kind.TeeFile path mode) 1 1) (tees_value mode paths)
+
+  abbrev pub teed_value : Does → List Components → Found
+  teed_value does.Skip paths = none
+  teed_value (does.Util inv) paths = tees_value (tee_mode inv) paths
+
   abbrev pub file_value : Out → Found
   file_value out.Next = none
   file_value (out.File path mode) = value (kind.Sink (to.File path mode)) 1 0
@@ -179,7 +211,7 @@ module _ {Found : Type 0} (width : ℕ) (none : Found) (both : Found → Found �
   goes_value it piped = if goes_on it piped then value (kind.Sink to.Output) 1 0 else none
 
   abbrev pub main_value : Found → Bool → Stage → Found
-  main_value stream leads stage = both (ins_value stream (ins_of stage)) (util_value leads stage.does (read_count stage.does (length stage.ins)))
+  main_value stream leads stage = both (ins_value stream (ins_of stage)) (both (util_value leads stage.does (read_count stage.does (length stage.ins))) (teed_value stage.does stage.tees))
 
   abbrev pub chain_value : Found → Bool → List Stage → Found
   chain_value stream leads [] = none
@@ -197,6 +229,13 @@ module _ {Found : Type 0} (width : ℕ) (none : Found) (both : Found → Found �
 
     cat-gathered : (close : Bool) (edges : List ℕ) (number : ℕ) → 1 ≤ length edges → gathered (step (kind.Cat close) edges number ∷ []) ≡ none
     cat-gathered close edges number some = gathers.right (value (kind.Cat close) (length edges) 1) ∙ gathers.of_cat close (length edges) some
+
+    cats-gathered : (number : ℕ) (groups : List (List ℕ)) → list_all has_some groups ≡ true → gathered (cat_steps number groups) ≡ none
+    cats-gathered number [] some = refl
+    cats-gathered number (edges ∷ groups) some =
+        let parts = and_parts (has_some edges) (list_all has_some groups) some in
+        ap (λ (here : Found). both here (gathered (cat_steps number groups))) (gathers.of_cat false (length edges) (leb-true 1 (length edges) parts.0))
+        ∙ gathers.left (gathered (cat_steps number groups)) ∙ cats-gathered number groups parts.1
 
     ends-gathered : (number : ℕ) (edges : List ℕ) → gathered (each_ended number edges) ≡ none
     ends-gathered number [] = refl
@@ -379,15 +418,31 @@ module _ {Found : Type 0} (width : ℕ) (none : Found) (both : Found → Found �
 
     does-gathered : (number : ℕ) (comes : Coming) (stage : Stage) (next : ℕ) → is_stage stage ≡ true → MayCome width comes stage
         → gathered (done_steps width number comes stage next) ≡ util_value (begins comes) stage.does (read_count stage.does (length stage.ins))
-    does-gathered number comes stage next is may = by_does stage.does refl
+    does-gathered number comes stage next is may = by_test (is_grouped width (begins comes) stage.does stage.ins) refl
       where
         by_does : (it : Does) → stage.does ≡ it
             → gathered (does_steps width number (begins comes) it stage.first (front_edges number comes stage next) (front_next number comes stage next)) ≡ util_value (begins comes) it (read_count it (length stage.ins))
         by_does does.Skip same = text-gathered stage.first number
         by_does (does.Util inv) same =
-            let fits : Fits inv stage = (parts-of stage is inv same).0 in
+            let fits : Fits inv stage = parts-of stage is inv same in
             util-gathered number (begins comes) inv (front_edges number comes stage next) (front_next number comes stage next) (read_of inv (length stage.ins))
             (front-takes-so width number comes stage next inv same may) (λ spread. sym fits.inputs ∙ spread-one width inv spread)
+
+        by_groups : GoesInGroups width (begins comes) stage.does stage.ins
+            → gathered (group_steps width number (front_edges number comes stage next)) ≡ util_value (begins comes) stage.does (read_count stage.does (length stage.ins))
+        by_groups so =
+            let edges : List ℕ = front_edges number comes stage next in
+            let count = grouped-count width number comes stage next so in
+            let wide = so.wide in
+            let enough = so.enough in
+            cats-gathered number (groups_from width edges 0 width) (groups-some width edges (omega (arith, wide)) (omega (arith, count, enough)))
+            ∙ sym (ap (λ (it : Does). util_value (begins comes) it (read_count it (length stage.ins))) so.runs ∙ cond-true (is_leading_cat (begins comes) so.inv) none _ so.cat)
+
+        by_test : (groups : Bool) → is_grouped width (begins comes) stage.does stage.ins ≡ groups
+            → gathered (if groups then group_steps width number (front_edges number comes stage next) else does_steps width number (begins comes) stage.does stage.first (front_edges number comes stage next) (front_next number comes stage next))
+            ≡ util_value (begins comes) stage.does (read_count stage.does (length stage.ins))
+        by_test true so = by_groups (grouped-so width (begins comes) stage.does stage.ins so)
+        by_test false so = by_does stage.does refl
 
     first-gathered : (number : ℕ) (it : Does) (text edges : List ℕ) → gathered (first_steps number it text edges) ≡ none
     first-gathered number does.Skip text edges = refl
@@ -400,17 +455,56 @@ module _ {Found : Type 0} (width : ℕ) (none : Found) (both : Found → Found �
             ∙ ap (λ (here : Found). both here (gathered (step (kind.Text text) [] number ∷ []))) (whole-gathered number edges)
             ∙ gathers.left (gathered (step (kind.Text text) [] number ∷ [])) ∙ text-gathered text number
 
+    tees-gathered : (number : ℕ) (mode : Mode) (paths : List Components) (edge next : ℕ) → gathered (tee_steps number mode paths edge next) ≡ tees_value mode paths
+    tees-gathered number mode [] edge next = refl
+    tees-gathered number mode (path ∷ paths) edge next = ap (both (value (kind.TeeFile path mode) 1 1)) (tees-gathered number mode paths next (next + 1))
+
+    files-gathered : (number : ℕ) (it : Does) (paths : List Components) (edges : List ℕ) (next : ℕ) → gathered (files_steps number it paths edges next) ≡ teed_value it paths
+    files-gathered number does.Skip paths edges next = refl
+    files-gathered number (does.Util inv) [] edges next = refl
+    files-gathered number (does.Util inv) (path ∷ paths) edges next =
+        let tees : List Step = tee_steps number (tee_mode inv) (path ∷ paths) (whole_edge edges next) (behind next (whole_steps number edges)) in
+        gathered-append (whole_steps number edges) tees ∙ ap (λ (here : Found). both here (gathered tees)) (whole-gathered number edges) ∙ gathers.left (gathered tees)
+        ∙ tees-gathered number (tee_mode inv) (path ∷ paths) (whole_edge edges next) (behind next (whole_steps number edges))
+
+    beside-gathered : (number : ℕ) (it : Does) (paths : List Components) (text : List ℕ) (parts : Parts) (next : ℕ) → gathered (beside_steps number it paths text parts next) ≡ teed_value it paths
+    beside-gathered number it paths text parts next =
+        let teed : List Step = files_steps number it paths parts.edges next in
+        let edges : List ℕ = (files_parts number it paths parts next).edges in
+        gathered-append teed (first_steps number it text edges) ∙ ap (both (gathered teed)) (first-gathered number it text edges)
+        ∙ gathers.right (gathered teed) ∙ files-gathered number it paths parts.edges next
+
+    -- where a file that tee writes adds nothing, a stage adds what it would without
+    module _ (of_tee : (path : Components) (mode : Mode) → value (kind.TeeFile path mode) 1 1 ≡ none) where
+      tees-none : (mode : Mode) (paths : List Components) → tees_value mode paths ≡ none
+      tees-none mode [] = refl
+      tees-none mode (path ∷ paths) =
+          ap (λ (here : Found). both here (tees_value mode paths)) (of_tee path mode) ∙ gathers.left (tees_value mode paths) ∙ tees-none mode paths
+
+      pub teed-none : (it : Does) (paths : List Components) → teed_value it paths ≡ none
+      teed-none does.Skip paths = refl
+      teed-none (does.Util inv) paths = tees-none (tee_mode inv) paths
+
+      pub main-without : (stream : Found) (leads : Bool) (stage : Stage)
+          → main_value stream leads stage ≡ both (ins_value stream (ins_of stage)) (util_value leads stage.does (read_count stage.does (length stage.ins)))
+      main-without stream leads stage =
+          let own : Found = util_value leads stage.does (read_count stage.does (length stage.ins)) in
+          ap (λ (teed : Found). both (ins_value stream (ins_of stage)) (both own teed)) (teed-none stage.does stage.tees)
+          ∙ ap (both (ins_value stream (ins_of stage))) (gathers.right own)
+
     pub main-gathered : (number : ℕ) (comes : Coming) (stage : Stage) (next : ℕ) → is_stage stage ≡ true → MayCome width comes stage
         → gathered (main_steps width number comes stage next) ≡ main_value (stream_value comes) (begins comes) stage
     main-gathered number comes stage next is may =
         let front : List Step = front_steps number comes stage next in
         let done : List Step = done_steps width number comes stage next in
-        let firsts : List Step = first_steps number stage.does stage.first (done_parts width number comes stage next).edges in
-        gathered-append front (done ++ firsts)
-        ∙ ap (λ (read : Found). both read (gathered (done ++ firsts))) (front-gathered number comes stage next may)
+        let parts : Parts = done_parts width number comes stage next in
+        let from : ℕ = done_next width number comes stage next in
+        let besides : List Step = beside_steps number stage.does stage.tees stage.first parts from in
+        gathered-append front (done ++ besides)
+        ∙ ap (λ (read : Found). both read (gathered (done ++ besides))) (front-gathered number comes stage next may)
         ∙ ap (both (ins_value (stream_value comes) (ins_of stage)))
-        (gathered-append done firsts ∙ ap (both (gathered done)) (first-gathered number stage.does stage.first (done_parts width number comes stage next).edges)
-        ∙ gathers.right (gathered done) ∙ does-gathered number comes stage next is may)
+        (gathered-append done besides ∙ ap (both (gathered done)) (beside-gathered number stage.does stage.tees stage.first parts from)
+        ∙ ap (λ (own : Found). both own (teed_value stage.does stage.tees)) (does-gathered number comes stage next is may))
 
     stream-gathered : (number : ℕ) (piped : List ℕ) (reads : Bool) → gathered (stream_steps number piped reads) ≡ none
     stream-gathered number piped true = text-gathered piped number
@@ -519,7 +613,7 @@ module _ (width : ℕ) where
     all-found [] = refl
     all-found (it ∷ steps) = ap (λ (rest : Bool). value it.kind (length it.ins) it.outs && rest) (all-found steps)
 
-    -- each kind that a stage has up to where its output goes passes
+    -- each kind passes that a stage has up to where its output goes, other than the files of tee
     pub record Pass : Type 0 where
       pub text : (text : List ℕ) → value (kind.Text text) 0 1 ≡ true
       pub cat : (close : Bool) (count : ℕ) → 1 ≤ count → value (kind.Cat close) count 1 ≡ true
@@ -558,7 +652,7 @@ module _ (width : ℕ) where
       util-pass leads stage is (does.Util inv) same = by_cat (is_leading_cat leads inv) (is_spread width inv) refl
         where
           fits : Fits inv stage
-          fits = (parts-of stage is inv same).0
+          fits = parts-of stage is inv same
 
           all-repeated : (count : ℕ) (it : Bool) → it ≡ true → repeated width true both_pass value count it ≡ true
           all-repeated zero it pass = refl
@@ -580,11 +674,6 @@ module _ (width : ℕ) where
               (all-repeated width (value (kind.Map inv) 1 1) (pass.map inv fits.built is)) (folds-pass is (has_aggregator (class_of inv)) (has_finish inv) refl)
           by_cat false false is = pass.whole inv (read_of inv (length stage.ins)) fits.built fits.inputs
 
-      main-pass : (leads : Bool) (stage : Stage) → is_stage stage ≡ true → main_value width true both_pass value true leads stage ≡ true
-      main-pass leads stage is =
-          and_from (ins_value width true both_pass value true (ins_of stage)) (util_value width true both_pass value leads stage.does (read_count stage.does (length stage.ins)))
-          (ins-pass (ins_of stage)) (util-pass leads stage is stage.does refl)
-
       stream-pass : (comes : Coming) → stream_value width true both_pass value comes ≡ true
       stream-pass (coming.Begins begin) = by_first begin.now
         where
@@ -594,13 +683,27 @@ module _ (width : ℕ) where
       stream-pass (coming.On parts) = refl
       stream-pass coming.Nothing = refl
 
-      pub main-all : (number : ℕ) (comes : Coming) (stage : Stage) (next : ℕ) → is_stage stage ≡ true → MayCome width comes stage
-          → list_all (λ (it : Step). value it.kind (length it.ins) it.outs) (main_steps width number comes stage next) ≡ true
-      main-all number comes stage next is may =
-          all-found (main_steps width number comes stage next) ∙ main-gathered width true both_pass value all-gathers number comes stage next is may
-          ∙ ap (λ (stream : Bool). main_value width true both_pass value stream (begins comes) stage) (stream-pass comes) ∙ main-pass (begins comes) stage is
+      pub front-all : (number : ℕ) (comes : Coming) (stage : Stage) (next : ℕ) → MayCome width comes stage → list_all (λ (it : Step). value it.kind (length it.ins) it.outs) (front_steps number comes stage next) ≡ true
+      front-all number comes stage next may =
+          all-found (front_steps number comes stage next) ∙ front-gathered width true both_pass value all-gathers number comes stage next may
+          ∙ ap (λ (stream : Bool). ins_value width true both_pass value stream (ins_of stage)) (stream-pass comes) ∙ ins-pass (ins_of stage)
 
-      module _ (sink : (sink : To) → value (kind.Sink sink) 1 0 ≡ true) where
+      pub done-all : (number : ℕ) (comes : Coming) (stage : Stage) (next : ℕ) → is_stage stage ≡ true → MayCome width comes stage
+          → list_all (λ (it : Step). value it.kind (length it.ins) it.outs) (done_steps width number comes stage next) ≡ true
+      done-all number comes stage next is may =
+          all-found (done_steps width number comes stage next) ∙ does-gathered width true both_pass value all-gathers number comes stage next is may
+          ∙ util-pass (begins comes) stage is stage.does refl
+
+      pub first-all : (number : ℕ) (it : Does) (text edges : List ℕ) → list_all (λ (it : Step). value it.kind (length it.ins) it.outs) (first_steps number it text edges) ≡ true
+      first-all number it text edges = all-found (first_steps number it text edges) ∙ first-gathered width true both_pass value all-gathers number it text edges
+
+      module _ (tee : (path : Components) (mode : Mode) → value (kind.TeeFile path mode) 1 1 ≡ true) (sink : (sink : To) → value (kind.Sink sink) 1 0 ≡ true) where
+        main-pass : (leads : Bool) (stage : Stage) → is_stage stage ≡ true → main_value width true both_pass value true leads stage ≡ true
+        main-pass leads stage is =
+            main-without width true both_pass value all-gathers tee true leads stage
+            ∙ and_from (ins_value width true both_pass value true (ins_of stage)) (util_value width true both_pass value leads stage.does (read_count stage.does (length stage.ins)))
+            (ins-pass (ins_of stage)) (util-pass leads stage is stage.does refl)
+
         file-pass : (it : Out) → file_value width true both_pass value it ≡ true
         file-pass out.Next = refl
         file-pass (out.File path mode) = sink (to.File path mode)
@@ -724,9 +827,13 @@ module _ (width : ℕ) where
       by_test true = refl
       by_test false = refl
 
+  read-gathers : Gathers width [] joined_paths path_of_read
+  read-gathers = list-gathers path_of_read (λ text. refl) (λ close count. refl) refl refl
+
   main-read : (leads : Bool) (stage : Stage) → main_value width [] joined_paths path_of_read [] leads stage ≡ filter_map file_in (ins_of stage)
   main-read leads stage =
-      ap (λ (own : List Components). ins_value width [] joined_paths path_of_read [] (ins_of stage) ++ own) (util-read leads stage.does (read_count stage.does (length stage.ins)))
+      main-without width [] joined_paths path_of_read read-gathers (λ path mode. refl) [] leads stage
+      ∙ ap (λ (own : List Components). ins_value width [] joined_paths path_of_read [] (ins_of stage) ++ own) (util-read leads stage.does (read_count stage.does (length stage.ins)))
       ∙ append-nil (ins_value width [] joined_paths path_of_read [] (ins_of stage)) ∙ ins-read (ins_of stage)
 
   all-read : (leads : Bool) (stages : List Stage) → chain_list path_of_read leads stages ≡ files_read stages
@@ -776,10 +883,20 @@ module _ (width : ℕ) where
       by_cat false true = spread-none width [] joined_paths path_of_written (list-gathers path_of_written (λ text. refl) (λ close count. refl) refl refl) inv refl refl refl
       by_cat false false = refl
 
-  main-written : (leads : Bool) (stage : Stage) → main_value width [] joined_paths path_of_written [] leads stage ≡ []
-  main-written leads stage =
-      ap (λ (own : List Components). ins_value width [] joined_paths path_of_written [] (ins_of stage) ++ own) (util-written leads stage.does (read_count stage.does (length stage.ins)))
-      ∙ append-nil (ins_value width [] joined_paths path_of_written [] (ins_of stage)) ∙ ins-written (ins_of stage)
+  tees-written : (mode : Mode) (paths : List Components) → tees_value width [] joined_paths path_of_written mode paths ≡ paths
+  tees-written mode [] = refl
+  tees-written mode (path ∷ paths) = ap (λ (rest : List Components). path ∷ rest) (tees-written mode paths)
+
+  teed-written : (stage : Stage) → is_stage stage ≡ true → (it : Does) → stage.does ≡ it → teed_value width [] joined_paths path_of_written it stage.tees ≡ stage.tees
+  teed-written stage is does.Skip same = sym (skips-files stage is same)
+  teed-written stage is (does.Util inv) same = tees-written (tee_mode inv) stage.tees
+
+  main-written : (leads : Bool) (stage : Stage) → is_stage stage ≡ true → main_value width [] joined_paths path_of_written [] leads stage ≡ stage.tees
+  main-written leads stage is =
+      let teed : List Components = teed_value width [] joined_paths path_of_written stage.does stage.tees in
+      ap (λ (ins : List Components). ins ++ (util_value width [] joined_paths path_of_written leads stage.does (read_count stage.does (length stage.ins)) ++ teed)) (ins-written (ins_of stage))
+      ∙ ap (λ (own : List Components). own ++ teed) (util-written leads stage.does (read_count stage.does (length stage.ins)))
+      ∙ teed-written stage is stage.does refl
 
   file-written : (it : Out) → file_value width [] joined_paths path_of_written it ≡ file_out it
   file-written out.Next = refl
@@ -795,8 +912,8 @@ module _ (width : ℕ) where
 
   stage-written : (leads : Bool) (stage : Stage) → is_stage stage ≡ true → main_value width [] joined_paths path_of_written [] leads stage ++ file_value width [] joined_paths path_of_written stage.out ≡ stage.tees ++ file_out stage.out
   stage-written leads stage is =
-      ap (λ (main : List Components). main ++ file_value width [] joined_paths path_of_written stage.out) (main-written leads stage) ∙ file-written stage.out
-      ∙ ap (λ (tees : List Components). tees ++ file_out stage.out) (sym (no-tees stage is))
+      ap (λ (main : List Components). main ++ file_value width [] joined_paths path_of_written stage.out) (main-written leads stage is)
+      ∙ ap (λ (file : List Components). stage.tees ++ file) (file-written stage.out)
 
   all-written : (leads : Bool) (stages : List Stage) → list_all is_stage stages ≡ true → chain_list path_of_written leads stages ≡ files_written stages
   all-written leads [] all = refl
@@ -859,7 +976,7 @@ module _ (width : ℕ) where
   util-words leads stage is (does.Util inv) same = by_cat (is_leading_cat leads inv) refl (is_spread width inv) refl
     where
       fits : Fits inv stage
-      fits = (parts-of stage is inv same).0
+      fits = parts-of stage is inv same
 
       count : ℕ
       count = read_of inv (length stage.ins)
@@ -879,7 +996,8 @@ module _ (width : ℕ) where
 
   main-words : (leads : Bool) (stage : Stage) → is_stage stage ≡ true → main_value width [] joined_words words_value [] leads stage ≡ words_by width stage.does
   main-words leads stage is =
-      ap (λ (ins : List (List (List ℕ))). ins ++ util_value width [] joined_words words_value leads stage.does (read_count stage.does (length stage.ins))) (ins-words (ins_of stage))
+      main-without width [] joined_words words_value (list-gathers words_value (λ text. refl) (λ close count. refl) refl refl) (λ path mode. refl) [] leads stage
+      ∙ ap (λ (ins : List (List (List ℕ))). ins ++ util_value width [] joined_words words_value leads stage.does (read_count stage.does (length stage.ins))) (ins-words (ins_of stage))
       ∙ util-words leads stage is stage.does refl
 
   file-words : (it : Out) → file_value width [] joined_words words_value it ≡ []
@@ -1014,9 +1132,19 @@ module _ (width : ℕ) where
   ins-input stream (inlet.File path closed ∷ ins) = ins-input stream ins
   ins-input stream (inlet.Empty ∷ ins) = ins-input stream ins
 
+  any-inputs : Gathers width false either (any_value is_input)
+  any-inputs = any-gathers is_input (λ text. refl) (λ close. refl) refl refl
+
+  number-inputs : Gathers width 0 sum (number_value is_input)
+  number-inputs = number-gathers is_input (λ text. refl) (λ close. refl) refl refl
+
+  teed-inputs : (stage : Stage) → teed_value width 0 sum (number_value is_input) stage.does stage.tees ≡ 0
+  teed-inputs stage = teed-none width 0 sum (number_value is_input) number-inputs (λ path mode. refl) stage.does stage.tees
+
   main-input : (stream leads : Bool) (stage : Stage) → main_value width false either (any_value is_input) stream leads stage ≡ (stream && is_reader stage)
   main-input stream leads stage =
-      ap (λ (own : Bool). ins_value width false either (any_value is_input) stream (ins_of stage) || own) (util-input leads stage.does (read_count stage.does (length stage.ins))).0
+      main-without width false either (any_value is_input) any-inputs (λ path mode. refl) stream leads stage
+      ∙ ap (λ (own : Bool). ins_value width false either (any_value is_input) stream (ins_of stage) || own) (util-input leads stage.does (read_count stage.does (length stage.ins))).0
       ∙ or-none (ins_value width false either (any_value is_input) stream (ins_of stage)) ∙ ins-input stream (ins_of stage)
 
   chain-input-none : (leads : Bool) (stages : List Stage) → chain_value width false either (any_value is_input) false leads stages ≡ false
@@ -1071,15 +1199,17 @@ module _ (width : ℕ) where
   chain-inputs-none leads (stage ∷ []) =
       let ins = no-inputs (ins_of stage) in
       let own = (util-input leads stage.does (read_count stage.does (length stage.ins))).1 in
+      let teed = teed-inputs stage in
       let file = (file-input stage.out).1 in
       let goes = (goes-input stage.out stage.piped).1 in
-      omega (arith, ins, own, file, goes)
+      omega (arith, ins, own, teed, file, goes)
   chain-inputs-none leads (stage ∷ following ∷ stages) =
       let ins = no-inputs (ins_of stage) in
       let own = (util-input leads stage.does (read_count stage.does (length stage.ins))).1 in
+      let teed = teed-inputs stage in
       let file = (file-input stage.out).1 in
       let rest = chain-inputs-none false (following ∷ stages) in
-      omega (arith, ins, own, file, rest)
+      omega (arith, ins, own, teed, file, rest)
 
   few-inputs : (stream : ℕ) (leads : Bool) (stages : List Stage) → stream ≤ 1 → list_all is_stage stages ≡ true → chain_value width 0 sum (number_value is_input) stream leads stages ≤ 1
   few-inputs stream leads [] few all = omega arith
@@ -1087,16 +1217,18 @@ module _ (width : ℕ) where
       let ins = ins-inputs stream (ins_of stage) few in
       let streams = few-streams stage (and_parts (is_stage stage) true all).0 in
       let own = (util-input leads stage.does (read_count stage.does (length stage.ins))).1 in
+      let teed = teed-inputs stage in
       let file = (file-input stage.out).1 in
       let goes = (goes-input stage.out stage.piped).1 in
-      omega (arith, ins, streams, own, file, goes)
+      omega (arith, ins, streams, own, teed, file, goes)
   few-inputs stream leads (stage ∷ following ∷ stages) few all =
       let ins = ins-inputs stream (ins_of stage) few in
       let streams = few-streams stage (and_parts (is_stage stage) (list_all is_stage (following ∷ stages)) all).0 in
       let own = (util-input leads stage.does (read_count stage.does (length stage.ins))).1 in
+      let teed = teed-inputs stage in
       let file = (file-input stage.out).1 in
       let rest = chain-inputs-none false (following ∷ stages) in
-      omega (arith, ins, streams, own, file, rest)
+      omega (arith, ins, streams, own, teed, file, rest)
 
   stream-few : (comes : Coming) → stream_value width 0 sum (number_value is_input) comes ≤ 1
   stream-few (coming.Begins begin) = by_first begin.now
@@ -1147,9 +1279,19 @@ module _ (width : ℕ) where
       by_test true = (refl, omega arith)
       by_test false = (refl, omega arith)
 
+  any-outputs : Gathers width false either (any_value is_output)
+  any-outputs = any-gathers is_output (λ text. refl) (λ close. refl) refl refl
+
+  number-outputs : Gathers width 0 sum (number_value is_output)
+  number-outputs = number-gathers is_output (λ text. refl) (λ close. refl) refl refl
+
+  teed-outputs : (stage : Stage) → teed_value width 0 sum (number_value is_output) stage.does stage.tees ≡ 0
+  teed-outputs stage = teed-none width 0 sum (number_value is_output) number-outputs (λ path mode. refl) stage.does stage.tees
+
   main-output : (leads : Bool) (stage : Stage) → main_value width false either (any_value is_output) false leads stage ≡ false
   main-output leads stage =
-      ap (λ (ins : Bool). ins || util_value width false either (any_value is_output) leads stage.does (read_count stage.does (length stage.ins))) (ins-output (ins_of stage)).0
+      main-without width false either (any_value is_output) any-outputs (λ path mode. refl) false leads stage
+      ∙ ap (λ (ins : Bool). ins || util_value width false either (any_value is_output) leads stage.does (read_count stage.does (length stage.ins))) (ins-output (ins_of stage)).0
       ∙ (util-output leads stage.does (read_count stage.does (length stage.ins))).0
 
   any-output : (leads : Bool) (stages : List Stage) → chain_value width false either (any_value is_output) false leads stages ≡ gives_output stages
@@ -1166,15 +1308,17 @@ module _ (width : ℕ) where
   few-outputs leads (stage ∷ []) =
       let ins = (ins-output (ins_of stage)).1 in
       let own = (util-output leads stage.does (read_count stage.does (length stage.ins))).1 in
+      let teed = teed-outputs stage in
       let file = (file-output stage.out).1 in
       let goes = (goes-output stage.out stage.piped).1 in
-      omega (arith, ins, own, file, goes)
+      omega (arith, ins, own, teed, file, goes)
   few-outputs leads (stage ∷ following ∷ stages) =
       let ins = (ins-output (ins_of stage)).1 in
       let own = (util-output leads stage.does (read_count stage.does (length stage.ins))).1 in
+      let teed = teed-outputs stage in
       let file = (file-output stage.out).1 in
       let rest = few-outputs false (following ∷ stages) in
-      omega (arith, ins, own, file, rest)
+      omega (arith, ins, own, teed, file, rest)
 
   stream-output : (comes : Coming) → (stream_value width false either (any_value is_output) comes ≡ false) × (stream_value width 0 sum (number_value is_output) comes ≡ 0)
   stream-output (coming.Begins begin) = by_first begin.now

@@ -11,7 +11,7 @@ use Rattle.fl_graph.specs.declared.kinds.NodeKind.{NodeKind}
 use Rattle.fl_graph.specs.declared.kinds.NodeKind.TheVariants as kind
 use Rattle.fl_segments.specs.Stages.{has_finish, is_none, is_spread, is_stage}
 use Rattle.fl_segments.specs.Inner.Drawing.{Step, behind, drawn, split_step, step}
-use Rattle.fl_segments.specs.Inner.Steps.{Tree, begins, chain_steps, comes_behind, does_steps, done_parts, done_steps, earlier_steps, end_next, finish_steps, first_steps, fold_steps, front_edges, front_next, front_steps, goes_steps, is_leading_cat, last_steps, main_next, main_parts, main_steps, map_steps, mapped_parts, mapped_steps, out_steps, split_edges, split_steps, spread_steps, tree_edge, tree_of, tree_steps, util_steps, whole_edge, whole_steps, folded_steps}
+use Rattle.fl_segments.specs.Inner.Steps.{Tree, begins, beside_steps, chain_steps, comes_behind, does_steps, done_next, done_parts, done_steps, earlier_steps, end_next, finish_steps, fold_steps, front_edges, front_next, front_steps, goes_steps, group_steps, groups_from, is_leading_cat, last_steps, main_next, main_parts, main_steps, map_steps, mapped_parts, mapped_steps, out_steps, split_edges, split_steps, spread_steps, stage_steps, tree_edge, tree_of, tree_steps, util_steps, whole_edge, whole_steps, folded_steps}
 use Rattle.fl_segments.specs.declared.parts.Coming.{Coming}
 use Rattle.fl_segments.specs.declared.parts.Parts.{Parts}
 use Rattle.fl_segments.specs.declared.stages.Does.{Does}
@@ -20,7 +20,8 @@ use Rattle.fl_segments.specs.declared.stages.Stage.{Stage}
 use Rattle.fl_segments.proofs.DrawingLemmas.{AreBelow, joins_none}
 use Rattle.fl_segments.proofs.FitLemmas.{few-streams}
 use Rattle.fl_segments.proofs.JoinLemmas.{AllMapped, Holds, TreeHolds, holds-append, keeps-made, made-append, made-count, made-drawn, made_at, made_behind, mapped-self, none-holds, tree-holds}
-use Rattle.fl_segments.proofs.PlainLemmas.{ends-plain, first-plain, front-plain, goes-plain, mapped-plain, none-plain, text-plain, util-plain}
+use Rattle.fl_segments.specs.Groups.{is_grouped}
+use Rattle.fl_segments.proofs.PlainLemmas.{beside-plain, cats-plain, ends-plain, front-plain, goes-plain, mapped-plain, none-plain, text-plain, util-plain}
 use Rattle.fl_segments.proofs.RowLemmas.{get-here}
 use Rattle.fl_segments.proofs.StageLemmas.{AllBelow, earlier-passes, front-passes, leaves, leaves-are, mapped-passes, mapped-some, open_coming, split-count, spread-wide}
 
@@ -101,18 +102,26 @@ module _ (width number : ℕ) (comes : Coming) (stage : Stage) (made : List Made
       let front : List Step = front_steps number comes stage (length made) in
       let done : List Step = done_steps width number comes stage (length made) in
       let edges : List ℕ = front_edges number comes stage (length made) in
-      let firsts : List Step = first_steps number stage.does stage.first (done_parts width number comes stage (length made)).edges in
+      let parts : Parts = done_parts width number comes stage (length made) in
+      let next : ℕ = done_next width number comes stage (length made) in
+      let besides : List Step = beside_steps number stage.does stage.tees stage.first parts next in
       let on : List Made = made_behind made front in
       let size : length on ≡ front_next number comes stage (length made) = made-count made front in
       let below : AllBelow (length on) edges = subst (λ (size : ℕ). AllBelow size edges) (sym size) ((front-passes width number comes stage (length made) (few-streams stage is)).within all) in
-      holds-append made front (done ++ firsts) (none-holds made front (front-plain number no_join (plain-so number) (split-so number) comes stage (length made)))
-      (holds-append on done firsts
-      (subst (λ (from : ℕ). Holds on (does_steps width number (begins comes) stage.does stage.first edges from)) size (by_does stage.does on edges below))
-      (none-holds (made_behind on done) firsts (first-plain number no_join (plain-so number) (split-so number) stage.does stage.first (done_parts width number comes stage (length made)).edges)))
+      holds-append made front (done ++ besides) (none-holds made front (front-plain number no_join (plain-so number) (split-so number) comes stage (length made)))
+      (holds-append on done besides
+      (subst (λ (from : ℕ). Holds on (stage_steps width number (begins comes) stage.does stage.ins stage.first edges from)) size (by_test (is_grouped width (begins comes) stage.does stage.ins) on edges below))
+      (none-holds (made_behind on done) besides (beside-plain number no_join (plain-so number) (split-so number) stage.does stage.tees stage.first parts next)))
     where
       by_does : (it : Does) (on : List Made) (edges : List ℕ) → AllBelow (length on) edges → Holds on (does_steps width number (begins comes) it stage.first edges (length on))
       by_does does.Skip on edges below = none-holds on (step (kind.Text stage.first) [] number ∷ []) (text-plain number no_join (plain-so number) (split-so number) stage.first)
       by_does (does.Util inv) on edges below = util-holds number inv width (begins comes) edges on below
+
+      by_test : (groups : Bool) (on : List Made) (edges : List ℕ) → AllBelow (length on) edges
+          → Holds on (if groups then group_steps width number edges else does_steps width number (begins comes) stage.does stage.first edges (length on))
+      by_test true on edges below =
+          none-holds on (group_steps width number edges) (cats-plain number no_join (plain-so number) (split-so number) (groups_from width edges 0 width))
+      by_test false on edges below = by_does stage.does on edges below
 
   last-holds : Holds made (last_steps width number comes stage (length made))
   last-holds =

@@ -2,6 +2,7 @@ pub mod RowLemmas
 pub mod DrawingLemmas
 pub mod MeaningLemmas
 pub mod FitLemmas
+pub mod GroupLemmas
 pub mod ComingLemmas
 pub mod StageLemmas
 pub mod FoundLemmas
@@ -13,6 +14,7 @@ pub mod JoinLemmas
 pub mod HoldLemmas
 pub mod OutcomeLemmas
 pub mod StatusLemmas
+pub mod GroupedLemmas
 pub mod ChainLemmas
 pub mod AddLemmas
 pub mod NotedLemmas

@@ -1,11 +1,15 @@
 -- What the graph of a segment leaves is what the segment means.
-use Rattle.std.proofs.Common.{◌≡◌, ℕ, suc, ◌+◌, ◌<◌, ◌≤◌, ◌==◌, ◌⊎◌, inl, inr, List, [], ◌∷◌, ◌++◌, Bool, true, false, not, ◌&&◌, ◌||◌, if◌then◌else◌, drop, get_or, length, map, nat_lt, refl, ap, sym, subst, ◌∙◌, append-nil, length-append, arith}
+use Rattle.std.proofs.Common.{◌≡◌, ℕ, zero, suc, ◌+◌, ◌-◌, ◌<◌, ◌≤◌, ◌==◌, ◌⊎◌, inl, inr, List, [], ◌∷◌, ◌++◌, Bool, true, false, not, ◌&&◌, ◌||◌, if◌then◌else◌, drop, take, get_or, length, map, nat_lt, refl, ap, sym, subst, ◌∙◌, append-nil, length-append, arith}
 use Rattle.std.specs.List.{concat, flat_map, list_all, list_any, range_with_len}
-use Rattle.std.proofs.lemmas.Bool.{true≢false, and_parts, eq-eqb, leb-true, lt-ltb, ltb-true, ne_eqb}
+use Rattle.std.proofs.lemmas.Bool.{true≢false, and_from, and_parts, eq-eqb, leb-true, lt-ltb, ltb-true, ne_eqb}
 use Rattle.std.proofs.lemmas.Grind.{flat_map-append}
-use Rattle.ps_lines.specs.Lines.{is_cutlist, is_empty}
+use Rattle.std.proofs.lemmas.List.{length-map, take-map}
+use Rattle.std.proofs.lemmas.List.Folds.{concat-append, list_all-map}
+use Rattle.std.proofs.lemmas.List.{length-map}
+use Rattle.ps_lines.specs.Lines.{is_closed, is_cutlist, is_empty}
 use Rattle.ps_world.specs.Paths.{Components}
 use Rattle.ps_world.specs.declared.tree.Mode.{Mode}
+use Rattle.ut_args.specs.Built.{is_built_of}
 use Rattle.ut_args.specs.Classes.{class_of, keeps_closed_of}
 use Rattle.ut_args.specs.declared.classes.Class.{Class}
 use Rattle.ut_args.specs.declared.classes.Class.TheVariants as class
@@ -13,6 +17,7 @@ use Rattle.ut_args.specs.declared.classes.Seam.TheVariants as seam
 use Rattle.ut_args.specs.declared.invocations.Inv.{Inv}
 use Rattle.ut_args.specs.declared.invocations.Inv.TheVariants as inv
 use Rattle.ut_args.specs.declared.invocations.CatInv.{CatInv}
+use Rattle.ut_args.specs.declared.invocations.TeeInv.{TeeInv}
 use Rattle.fl_graph.specs.declared.kinds.NodeKind.{NodeKind}
 use Rattle.fl_graph.specs.declared.kinds.NodeKind.TheVariants as kind
 use Rattle.fl_graph.specs.declared.kinds.To.TheVariants as to
@@ -25,10 +30,10 @@ use Rattle.fl_classes.specs.Utilities.{labelled, names_of, output_of}
 use Rattle.fl_classes.proofs.ClassLemmas.{is-of-class, keeps-closed, or-none}
 use Rattle.fl_classes.proofs.CutLemmas.{maps-cut, over_lines}
 use Rattle.fl_classes.proofs.PartLemmas.{parts_of-count, parts-cut, parts-joined}
-use Rattle.fl_segments.specs.Chains.{begins_with, chain_means, files_teed, joined_text, joined_texts, led_on, led_to_file, output_by, stage_means, status_by, text_in, texts_read}
+use Rattle.fl_segments.specs.Chains.{begins_with, chain_means, files_teed, joined_text, joined_texts, led_on, led_to_file, output_by, stage_means, status_by, tee_mode, text_in, texts_read}
 use Rattle.fl_segments.specs.Stages.{closes_before, ins_read, is_none, is_reader, is_spread, is_stage, is_stream, joins_before, may_spread, read_of, has_finish}
 use Rattle.fl_segments.specs.Inner.Drawing.{Step, step, behind, split_step}
-use Rattle.fl_segments.specs.Inner.Steps.{begins, chain_steps, comes_behind, comes_cut, comes_on, does_parts, does_steps, done_next, done_parts, done_steps, drain_steps, each_ended, earlier_steps, end_edge, end_next, first_parts, first_steps, front_edges, front_next, front_steps, goes_steps, hands_on, in_edges, in_steps, input_edges, input_steps, is_leading_cat, is_next, join_steps, joined_edges, kind_first, kind_in, last_steps, main_parts, main_steps, map_steps, on_steps, one_part, out_steps, parts_on, piped_steps, read_edges, read_steps, split_cut, split_edges, split_steps, spread_parts, spread_steps, stands, takes_any, takes_parts, util_parts, util_steps, whole_edge, whole_steps, Tree, finish_edge, finish_steps, fold_parts, fold_steps, mapped_parts, mapped_steps, tree_of, tree_steps, folded_steps, folded_edge, tree_edge, tree_over}
+use Rattle.fl_segments.specs.Inner.Steps.{begins, beside_parts, beside_steps, cat_steps, chain_steps, comes_behind, comes_cut, comes_on, does_parts, does_steps, done_next, done_parts, done_steps, drain_steps, each_ended, earlier_steps, end_edge, end_next, files_parts, files_steps, first_parts, first_steps, front_edges, front_next, front_steps, goes_steps, group_parts, group_steps, groups_from, hands_on, in_edges, in_steps, input_edges, input_steps, is_leading_cat, is_next, join_steps, joined_edges, kind_first, kind_in, last_steps, main_parts, main_steps, map_steps, on_steps, one_part, out_steps, parts_on, piped_steps, read_edges, read_steps, split_cut, split_edges, split_steps, spread_parts, spread_steps, stands, takes_any, takes_parts, tee_edge, tee_steps, teed_parts, teed_steps, util_parts, util_steps, whole_edge, whole_steps, Tree, finish_edge, finish_steps, fold_parts, fold_steps, mapped_parts, mapped_steps, tree_of, tree_steps, folded_steps, folded_edge, tree_edge, tree_over, stage_parts, stage_steps}
 use Rattle.fl_segments.specs.declared.parts.Coming.{Coming}
 use Rattle.fl_segments.specs.declared.parts.Coming.TheVariants as coming
 use Rattle.fl_segments.specs.declared.parts.Parts.{Parts}
@@ -42,11 +47,13 @@ use Rattle.fl_segments.specs.declared.stages.Out.{Out}
 use Rattle.fl_segments.specs.declared.stages.Out.TheVariants as out
 use Rattle.fl_segments.specs.declared.stages.Stage.{Stage}
 use Rattle.fl_segments.proofs.ComingLemmas.{IsSingle, IsTaken, MayCome, goes-may, lone-edges, lone-steps, same-util, taken-of}
-use Rattle.fl_segments.proofs.FitLemmas.{Fits, few-streams, no-tees, parts-of}
-use Rattle.fl_segments.proofs.FoundLemmas.{main-all, of-kinds}
+use Rattle.fl_segments.proofs.FitLemmas.{Fits, few-streams, parts-of}
+use Rattle.fl_segments.specs.Groups.{group_start, holds_mark, is_grouped, is_marked}
+use Rattle.fl_segments.proofs.GroupLemmas.{GoesInGroups, grouped-so, groups-count, groups-cut, groups-joined, later-whole}
+use Rattle.fl_segments.proofs.FoundLemmas.{Pass, begins-behind, done-all, first-all, front-all, of-kinds}
 use Rattle.fl_segments.proofs.MeaningLemmas.{ins_texts, keeps-text, fitted, fitted-count, fitted-same, text_at, texts_behind, texts_on, texts-count, told_from, texts-append, told-append}
 use Rattle.fl_segments.proofs.RowLemmas.{get-front, get-here, map-both, row-texts, put-is, put_behind}
-use Rattle.fl_segments.proofs.StageLemmas.{AllBelow, all-more, behind-more, does-passes, does-some, earlier-passes, front-passes, input-passes, main-some, open_coming, spread-class, spread-one, spread-wide, split-count, split-passes, whole-passes, leaves, leaves-are, mapped-passes, mapped-some}
+use Rattle.fl_segments.proofs.StageLemmas.{AllBelow, all-more, all-parts, behind-more, does-passes, does-some, earlier-passes, files-passes, files-some, front-passes, input-passes, main-some, open_coming, spread-class, spread-one, spread-wide, split-count, split-passes, whole-passes, leaves, leaves-are, mapped-passes, mapped-some}
 use Rattle.fl_segments.proofs.FoldLemmas.{tree-text}
 use Rattle.fl_segments.proofs.FinishLemmas.{finish-none}
 use Rattle.fl_graph.specs.Kinds.{has_aggregator}
@@ -143,6 +150,23 @@ carries-one texts edge text is = record { whole = append-nil (text_at texts edge
 carries-same : (texts : List (List ℕ)) (parts : Parts) (one other : List ℕ) → one ≡ other → Carries texts parts one → Carries texts parts other
 carries-same texts parts one other same carries = record { whole = carries.whole ∙ same; is_cut = carries.is_cut }
 
+-- THE TEXTS OF GROUPS
+groups-texts : (at : ℕ → List ℕ) (groups : List (List ℕ)) → concat (map (λ group. concat (map at group)) groups) ≡ concat (map at (concat groups))
+groups-texts at [] = refl
+groups-texts at (edges ∷ groups) =
+    ap (λ (rest : List ℕ). concat (map at edges) ++ rest) (groups-texts at groups)
+    ∙ sym (ap concat (map-both at edges (concat groups)) ∙ concat-append (map at edges) (map at (concat groups)))
+
+-- edges whose texts are those of inputs, and so many of the first
+closed-front : (at : ℕ → List ℕ) (text : In → List ℕ) (edges : List ℕ) (ins : List In) (count : ℕ → ℕ) → map at edges ≡ map text ins
+    → ((count : ℕ) → list_all is_marked (take count ins) ≡ true → list_all is_closed (map text (take count ins)) ≡ true)
+    → list_all is_marked (take (count (length ins)) ins) ≡ true → list_all (λ edge. is_closed (at edge)) (take (count (length edges)) edges) ≡ true
+closed-front at text edges ins count are closed marked =
+    let same : length edges ≡ length ins = sym (length-map edges at) ∙ ap length are ∙ length-map ins text in
+    ap (λ (size : ℕ). list_all (λ edge. is_closed (at edge)) (take (count size) edges)) same
+    ∙ sym (list_all-map is_closed at (take (count (length ins)) edges)) ∙ ap (list_all is_closed) (sym (take-map at (count (length ins)) edges) ∙ ap (take (count (length ins))) are ∙ take-map text (count (length ins)) ins)
+    ∙ closed (count (length ins)) marked
+
 module _ (input : List ℕ) (files : Components → List ℕ) where
   -- edges that are open behind nodes have their texts there
   pub below-texts : (texts : List (List ℕ)) (steps : List Step) (edges : List ℕ) → AllBelow (behind (length texts) steps) edges → AllBelow (length (texts_behind input files texts steps)) edges
@@ -167,6 +191,10 @@ module _ (input : List ℕ) (files : Components → List ℕ) where
   ComesCut (coming.Begins begin) texts = Unit {0}
   ComesCut (coming.On parts) texts = parts.cut ≡ true → is_cutlist (map (text_at texts) parts.edges) ≡ true
   ComesCut coming.Nothing texts = Unit {0}
+
+  -- and the files of a cat that goes in groups are closed where they are marked so
+  abbrev pub Ready : ℕ → Coming → Stage → List (List ℕ) → Type 0
+  Ready width comes stage texts = ComesCut comes texts × (is_grouped width (begins comes) stage.does stage.ins ≡ true → list_all (holds_mark files) stage.ins ≡ true)
 
   stream-keeps : (comes : Coming) (texts : List (List ℕ)) (steps : List Step) → AllBelow (length texts) (open_coming comes) → stream_text comes (texts_behind input files texts steps) ≡ stream_text comes texts
   stream-keeps (coming.Begins begin) texts steps all = refl
@@ -296,6 +324,63 @@ module _ (input : List ℕ) (files : Components → List ℕ) where
       let all : List ℕ = edge ∷ other ∷ edges in
       ap (λ (many : Bool). text_at (texts_behind input files texts (if many then step (kind.Cat false) all number ∷ [] else [])) (if many then length texts else get_or all 0 (length texts)))
       (lt-ltb 1 (length all) (omega arith)) ∙ get-here texts [] (concat (map (text_at texts) all)) []
+
+  -- GROUPS OF FILES
+  groups-keep : (texts : List (List ℕ)) (steps : List Step) (groups : List (List ℕ)) → AllBelow (length texts) (concat groups)
+      → map (λ group. concat (map (text_at (texts_behind input files texts steps)) group)) groups ≡ map (λ group. concat (map (text_at texts) group)) groups
+  groups-keep texts steps [] all = refl
+  groups-keep texts steps (edges ∷ groups) all =
+      let parts = all-parts (length texts) edges (concat groups) all in
+      ap (λ (first : List (List ℕ)). concat first ∷ map (λ group. concat (map (text_at (texts_behind input files texts steps)) group)) groups) (edges-keep texts steps edges parts.0)
+      ∙ ap (λ (rest : List (List ℕ)). concat (map (text_at texts) edges) ∷ rest) (groups-keep texts steps groups parts.1)
+
+  cats-texts : (number : ℕ) (groups : List (List ℕ)) (texts : List (List ℕ)) → AllBelow (length texts) (concat groups)
+      → map (text_at (texts_behind input files texts (cat_steps number groups))) (range_with_len (length texts) (length groups)) ≡ map (λ group. concat (map (text_at texts) group)) groups
+  cats-texts number [] texts all = refl
+  cats-texts number (edges ∷ groups) texts all =
+      let parts = all-parts (length texts) edges (concat groups) all in
+      let it : Step = step (kind.Cat false) edges number in
+      let text : List ℕ = concat (map (text_at texts) edges) in
+      let on : List (List ℕ) = texts ++ text ∷ [] in
+      let rest : List Step = cat_steps number groups in
+      let last : List (List ℕ) = texts_behind input files on rest in
+      let size : length on ≡ length texts + 1 = length-append texts (text ∷ []) in
+      ap (λ (first : List ℕ). first ∷ map (text_at last) (range_with_len (length texts + 1) (length groups)))
+      (keeps-text input files on rest (length texts) (omega (arith, size)) ∙ get-here texts [] text [])
+      ∙ ap (λ (from : ℕ). text ∷ map (text_at last) (range_with_len from (length groups))) (sym size)
+      ∙ ap (λ (others : List (List ℕ)). text ∷ others)
+      (cats-texts number groups on (all-more (length texts) (length on) (omega (arith, size)) (concat groups) parts.1)
+      ∙ groups-keep texts (it ∷ []) groups parts.1)
+
+  -- the groups are cut where the files that are marked closed are so
+  groups-carry : (width number : ℕ) (stream : List ℕ) (ins : List In) (edges : List ℕ) (texts : List (List ℕ)) → 2 ≤ width → list_all is_marked (take (group_start width (length ins) (width - 1)) ins) ≡ true
+      → list_all (holds_mark files) ins ≡ true → AllBelow (length texts) edges → map (text_at texts) edges ≡ map (text_in stream files) ins
+      → Carries (texts_behind input files texts (group_steps width number edges)) (group_parts width (length texts)) (concat (map (text_in stream files) ins))
+  groups-carry width number stream ins edges texts wide marked marks all are =
+      let groups : List (List ℕ) = groups_from width edges 0 width in
+      let last : List (List ℕ) = texts_behind input files texts (cat_steps number groups) in
+      let some : 0 < width = omega (arith, wide) in
+      let whole : concat groups ≡ edges = groups-joined width edges some in
+      let row : map (text_at last) (range_with_len (length texts) width) ≡ map (λ group. concat (map (text_at texts) group)) groups =
+      ap (λ (count : ℕ). map (text_at last) (range_with_len (length texts) count)) (sym (groups-count width edges 0 width))
+      ∙ cats-texts number groups texts (subst (AllBelow (length texts)) (sym whole) all) in
+      let closed : list_all (λ (edge : ℕ). is_closed (text_at texts edge)) (take (group_start width (length edges) (width - 1)) edges) ≡ true =
+      closed-front (text_at texts) (text_in stream files) edges ins (λ (count : ℕ). group_start width count (width - 1)) are (λ count. marked-closed stream count ins marks) marked in
+      record {
+        whole = ap concat row ∙ groups-texts (text_at texts) groups ∙ ap (λ (edges : List ℕ). concat (map (text_at texts) edges)) whole ∙ ap concat are;
+        is_cut = λ cut. (ap is_cutlist row ∙ groups-cut width edges some (text_at texts) closed);
+      }
+    where
+      marked-closed : (stream : List ℕ) (count : ℕ) (ins : List In) → list_all (holds_mark files) ins ≡ true → list_all is_marked (take count ins) ≡ true
+          → list_all is_closed (map (text_in stream files) (take count ins)) ≡ true
+      marked-closed stream zero ins marks marked = refl
+      marked-closed stream (suc count) [] marks marked = refl
+      marked-closed stream (suc count) (inlet.File path true ∷ ins) marks marked =
+          let parts = and_parts (is_closed (files path)) (list_all (holds_mark files) ins) marks in
+          and_from (is_closed (files path)) (list_all is_closed (map (text_in stream files) (take count ins))) parts.0 (marked-closed stream count ins parts.1 marked)
+      marked-closed stream (suc count) (inlet.File path false ∷ ins) marks marked = absurd (true≢false (sym marked))
+      marked-closed stream (suc count) (inlet.Stream ∷ ins) marks marked = absurd (true≢false (sym marked))
+      marked-closed stream (suc count) (inlet.Empty ∷ ins) marks marked = absurd (true≢false (sym marked))
 
   -- A UTILITY THAT IS SPREAD
   -- the maps of what is on edges
@@ -530,6 +615,61 @@ module _ (input : List ℕ) (files : Components → List ℕ) where
             is_cut = λ cut. absurd (true≢false (sym cut));
           }
 
+  -- the files of tee get it whole, and hand it on
+  tee-text : (number : ℕ) (mode : Mode) (paths : List Components) (edge : ℕ) (texts : List (List ℕ)) → edge < length texts
+      → text_at (texts_behind input files texts (tee_steps number mode paths edge (length texts))) (tee_edge paths edge (length texts)) ≡ text_at texts edge
+  tee-text number mode [] edge texts less = refl
+  tee-text number mode (path ∷ paths) edge texts less =
+      let on : List (List ℕ) = texts ++ text_at texts edge ∷ [] in
+      let size : length on ≡ length texts + 1 = length-append texts (text_at texts edge ∷ []) in
+      ap (λ (from : ℕ). text_at (texts_behind input files on (tee_steps number mode paths (length texts) from)) (tee_edge paths (length texts) from)) (sym size)
+      ∙ tee-text number mode paths (length texts) on (omega (arith, size)) ∙ get-here texts [] (text_at texts edge) []
+
+  -- the edge on which they get it
+  whole-below : (number : ℕ) (edges : List ℕ) (texts : List (List ℕ)) → 1 ≤ length edges → AllBelow (length texts) edges
+      → whole_edge edges (length texts) < length (texts_behind input files texts (whole_steps number edges))
+  whole-below number edges texts some all =
+      let wholes : List Step = whole_steps number edges in
+      let edge : ℕ = whole_edge edges (length texts) in
+      one-below edge (length (texts_behind input files texts wholes)) (below-texts texts wholes (edge ∷ []) ((whole-passes number edges (length texts) some).within all))
+
+  teed-carries : (number : ℕ) (mode : Mode) (paths : List Components) (written : List ℕ) (parts : Parts) (texts : List (List ℕ)) → 1 ≤ length parts.edges → AllBelow (length texts) parts.edges → Carries texts parts written
+      → Carries (texts_behind input files texts (teed_steps number mode paths parts.edges (length texts))) (teed_parts number paths parts (length texts)) written
+  teed-carries number mode [] written parts texts some all carries = carries
+  teed-carries number mode (path ∷ paths) written parts texts some all carries =
+      let all_paths : List Components = path ∷ paths in
+      let wholes : List Step = whole_steps number parts.edges in
+      let edge : ℕ = whole_edge parts.edges (length texts) in
+      let on : List (List ℕ) = texts_behind input files texts wholes in
+      let size : length on ≡ behind (length texts) wholes = texts-count input files texts wholes in
+      let there : ℕ = behind (length texts) wholes in
+      let tees : ℕ → List Step = tee_steps number mode all_paths edge in
+      carries-one (texts_behind input files texts (wholes ++ tees there)) (tee_edge all_paths edge there) written
+      (ap (λ (final : List (List ℕ)). text_at final (tee_edge all_paths edge there)) (texts-append input files texts wholes (tees there))
+      ∙ ap (λ (from : ℕ). text_at (texts_behind input files on (tees from)) (tee_edge all_paths edge from)) (sym size)
+      ∙ tee-text number mode all_paths edge on (whole-below number parts.edges texts some all)
+      ∙ whole-text number parts.edges texts some ∙ carries.whole)
+
+  files-carries : (number : ℕ) (it : Does) (paths : List Components) (written : List ℕ) (parts : Parts) (texts : List (List ℕ)) → 1 ≤ length parts.edges → AllBelow (length texts) parts.edges → Carries texts parts written
+      → Carries (texts_behind input files texts (files_steps number it paths parts.edges (length texts))) (files_parts number it paths parts (length texts)) written
+  files-carries number does.Skip paths written parts texts some all carries = carries
+  files-carries number (does.Util inv) paths written parts texts some all carries = teed-carries number (tee_mode inv) paths written parts texts some all carries
+
+  -- both
+  beside-carries : (number : ℕ) (it : Does) (paths : List Components) (text written : List ℕ) (parts : Parts) (texts : List (List ℕ)) → 1 ≤ length parts.edges → AllBelow (length texts) parts.edges → Carries texts parts written
+      → Carries (texts_behind input files texts (beside_steps number it paths text parts (length texts))) (beside_parts number it paths text parts (length texts)) (all_text it text written)
+  beside-carries number it paths text written parts texts some all carries =
+      let teed : List Step = files_steps number it paths parts.edges (length texts) in
+      let given : Parts = files_parts number it paths parts (length texts) in
+      let firsts : List Step = first_steps number it text given.edges in
+      let on : List (List ℕ) = texts_behind input files texts teed in
+      let size : length on ≡ behind (length texts) teed = texts-count input files texts teed in
+      subst (λ (final : List (List ℕ)). Carries final (beside_parts number it paths text parts (length texts)) (all_text it text written)) (sym (texts-append input files texts teed firsts))
+      (subst (λ (from : ℕ). Carries (texts_behind input files on firsts) (first_parts number it text given from) (all_text it text written)) size
+      (first-carries number it text written given on (files-some number it paths parts (length texts) some)
+      (below-texts texts teed given.edges ((files-passes number it paths parts (length texts) some).within all))
+      (files-carries number it paths written parts texts some all carries)))
+
   abbrev done_text : Does → List ℕ → List (List ℕ) → List ℕ
   done_text does.Skip text reads = text
   done_text (does.Util inv) text reads = output_of inv (texts_read inv reads)
@@ -538,7 +678,7 @@ module _ (input : List ℕ) (files : Components → List ℕ) where
   written-is does.Skip text reads = sym (append-nil text)
   written-is (does.Util inv) text reads = refl
 
-  module _ (width number : ℕ) (comes : Coming) (stage : Stage) (texts : List (List ℕ)) (is : is_stage stage ≡ true) (may : MayCome width comes stage) (all : AllBelow (length texts) (open_coming comes)) (cut : ComesCut comes texts) where
+  module _ (width number : ℕ) (comes : Coming) (stage : Stage) (texts : List (List ℕ)) (is : is_stage stage ≡ true) (may : MayCome width comes stage) (all : AllBelow (length texts) (open_coming comes)) (cut : Ready width comes stage texts) where
     abbrev next_edge : ℕ
     next_edge = length texts
 
@@ -565,7 +705,7 @@ module _ (input : List ℕ) (files : Components → List ℕ) where
     front-reads inv same = by_comes comes refl may
       where
         fits : Fits inv stage
-        fits = (parts-of stage is inv same).0
+        fits = parts-of stage is inv same
 
         by_single : IsSingle comes → FrontReads width (begins comes) inv ins_texts_read fronts (front_edges number comes stage next_edge) (comes_cut comes)
         by_single single =
@@ -589,7 +729,7 @@ module _ (input : List ℕ) (files : Components → List ℕ) where
               record {
                 whole = ap concat are ∙ sym (ap (λ (it : Coming). stream_text it texts) so);
                 may = ap (λ (cut : Bool). cut || takes_any (class_of inv)) cut_is ∙ ap (λ (inv : Inv). parts.cut || takes_any (class_of inv)) (sym runs) ∙ it.may;
-                is_cut = λ cut_so. (ap is_cutlist are ∙ subst (λ (it : Coming). ComesCut it texts) so cut (sym cut_is ∙ cut_so));
+                is_cut = λ cut_so. (ap is_cutlist are ∙ subst (λ (it : Coming). ComesCut it texts) so cut.0 (sym cut_is ∙ cut_so));
               },
             ))
 
@@ -599,9 +739,9 @@ module _ (input : List ℕ) (files : Components → List ℕ) where
         by_comes (coming.On parts) so (inr takes) = let it : IsTaken width parts stage = taken-of width parts stage takes in by_taken parts so it (same-util it.inv inv (sym it.runs ∙ same))
         by_comes coming.Nothing so may = by_single (subst IsSingle (sym so) tt)
 
-    done-carries : Carries (texts_behind input files fronts (does_steps width number (begins comes) stage.does stage.first (front_edges number comes stage next_edge) (length fronts)))
-        (does_parts width number (begins comes) stage.does taken (length fronts)) (done_text stage.does stage.first ins_texts_read)
-    done-carries = by_does stage.does refl
+    done-carries : Carries (texts_behind input files fronts (stage_steps width number (begins comes) stage.does stage.ins stage.first (front_edges number comes stage next_edge) (length fronts)))
+        (stage_parts width number (begins comes) stage.does stage.ins taken (length fronts)) (done_text stage.does stage.first ins_texts_read)
+    done-carries = by_test (is_grouped width (begins comes) stage.does stage.ins) refl
       where
         by_does : (it : Does) → stage.does ≡ it
             → Carries (texts_behind input files fronts (does_steps width number (begins comes) it stage.first (front_edges number comes stage next_edge) (length fronts)))
@@ -609,26 +749,53 @@ module _ (input : List ℕ) (files : Components → List ℕ) where
         by_does does.Skip same = carries-one (fronts ++ stage.first ∷ []) (length fronts) stage.first (get-here fronts [] stage.first [])
         by_does (does.Util inv) same = util-carries width number (begins comes) inv taken fronts ins_texts_read fronts-below (front-reads inv same)
 
+        by_groups : GoesInGroups width (begins comes) stage.does stage.ins → list_all (holds_mark files) stage.ins ≡ true
+            → Carries (texts_behind input files fronts (group_steps width number (front_edges number comes stage next_edge))) (group_parts width (length fronts)) (done_text stage.does stage.first ins_texts_read)
+        by_groups so marks =
+            let is_led = and_parts (is_cat so.inv) (begins comes) so.cat in
+            carries-same (texts_behind input files fronts (group_steps width number (front_edges number comes stage next_edge))) (group_parts width (length fronts)) (concat ins_texts_read)
+            (done_text stage.does stage.first ins_texts_read)
+            (cat-joined so.inv is_led.0 ins_texts_read ∙ sym (ap (λ (it : Does). done_text it stage.first ins_texts_read) so.runs))
+            (groups-carry width number (stream_text comes texts) stage.ins (front_edges number comes stage next_edge) fronts so.wide so.marked marks fronts-below ((front-reads so.inv so.runs).led so.cat))
+
+        by_test : (groups : Bool) → is_grouped width (begins comes) stage.does stage.ins ≡ groups
+            → Carries
+            (texts_behind input files fronts (if groups then group_steps width number (front_edges number comes stage next_edge) else does_steps width number (begins comes) stage.does stage.first (front_edges number comes stage next_edge) (length fronts)))
+            (if groups then group_parts width (length fronts) else does_parts width number (begins comes) stage.does taken (length fronts)) (done_text stage.does stage.first ins_texts_read)
+        by_test true so = by_groups (grouped-so width (begins comes) stage.does stage.ins so) (cut.1 so)
+        by_test false so = by_does stage.does refl
+
+    abbrev dones : List (List ℕ)
+    dones = texts_behind input files (texts_behind input files texts (front_steps number comes stage (length texts))) (done_steps width number comes stage (length texts))
+
+    dones-size : length dones ≡ done_next width number comes stage next_edge
+    dones-size = texts-count input files fronts (done_steps width number comes stage next_edge) ∙ ap (λ (from : ℕ). behind from (done_steps width number comes stage next_edge)) fronts-size
+
+    dones-below : AllBelow (length dones) (done_parts width number comes stage next_edge).edges
+    dones-below =
+        subst (λ (size : ℕ). AllBelow size (done_parts width number comes stage next_edge).edges) (sym dones-size) ((does-passes width number comes stage next_edge (few-streams stage is)).within front_below)
+
+    dones-carry : Carries dones (done_parts width number comes stage next_edge) (done_text stage.does stage.first ins_texts_read)
+    dones-carry =
+        subst
+        (λ (from : ℕ). Carries (texts_behind input files fronts (stage_steps width number (begins comes) stage.does stage.ins stage.first (front_edges number comes stage next_edge) from)) (stage_parts width number (begins comes) stage.does stage.ins taken from)
+        (done_text stage.does stage.first ins_texts_read)) fronts-size done-carries
+
     pub main-carries : Carries (texts_behind input files texts (main_steps width number comes stage (length texts))) (main_parts width number comes stage (length texts))
         (stage.first ++ output_by stage.does (map (text_in (stream_text comes texts) files) stage.ins))
     main-carries =
         let front : List Step = front_steps number comes stage next_edge in
         let done : List Step = done_steps width number comes stage next_edge in
         let parts : Parts = done_parts width number comes stage next_edge in
-        let firsts : List Step = first_steps number stage.does stage.first parts.edges in
-        let edges : List ℕ = front_edges number comes stage next_edge in
-        let two : List (List ℕ) = texts_behind input files fronts done in
-        let two_size : length two ≡ done_next width number comes stage next_edge = texts-count input files fronts done ∙ ap (λ (from : ℕ). behind from done) fronts-size in
-        let here : Carries two parts (done_text stage.does stage.first ins_texts_read) =
-        subst (λ (from : ℕ). Carries (texts_behind input files fronts (does_steps width number (begins comes) stage.does stage.first edges from)) (does_parts width number (begins comes) stage.does taken from) (done_text stage.does stage.first ins_texts_read))
-        fronts-size done-carries in
-        let below : AllBelow (length two) parts.edges = subst (λ (size : ℕ). AllBelow size parts.edges) (sym two_size) ((does-passes width number comes stage next_edge (few-streams stage is)).within front_below) in
+        let besides : ℕ → List Step = beside_steps number stage.does stage.tees stage.first parts in
+        let there : ℕ = done_next width number comes stage next_edge in
         carries-same (texts_behind input files texts (main_steps width number comes stage next_edge)) (main_parts width number comes stage next_edge) (all_text stage.does stage.first (done_text stage.does stage.first ins_texts_read))
         (stage.first ++ output_by stage.does ins_texts_read) (written-is stage.does stage.first ins_texts_read)
         (subst (λ (final : List (List ℕ)). Carries final (main_parts width number comes stage next_edge) (all_text stage.does stage.first (done_text stage.does stage.first ins_texts_read)))
-        (sym (texts-append input files texts front (done ++ firsts) ∙ texts-append input files fronts done firsts))
-        (subst (λ (from : ℕ). Carries (texts_behind input files two firsts) (first_parts number stage.does stage.first parts from) (all_text stage.does stage.first (done_text stage.does stage.first ins_texts_read))) two_size
-        (first-carries number stage.does stage.first (done_text stage.does stage.first ins_texts_read) parts two (does-some width number comes stage next_edge (few-streams stage is)) below here)))
+        (sym (texts-append input files texts front (done ++ besides there) ∙ texts-append input files fronts done (besides there)))
+        (subst
+        (λ (from : ℕ). Carries (texts_behind input files dones (besides from)) (beside_parts number stage.does stage.tees stage.first parts from) (all_text stage.does stage.first (done_text stage.does stage.first ins_texts_read))) dones-size
+        (beside-carries number stage.does stage.tees stage.first (done_text stage.does stage.first ins_texts_read) parts dones (does-some width number comes stage next_edge (few-streams stage is)) dones-below dones-carry)))
 
     -- and on one edge
     pub end-text : text_at (texts_behind input files (texts_behind input files texts (main_steps width number comes stage (length texts))) (whole_steps number (main_parts width number comes stage (length texts)).edges)) (end_edge width number comes stage (length texts))
@@ -662,10 +829,9 @@ module _ (input : List ℕ) (files : Components → List ℕ) where
       ap (λ (here : List Write). here ++ told_writes (texts_on input files texts it) steps) (writes-none it.kind (ins_texts texts it) parts.0)
       ∙ quiet-writes (texts_on input files texts it) steps parts.1
 
-  main-quiet : (width number : ℕ) (comes : Coming) (stage : Stage) (next : ℕ) → is_stage stage ≡ true → MayCome width comes stage → (texts : List (List ℕ)) → told_writes texts (main_steps width number comes stage next) ≡ []
-  main-quiet width number comes stage next is may texts =
-      quiet-writes texts (main_steps width number comes stage next)
-      (main-all width (λ kind ins outs. writes_nothing kind) (of-kinds width writes_nothing (λ text. refl) (λ close. refl) refl (λ source. refl) (λ inv built. refl) refl (λ inv built spread. refl) (λ inv built spread folds. refl) (λ inv built spread folds. refl)) number comes stage next is may)
+  nothing-passes : (width : ℕ) → Pass width (λ kind ins outs. writes_nothing kind)
+  nothing-passes width =
+      of-kinds width writes_nothing (λ text. refl) (λ close. refl) refl (λ source. refl) (λ inv built. refl) refl (λ inv built spread. refl) (λ inv built spread folds. refl) (λ inv built spread folds. refl)
 
   whole-quiet : (number : ℕ) (edges : List ℕ) (texts : List (List ℕ)) → told_writes texts (whole_steps number edges) ≡ []
   whole-quiet number edges texts = by_test (nat_lt 1 (length edges))
@@ -673,6 +839,134 @@ module _ (input : List ℕ) (files : Components → List ℕ) where
       by_test : (many : Bool) → told_writes texts (if many then step (kind.Cat false) edges number ∷ [] else []) ≡ []
       by_test true = refl
       by_test false = refl
+
+  -- the files of tee get what is on the edge
+  abbrev tee_writes : Mode → List Components → List ℕ → List Write
+  tee_writes mode [] text = []
+  tee_writes mode (path ∷ paths) text = ToFile path mode text ∷ tee_writes mode paths text
+
+  abbrev files_writes : Does → List Components → List ℕ → List Write
+  files_writes does.Skip paths text = []
+  files_writes (does.Util inv) paths text = tee_writes (tee_mode inv) paths text
+
+  tee-writes : (number : ℕ) (mode : Mode) (paths : List Components) (edge : ℕ) (texts : List (List ℕ)) → edge < length texts
+      → told_writes texts (tee_steps number mode paths edge (length texts)) ≡ tee_writes mode paths (text_at texts edge)
+  tee-writes number mode [] edge texts less = refl
+  tee-writes number mode (path ∷ paths) edge texts less =
+      let on : List (List ℕ) = texts ++ text_at texts edge ∷ [] in
+      let size : length on ≡ length texts + 1 = length-append texts (text_at texts edge ∷ []) in
+      ap (λ (rest : List Write). ToFile path mode (text_at texts edge) ∷ rest)
+      (ap (λ (from : ℕ). told_writes on (tee_steps number mode paths (length texts) from)) (sym size)
+      ∙ tee-writes number mode paths (length texts) on (omega (arith, size))
+      ∙ ap (tee_writes mode paths) (get-here texts [] (text_at texts edge) []))
+
+  teed-writes : (number : ℕ) (mode : Mode) (paths : List Components) (written : List ℕ) (parts : Parts) (texts : List (List ℕ)) → 1 ≤ length parts.edges → AllBelow (length texts) parts.edges → Carries texts parts written
+      → told_writes texts (teed_steps number mode paths parts.edges (length texts)) ≡ tee_writes mode paths written
+  teed-writes number mode [] written parts texts some all carries = refl
+  teed-writes number mode (path ∷ paths) written parts texts some all carries =
+      let all_paths : List Components = path ∷ paths in
+      let wholes : List Step = whole_steps number parts.edges in
+      let edge : ℕ = whole_edge parts.edges (length texts) in
+      let on : List (List ℕ) = texts_behind input files texts wholes in
+      let tees : ℕ → List Step = tee_steps number mode all_paths edge in
+      told-append input files writes_of texts wholes (tees (behind (length texts) wholes))
+      ∙ ap (λ (quiet : List Write). quiet ++ told_writes on (tees (behind (length texts) wholes))) (whole-quiet number parts.edges texts)
+      ∙ ap (λ (from : ℕ). told_writes on (tees from)) (sym (texts-count input files texts wholes))
+      ∙ tee-writes number mode all_paths edge on (whole-below number parts.edges texts some all)
+      ∙ ap (tee_writes mode all_paths) (whole-text number parts.edges texts some ∙ carries.whole)
+
+  files-writes : (number : ℕ) (it : Does) (paths : List Components) (written : List ℕ) (parts : Parts) (texts : List (List ℕ)) → 1 ≤ length parts.edges → AllBelow (length texts) parts.edges → Carries texts parts written
+      → told_writes texts (files_steps number it paths parts.edges (length texts)) ≡ files_writes it paths written
+  files-writes number does.Skip paths written parts texts some all carries = refl
+  files-writes number (does.Util inv) paths written parts texts some all carries = teed-writes number (tee_mode inv) paths written parts texts some all carries
+
+  -- and what comes first writes nothing
+  beside-writes : (width number : ℕ) (it : Does) (paths : List Components) (text written : List ℕ) (parts : Parts) (texts : List (List ℕ)) → 1 ≤ length parts.edges → AllBelow (length texts) parts.edges → Carries texts parts written
+      → told_writes texts (beside_steps number it paths text parts (length texts)) ≡ files_writes it paths written
+  beside-writes width number it paths text written parts texts some all carries =
+      let teed : List Step = files_steps number it paths parts.edges (length texts) in
+      let edges : List ℕ = (files_parts number it paths parts (length texts)).edges in
+      told-append input files writes_of texts teed (first_steps number it text edges)
+      ∙ ap (λ (quiet : List Write). told_writes texts teed ++ quiet)
+      (quiet-writes (texts_behind input files texts teed) (first_steps number it text edges) (first-all width (λ kind ins outs. writes_nothing kind) (nothing-passes width) number it text edges))
+      ∙ append-nil (told_writes texts teed) ∙ files-writes number it paths written parts texts some all carries
+
+  tee-output : (mode : Mode) (paths : List Components) (text : List ℕ) → flat_map to_output (tee_writes mode paths text) ≡ []
+  tee-output mode [] text = refl
+  tee-output mode (path ∷ paths) text = tee-output mode paths text
+
+  files-output : (it : Does) (paths : List Components) (text : List ℕ) → flat_map to_output (files_writes it paths text) ≡ []
+  files-output does.Skip paths text = refl
+  files-output (does.Util inv) paths text = tee-output (tee_mode inv) paths text
+
+  tee-files : (mode : Mode) (paths : List Components) (text : List ℕ) → flat_map to_file (tee_writes mode paths text) ≡ map (λ path. (path, (mode, text))) paths
+  tee-files mode [] text = refl
+  tee-files mode (path ∷ paths) text = ap (λ (rest : List (Components × (Mode × List ℕ))). (path, (mode, text)) ∷ rest) (tee-files mode paths text)
+
+  -- a tee that is built writes its input
+  tee-writes-input : (tee : TeeInv) (texts : List (List ℕ)) → is_built_of (inv.Tee tee) ≡ true → length texts ≡ 1 → output_of (inv.Tee tee) texts ≡ only texts
+  tee-writes-input tee [] built one = absurd (omega (arith, one))
+  tee-writes-input tee (text ∷ other ∷ texts) built one = absurd (omega (arith, one))
+  tee-writes-input tee (text ∷ []) built one = by_built (is_built_of (inv.Tee tee)) built
+    where
+      by_built : (is_built : Bool) → is_built ≡ true → (if is_built then text ++ [] else []) ≡ text
+      by_built true built = append-nil text
+      by_built false built = absurd (true≢false (sym built))
+
+  abbrev teed_by : Inv → List ℕ → List Components → List (Components × (Mode × List ℕ))
+  teed_by inv text paths = map (λ path. (path, (tee_mode inv, text))) paths
+
+  gets-input : (stage : Stage) (texts : List (List ℕ)) → length texts ≡ length stage.ins → (inv : Inv) → Fits inv stage → (paths : List Components) → stage.tees ≡ paths
+      → teed_by inv (output_of inv (texts_read inv texts)) paths ≡ teed_by inv (only (texts_read inv texts)) paths
+  gets-input stage texts many inv fits [] same = refl
+  gets-input stage texts many (inv.Tee tee) fits (path ∷ paths) same =
+      ap (λ (text : List ℕ). teed_by (inv.Tee tee) text (path ∷ paths)) (tee-writes-input tee texts fits.built (many ∙ sym fits.inputs))
+  gets-input stage texts many other fits (path ∷ paths) same = absurd (true≢false (sym fits.tees ∙ ap (λ (paths : List Components). is_none paths) same))
+
+  -- so the files of a stage get what it means that they do
+  teed-files : (stage : Stage) → is_stage stage ≡ true → (stream : List ℕ) → (it : Does) → stage.does ≡ it
+      → flat_map to_file (files_writes it stage.tees (done_text it stage.first (map (text_in stream files) stage.ins))) ≡ files_teed it stage.tees (map (text_in stream files) stage.ins)
+  teed-files stage is stream does.Skip same = refl
+  teed-files stage is stream (does.Util inv) same =
+      tee-files (tee_mode inv) stage.tees (output_of inv (texts_read inv (map (text_in stream files) stage.ins)))
+      ∙ gets-input stage (map (text_in stream files) stage.ins) (length-map stage.ins (text_in stream files)) inv (parts-of stage is inv same) stage.tees refl
+
+  -- what a stage writes up to where its output goes
+  abbrev main_writes : Stage → List ℕ → List Write
+  main_writes stage stream = files_writes stage.does stage.tees (done_text stage.does stage.first (map (text_in stream files) stage.ins))
+
+  main-told : (width number : ℕ) (comes : Coming) (stage : Stage) (texts : List (List ℕ)) → is_stage stage ≡ true → MayCome width comes stage → AllBelow (length texts) (open_coming comes) → Ready width comes stage texts
+      → told_writes texts (main_steps width number comes stage (length texts)) ≡ main_writes stage (stream_text comes texts)
+  main-told width number comes stage texts is may all cut =
+      let front : List Step = front_steps number comes stage (length texts) in
+      let done : List Step = done_steps width number comes stage (length texts) in
+      let parts : Parts = done_parts width number comes stage (length texts) in
+      let besides : ℕ → List Step = beside_steps number stage.does stage.tees stage.first parts in
+      let there : ℕ = done_next width number comes stage (length texts) in
+      let one : List (List ℕ) = texts_behind input files texts front in
+      let two : List (List ℕ) = texts_behind input files one done in
+      told-append input files writes_of texts front (done ++ besides there)
+      ∙ ap (λ (quiet : List Write). quiet ++ told_writes one (done ++ besides there))
+      (quiet-writes texts front (front-all width (λ kind ins outs. writes_nothing kind) (nothing-passes width) number comes stage (length texts) may))
+      ∙ told-append input files writes_of one done (besides there)
+      ∙ ap (λ (quiet : List Write). quiet ++ told_writes two (besides there))
+      (quiet-writes one done (done-all width (λ kind ins outs. writes_nothing kind) (nothing-passes width) number comes stage (length texts) is may))
+      ∙ ap (λ (from : ℕ). told_writes two (besides from)) (sym (dones-size width number comes stage texts is may all cut))
+      ∙ beside-writes width number stage.does stage.tees stage.first (done_text stage.does stage.first (map (text_in (stream_text comes texts) files) stage.ins)) parts two
+      (does-some width number comes stage (length texts) (few-streams stage is)) (dones-below width number comes stage texts is may all cut) (dones-carry width number comes stage texts is may all cut)
+
+  main-output : (stage : Stage) (stream : List ℕ) (others : List Write) → flat_map to_output (main_writes stage stream ++ others) ≡ flat_map to_output others
+  main-output stage stream others =
+      flat_map-append to_output (main_writes stage stream) others
+      ∙ ap (λ (text : List ℕ). text ++ flat_map to_output others) (files-output stage.does stage.tees (done_text stage.does stage.first (map (text_in stream files) stage.ins)))
+
+  stage-files : (stage : Stage) → is_stage stage ≡ true → (stream : List ℕ) (others : List Write)
+      → flat_map to_file others ≡ led_to_file stage.out (stage.first ++ output_by stage.does (map (text_in stream files) stage.ins))
+      → flat_map to_file (main_writes stage stream ++ others) ≡ (stage_means stage stream files).files
+  stage-files stage is stream others led =
+      flat_map-append to_file (main_writes stage stream) others
+      ∙ ap (λ (teed : List (Components × (Mode × List ℕ))). teed ++ flat_map to_file others) (teed-files stage is stream stage.does refl)
+      ∙ ap (λ (file : List (Components × (Mode × List ℕ))). files_teed stage.does stage.tees (map (text_in stream files) stage.ins) ++ file) led
 
   -- what is written where the output goes
   abbrev piped_writes : List ℕ → List Write
@@ -786,20 +1080,7 @@ module _ (input : List ℕ) (files : Components → List ℕ) where
   abbrev pub Leaves : List Write → Outcome → Type 0
   Leaves written means = (flat_map to_output written ≡ means.output) × (flat_map to_file written ≡ means.files)
 
-  none-teed : (it : Does) (texts : List (List ℕ)) → files_teed it [] texts ≡ []
-  none-teed does.Skip texts = refl
-  none-teed (does.Util inv) texts = refl
-
-  -- the files of a stage
-  stage-files : (stage : Stage) → is_stage stage ≡ true → (stream : List ℕ)
-      → led_to_file stage.out (stage.first ++ output_by stage.does (map (text_in stream files) stage.ins)) ≡ (stage_means stage stream files).files
-  stage-files stage is stream =
-      let texts : List (List ℕ) = map (text_in stream files) stage.ins in
-      let file : List (Components × (Mode × List ℕ)) = led_to_file stage.out (stage.first ++ output_by stage.does texts) in
-      ap (λ (teed : List (Components × (Mode × List ℕ))). teed ++ file) (sym (none-teed stage.does texts))
-      ∙ ap (λ (tees : List Components). files_teed stage.does tees texts ++ file) (sym (no-tees stage is))
-
-  pub last-told : (width number : ℕ) (comes : Coming) (stage : Stage) (texts : List (List ℕ)) (stream : List ℕ) → is_stage stage ≡ true → MayCome width comes stage → AllBelow (length texts) (open_coming comes) → ComesCut comes texts
+  pub last-told : (width number : ℕ) (comes : Coming) (stage : Stage) (texts : List (List ℕ)) (stream : List ℕ) → is_stage stage ≡ true → MayCome width comes stage → AllBelow (length texts) (open_coming comes) → Ready width comes stage texts
       → (is_reader stage ≡ true → stream_text comes texts ≡ stream) → Leaves (told_writes texts (last_steps width number comes stage (length texts))) (stage_means stage stream files)
   last-told width number comes stage texts stream is may all cut comes_so =
       let main : List Step = main_steps width number comes stage (length texts) in
@@ -812,17 +1093,19 @@ module _ (input : List ℕ) (files : Components → List ℕ) where
       let end : List (List ℕ) = texts_behind input files on wholes in
       let size : length end ≡ last = texts-count input files on wholes ∙ ap (λ (from : ℕ). behind from wholes) (texts-count input files texts main) in
       let written : List ℕ = stage.first ++ output_by stage.does (map (text_in here files) stage.ins) in
-      let told : told_writes texts (last_steps width number comes stage (length texts)) ≡ out_writes stage.out written stage.piped =
+      let out : List Write = out_writes stage.out written stage.piped in
+      let told : told_writes texts (last_steps width number comes stage (length texts)) ≡ main_writes stage here ++ out =
       told-append input files writes_of texts main (wholes ++ outs last)
-      ∙ ap (λ (quiet : List Write). quiet ++ told_writes on (wholes ++ outs last)) (main-quiet width number comes stage (length texts) is may texts)
-      ∙ told-append input files writes_of on wholes (outs last)
+      ∙ ap (λ (teed : List Write). teed ++ told_writes on (wholes ++ outs last)) (main-told width number comes stage texts is may all cut)
+      ∙ ap (λ (out : List Write). main_writes stage here ++ out)
+      (told-append input files writes_of on wholes (outs last)
       ∙ ap (λ (quiet : List Write). quiet ++ told_writes end (outs last)) (whole-quiet number (main_parts width number comes stage (length texts)).edges on)
       ∙ ap (λ (from : ℕ). told_writes end (outs from)) (sym size)
       ∙ out-writes number stage.out stage.piped edge end
-      ∙ ap (λ (text : List ℕ). out_writes stage.out text stage.piped) (end-text width number comes stage texts is may all cut) in
+      ∙ ap (λ (text : List ℕ). out_writes stage.out text stage.piped) (end-text width number comes stage texts is may all cut)) in
       let same : stage_means stage here files ≡ stage_means stage stream files = stage-same stage here stream comes_so in (
-        ap (flat_map to_output) told ∙ out-output stage.out written stage.piped ∙ ap (λ (means : Outcome). means.output) same,
-        ap (flat_map to_file) told ∙ out-files stage.out written stage.piped ∙ stage-files stage is here ∙ ap (λ (means : Outcome). means.files) same,
+        ap (flat_map to_output) told ∙ main-output stage here out ∙ out-output stage.out written stage.piped ∙ ap (λ (means : Outcome). means.output) same,
+        ap (flat_map to_file) told ∙ stage-files stage is here out (out-files stage.out written stage.piped) ∙ ap (λ (means : Outcome). means.files) same,
       )
 
   -- an earlier stage
@@ -836,7 +1119,7 @@ module _ (input : List ℕ) (files : Components → List ℕ) where
   next-led (out.File path mode) text piped is = absurd (true≢false (sym is))
   next-led out.Null text piped is = absurd (true≢false (sym is))
 
-  module _ (width number : ℕ) (comes : Coming) (stage following : Stage) (texts : List (List ℕ)) (is : is_stage stage ≡ true) (may : MayCome width comes stage) (all : AllBelow (length texts) (open_coming comes)) (cut : ComesCut comes texts) where
+  module _ (width number : ℕ) (comes : Coming) (stage following : Stage) (texts : List (List ℕ)) (is : is_stage stage ≡ true) (may : MayCome width comes stage) (all : AllBelow (length texts) (open_coming comes)) (cut : Ready width comes stage texts) where
     abbrev mains : List (List ℕ)
     mains = texts_behind input files texts (main_steps width number comes stage (length texts))
 
@@ -899,37 +1182,41 @@ module _ (input : List ℕ) (files : Components → List ℕ) where
     pub quiet : flat_map to_output (told_writes texts (earlier_steps width number comes stage (length texts) following)) ≡ []
     pub written : flat_map to_file (told_writes texts (earlier_steps width number comes stage (length texts) following)) ≡ (stage_means stage stream files).files
     pub below : AllBelow (length (texts_behind input files texts (earlier_steps width number comes stage (length texts) following))) (open_coming (comes_behind width number comes stage (length texts) following))
-    pub cut : ComesCut (comes_behind width number comes stage (length texts) following) (texts_behind input files texts (earlier_steps width number comes stage (length texts) following))
+    pub cut : Ready width (comes_behind width number comes stage (length texts) following) following (texts_behind input files texts (earlier_steps width number comes stage (length texts) following))
     pub goes_on : is_reader following ≡ true
         → stream_text (comes_behind width number comes stage (length texts) following) (texts_behind input files texts (earlier_steps width number comes stage (length texts) following)) ≡ (stage_means stage stream files).output
 
   pub earlier-goes : (width number : ℕ) (comes : Coming) (stage following : Stage) (texts : List (List ℕ)) (stream : List ℕ) → is_stage stage ≡ true → MayCome width comes stage → AllBelow (length texts) (open_coming comes)
-      → ComesCut comes texts → (is_reader stage ≡ true → stream_text comes texts ≡ stream) → Goes width number comes stage following texts stream
+      → Ready width comes stage texts → (is_reader stage ≡ true → stream_text comes texts ≡ stream) → Goes width number comes stage following texts stream
   earlier-goes width number comes stage following texts stream is may all cut comes_so =
       let main : List Step = main_steps width number comes stage (length texts) in
       let goes : List Step = goes_steps width number comes stage (length texts) following in
       let here : List ℕ = stream_text comes texts in
       let on : List (List ℕ) = texts_behind input files texts main in
       let written : List ℕ = stage.first ++ output_by stage.does (map (text_in here files) stage.ins) in
-      let told : told_writes texts (earlier_steps width number comes stage (length texts) following) ≡ on_writes stage.out written =
+      let out : List Write = on_writes stage.out written in
+      let told : told_writes texts (earlier_steps width number comes stage (length texts) following) ≡ main_writes stage here ++ out =
       told-append input files writes_of texts main goes
-      ∙ ap (λ (quiet : List Write). quiet ++ told_writes on goes) (main-quiet width number comes stage (length texts) is may texts)
-      ∙ goes-told width number comes stage following texts is may all cut in
+      ∙ ap (λ (teed : List Write). teed ++ told_writes on goes) (main-told width number comes stage texts is may all cut)
+      ∙ ap (λ (out : List Write). main_writes stage here ++ out) (goes-told width number comes stage following texts is may all cut) in
       let same : stage_means stage here files ≡ stage_means stage stream files = stage-same stage here stream comes_so in
       record {
-        quiet = ap (flat_map to_output) told ∙ on-output stage.out written;
-        written = ap (flat_map to_file) told ∙ on-files stage.out written ∙ stage-files stage is here ∙ ap (λ (means : Outcome). means.files) same;
+        quiet = ap (flat_map to_output) told ∙ main-output stage here out ∙ on-output stage.out written;
+        written = ap (flat_map to_file) told ∙ stage-files stage is here out (on-files stage.out written) ∙ ap (λ (means : Outcome). means.files) same;
         below = below-texts texts (earlier_steps width number comes stage (length texts) following) (open_coming (comes_behind width number comes stage (length texts) following))
             ((earlier-passes width number comes stage (length texts) (few-streams stage is) following).within all);
-        cut = subst (λ (final : List (List ℕ)). ComesCut (comes_behind width number comes stage (length texts) following) final) (sym (texts-append input files texts main goes))
-            (goes-cut width number comes stage following texts is may all cut);
+        cut = (
+          subst (λ (final : List (List ℕ)). ComesCut (comes_behind width number comes stage (length texts) following) final) (sym (texts-append input files texts main goes))
+              (goes-cut width number comes stage following texts is may all cut),
+          λ grouped. absurd (later-whole width (begins (comes_behind width number comes stage (length texts) following)) following.does following.ins (begins-behind width number comes stage (length texts) following) grouped),
+        );
         goes_on = λ read.
             ap (stream_text (comes_behind width number comes stage (length texts) following)) (texts-append input files texts main goes)
             ∙ goes-text width number comes stage following texts is may all cut read ∙ ap (λ (means : Outcome). means.output) same;
       }
 
   pub chain-told : (width number : ℕ) (comes : Coming) (stage : Stage) (stages : List Stage) (texts : List (List ℕ)) (stream : List ℕ) → list_all is_stage (stage ∷ stages) ≡ true
-      → MayCome width comes stage → AllBelow (length texts) (open_coming comes) → ComesCut comes texts → (is_reader stage ≡ true → stream_text comes texts ≡ stream)
+      → MayCome width comes stage → AllBelow (length texts) (open_coming comes) → Ready width comes stage texts → (is_reader stage ≡ true → stream_text comes texts ≡ stream)
       → Leaves (told_writes texts (chain_steps width number comes (stage ∷ stages) (length texts))) (chain_means (stage ∷ stages) stream files)
   chain-told width number comes stage [] texts stream is may all cut comes_so = last-told width number comes stage texts stream (and_parts (is_stage stage) true is).0 may all cut comes_so
   chain-told width number comes stage (following ∷ stages) texts stream is may all cut comes_so =

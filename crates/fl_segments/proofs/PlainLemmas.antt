@@ -1,17 +1,20 @@
 -- What a test of all nodes says of the parts of a stage, but for those that join maps.
-use Rattle.std.proofs.Common.{◌≡◌, ℕ, List, [], ◌∷◌, ◌++◌, Bool, true, false, Some, if◌then◌else◌, length, nat_lt, refl, ◌∙◌}
+use Rattle.std.proofs.Common.{◌≡◌, ℕ, ◌+◌, List, [], ◌∷◌, ◌++◌, Bool, true, false, Some, if◌then◌else◌, length, nat_lt, refl, ◌∙◌}
 use Rattle.std.specs.List.{list_all}
 use Rattle.std.proofs.lemmas.Bool.{and_from}
 use Rattle.std.proofs.lemmas.List.Folds.{list_all-append}
 use Rattle.ps_lines.specs.Lines.{is_empty}
+use Rattle.ps_world.specs.Paths.{Components}
+use Rattle.ps_world.specs.declared.tree.Mode.{Mode}
 use Rattle.ut_args.specs.declared.invocations.Inv.{Inv}
 use Rattle.fl_graph.specs.declared.kinds.NodeKind.{NodeKind}
 use Rattle.fl_graph.specs.declared.kinds.NodeKind.TheVariants as kind
 use Rattle.fl_graph.specs.declared.kinds.From.TheVariants as from
 use Rattle.fl_graph.specs.declared.kinds.To.TheVariants as to
+use Rattle.fl_segments.specs.Chains.{tee_mode}
 use Rattle.fl_segments.specs.Stages.{closes_before, is_none, is_reader}
-use Rattle.fl_segments.specs.Inner.Drawing.{Step, step, split_step}
-use Rattle.fl_segments.specs.Inner.Steps.{begins, drain_steps, each_ended, first_steps, front_steps, goes_from, hands_on, in_edges, in_steps, input_steps, is_joined, join_steps, kind_first, kind_in, map_steps, mapped_steps, on_steps, out_steps, piped_steps, read_steps, split_edges, split_steps, stands, stream_steps, whole_edge, whole_steps}
+use Rattle.fl_segments.specs.Inner.Drawing.{Step, behind, step, split_step}
+use Rattle.fl_segments.specs.Inner.Steps.{begins, beside_steps, cat_steps, drain_steps, each_ended, files_parts, files_steps, first_steps, front_steps, goes_from, hands_on, in_edges, in_steps, input_steps, is_joined, join_steps, kind_first, kind_in, map_steps, mapped_steps, on_steps, out_steps, piped_steps, read_steps, split_edges, split_steps, stands, stream_steps, tee_steps, whole_edge, whole_steps}
 use Rattle.fl_segments.specs.declared.parts.Coming.{Coming}
 use Rattle.fl_segments.specs.declared.parts.Coming.TheVariants as coming
 use Rattle.fl_segments.specs.declared.parts.Parts.{Parts}
@@ -93,6 +96,10 @@ module _ (number : ℕ) (test : Step → Bool) (plain : (it : NodeKind) (ins : L
   pub util-plain : (inv : Inv) (edges : List ℕ) → AllPass test (step (kind.Whole inv) edges number ∷ [])
   util-plain inv edges = pass-one (kind.Whole inv) edges refl
 
+  pub cats-plain : (groups : List (List ℕ)) → AllPass test (cat_steps number groups)
+  cats-plain [] = refl
+  cats-plain (edges ∷ groups) = pass-append test (step (kind.Cat false) edges number ∷ []) (cat_steps number groups) (pass-one (kind.Cat false) edges refl) (cats-plain groups)
+
   pub text-plain : (text : List ℕ) → AllPass test (step (kind.Text text) [] number ∷ [])
   text-plain text = pass-one (kind.Text text) [] refl
 
@@ -102,11 +109,28 @@ module _ (number : ℕ) (test : Step → Bool) (plain : (it : NodeKind) (ins : L
       (pass-if test (stands width edges) [] (split_step edges width number ∷ []) refl (and_from (test (split_step edges width number)) true (split edges width) refl))
       (maps-plain inv (split_edges width edges next))
 
-  pub first-plain : (it : Does) (text edges : List ℕ) → AllPass test (first_steps number it text edges)
+  first-plain : (it : Does) (text edges : List ℕ) → AllPass test (first_steps number it text edges)
   first-plain does.Skip text edges = refl
   first-plain (does.Util inv) text edges =
       pass-if test (is_empty text) [] (whole_steps number edges ++ step (kind.Text text) [] number ∷ []) refl
       (pass-append test (whole_steps number edges) (step (kind.Text text) [] number ∷ []) (whole-plain edges) (text-plain text))
+
+  tee-plain : (mode : Mode) (paths : List Components) (edge next : ℕ) → AllPass test (tee_steps number mode paths edge next)
+  tee-plain mode [] edge next = refl
+  tee-plain mode (path ∷ paths) edge next =
+      pass-append test (step (kind.TeeFile path mode) (edge ∷ []) number ∷ []) (tee_steps number mode paths next (next + 1)) (pass-one (kind.TeeFile path mode) (edge ∷ []) refl) (tee-plain mode paths next (next + 1))
+
+  files-plain : (it : Does) (paths : List Components) (edges : List ℕ) (next : ℕ) → AllPass test (files_steps number it paths edges next)
+  files-plain does.Skip paths edges next = refl
+  files-plain (does.Util inv) paths edges next =
+      let tees : List Step = tee_steps number (tee_mode inv) paths (whole_edge edges next) (behind next (whole_steps number edges)) in
+      pass-if test (is_none paths) [] (whole_steps number edges ++ tees) refl
+      (pass-append test (whole_steps number edges) tees (whole-plain edges) (tee-plain (tee_mode inv) paths (whole_edge edges next) (behind next (whole_steps number edges))))
+
+  pub beside-plain : (it : Does) (paths : List Components) (text : List ℕ) (parts : Parts) (next : ℕ) → AllPass test (beside_steps number it paths text parts next)
+  beside-plain it paths text parts next =
+      pass-append test (files_steps number it paths parts.edges next) (first_steps number it text (files_parts number it paths parts next).edges) (files-plain it paths parts.edges next)
+      (first-plain it text (files_parts number it paths parts next).edges)
 
   piped-plain : (piped : List ℕ) (next : ℕ) → AllPass test (piped_steps number piped next)
   piped-plain piped next =

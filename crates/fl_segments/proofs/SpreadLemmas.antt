@@ -4,6 +4,8 @@ use Rattle.std.specs.List.{count_by, list_all}
 use Rattle.std.proofs.lemmas.Bool.{true≢false, and_from, and_parts, eqb-true, lt-ltb, ltb-true, ne_eqb}
 use Rattle.std.proofs.lemmas.List.Folds.{list_all-append}
 use Rattle.std.proofs.lemmas.List.Sums.{sum_by-append, sum_by-cons}
+use Rattle.ps_world.specs.Paths.{Components}
+use Rattle.ps_world.specs.declared.tree.Mode.{Mode}
 use Rattle.ut_args.specs.declared.invocations.Inv.{Inv}
 use Rattle.fl_graph.specs.declared.graphs.Cell.{Cell}
 use Rattle.fl_graph.specs.declared.kinds.NodeKind.{NodeKind}
@@ -12,10 +14,10 @@ use Rattle.fl_graph.specs.declared.kinds.From.{From}
 use Rattle.fl_graph.specs.declared.kinds.From.TheVariants as from
 use Rattle.fl_graph.specs.declared.kinds.To.{To}
 use Rattle.fl_graph.specs.declared.kinds.To.TheVariants as to
-use Rattle.fl_segments.specs.Spread.{IsSpread, count_at, is_map, is_unsplit, is_whole, maps_of, wholes_of, aggregates_of, finishes_of, is_aggregate, is_finish}
+use Rattle.fl_segments.specs.Spread.{HasItsGroups, IsSpread, count_at, is_map, is_unsplit, is_whole, maps_of, wholes_of, aggregates_of, finishes_of, is_aggregate, is_finish}
 use Rattle.fl_segments.specs.Stages.{goes_on, ins_of, is_none, is_spread, is_stage, has_finish}
 use Rattle.fl_segments.specs.Inner.Drawing.{Step, step, split_step, behind, cell_of, drawn, next_of, outs_of}
-use Rattle.fl_segments.specs.Inner.Steps.{begins, chain_steps, comes_behind, does_steps, done_parts, done_steps, earlier_steps, end_next, first_steps, front_edges, front_next, front_steps, goes_steps, is_leading_cat, last_steps, main_parts, main_steps, Tree, Leaf, Join, tree_steps, joins_of, ends_from, tree_edge, mapped_parts, mapped_steps, finish_steps, tree_of, main_next, fold_steps, mapped_edges}
+use Rattle.fl_segments.specs.Inner.Steps.{begins, beside_steps, chain_steps, comes_behind, stage_steps, does_steps, done_next, done_parts, done_steps, earlier_steps, end_next, front_edges, front_next, front_steps, goes_steps, group_steps, groups_from, is_leading_cat, last_steps, main_parts, main_steps, Tree, Leaf, Join, tree_steps, joins_of, ends_from, tree_edge, mapped_parts, mapped_steps, finish_steps, tree_of, main_next, fold_steps, mapped_edges}
 use Rattle.fl_segments.specs.declared.parts.Coming.{Coming}
 use Rattle.fl_segments.specs.declared.parts.Coming.TheVariants as coming
 use Rattle.fl_segments.specs.declared.stages.Does.{Does}
@@ -29,8 +31,9 @@ use Rattle.fl_segments.specs.declared.stages.Out.TheVariants as out
 use Rattle.fl_segments.specs.declared.stages.Stage.{Stage}
 use Rattle.fl_segments.proofs.ComingLemmas.{MayCome, goes-may}
 use Rattle.fl_segments.proofs.DrawingLemmas.{all-drawn, joins_none}
-use Rattle.fl_segments.proofs.FoundLemmas.{Gathers, begins-behind, chain-all, earlier-gathered, file_value, first_value, goes_value, ins_value, last-gathered, main_value, number-found, number-gathers, number_value, read_count, repeated, stream_value, sum, util_value}
-use Rattle.fl_segments.proofs.PlainLemmas.{front-plain, none-plain, first-plain, goes-plain, ends-plain, mapped-plain, pass-if}
+use Rattle.fl_segments.proofs.FoundLemmas.{Gathers, begins-behind, chain-all, earlier-gathered, file_value, first_value, goes_value, ins_value, last-gathered, main_value, number-found, number-gathers, number_value, read_count, repeated, stream_value, sum, teed-none, teed_value, util_value}
+use Rattle.fl_segments.specs.Groups.{is_grouped}
+use Rattle.fl_segments.proofs.PlainLemmas.{cats-plain, front-plain, none-plain, beside-plain, goes-plain, ends-plain, mapped-plain, pass-if}
 use Rattle.ut_args.specs.Classes.{class_of}
 use Rattle.fl_graph.specs.Kinds.{has_aggregator}
 use Rattle.fl_segments.specs.declared.parts.Parts.{Parts}
@@ -149,15 +152,21 @@ does-own width number leads (does.Util inv) text edges next =
     (own-append number mapped folds (mapped-plain number (is_own number) (plain-own number) (split-own number) width inv edges next) (fold-own number inv (mapped_parts width number inv edges next false) (behind next mapped)))
     (one-own number (kind.Whole inv) edges))
 
+stage-own : (width number : ℕ) (leads : Bool) (it : Does) (ins : List In) (text edges : List ℕ) (next : ℕ) → Own number (stage_steps width number leads it ins text edges next)
+stage-own width number leads it ins text edges next =
+    pass-if (is_own number) (is_grouped width leads it ins) (group_steps width number edges) (does_steps width number leads it text edges next)
+    (cats-plain number (is_own number) (plain-own number) (split-own number) (groups_from width edges 0 width)) (does-own width number leads it text edges next)
+
 module _ (width number : ℕ) (comes : Coming) (stage : Stage) (next : ℕ) where
   main-own : Own number (main_steps width number comes stage next)
   main-own =
       let front : List Step = front_steps number comes stage next in
       let done : List Step = done_steps width number comes stage next in
-      let firsts : List Step = first_steps number stage.does stage.first (done_parts width number comes stage next).edges in
-      own-append number front (done ++ firsts) (front-plain number (is_own number) (plain-own number) (split-own number) comes stage next)
-      (own-append number done firsts (does-own width number (begins comes) stage.does stage.first (front_edges number comes stage next) (front_next number comes stage next))
-      (first-plain number (is_own number) (plain-own number) (split-own number) stage.does stage.first (done_parts width number comes stage next).edges))
+      let parts : Parts = done_parts width number comes stage next in
+      let besides : List Step = beside_steps number stage.does stage.tees stage.first parts (done_next width number comes stage next) in
+      own-append number front (done ++ besides) (front-plain number (is_own number) (plain-own number) (split-own number) comes stage next)
+      (own-append number done besides (stage-own width number (begins comes) stage.does stage.ins stage.first (front_edges number comes stage next) (front_next number comes stage next))
+      (beside-plain number (is_own number) (plain-own number) (split-own number) stage.does stage.tees stage.first parts (done_next width number comes stage next)))
 
   last-own : Own number (last_steps width number comes stage next)
   last-own =
@@ -191,6 +200,7 @@ pub record IsUtil (test : NodeKind → Bool) : Type 0 where
   pub split : test kind.Split ≡ false
   pub source : (source : From) → test (kind.Source source) ≡ false
   pub sink : (sink : To) → test (kind.Sink sink) ≡ false
+  pub tee : (path : Components) (mode : Mode) → test (kind.TeeFile path mode) ≡ false
 
 some-same : (one other : Stage) → Some one ≡ Some other → one ≡ other
 some-same one other same = ap (λ (it : Option Stage). stage_in one it) same
@@ -215,6 +225,9 @@ module _ (width : ℕ) (test : NodeKind → Bool) (each : Bool → Does → ℕ)
 
   gathers : Gathers width 0 (sum width) (number_value width test)
   gathers = number-gathers width test is_util.text is_util.cat is_util.drain is_util.split
+
+  no-tees : (stage : Stage) → teed_value width 0 (sum width) (number_value width test) stage.does stage.tees ≡ 0
+  no-tees stage = teed-none width 0 (sum width) (number_value width test) gathers (λ path mode. ap (λ (is : Bool). if is then 1 else 0) (is_util.tee path mode)) stage.does stage.tees
 
   no-ins : (ins : List In) → ins_value width 0 (sum width) (number_value width test) 0 ins ≡ 0
   no-ins [] = refl
@@ -249,7 +262,8 @@ module _ (width : ℕ) (test : NodeKind → Bool) (each : Bool → Does → ℕ)
       let ins : ins_value width 0 (sum width) (number_value width test) (stream_value width 0 (sum width) (number_value width test) comes) (ins_of stage) ≡ 0 =
       ap (λ (stream : ℕ). ins_value width 0 (sum width) (number_value width test) stream (ins_of stage)) (no-stream comes) ∙ no-ins (ins_of stage) in
       let own = utils (begins comes) stage.does (read_count stage.does (length stage.ins)) in
-      omega (arith, ins, own)
+      let teed = no-tees stage in
+      omega (arith, ins, own, teed)
 
   module _ (number : ℕ) (comes : Coming) (stage : Stage) (next : ℕ) (is : is_stage stage ≡ true) (may : MayCome width comes stage) where
     last-own-count : count_by (λ (it : Step). test it.kind) (last_steps width number comes stage next) ≡ each (begins comes) stage.does
@@ -309,16 +323,16 @@ module _ (width : ℕ) (test : NodeKind → Bool) (each : Bool → Does → ℕ)
 -- how many its utility has
 module _ (width : ℕ) where
   maps-util : IsUtil is_map
-  maps-util = record { text = λ text. refl; cat = λ close. refl; drain = refl; split = refl; source = λ source. refl; sink = λ sink. refl }
+  maps-util = record { text = λ text. refl; cat = λ close. refl; drain = refl; split = refl; source = λ source. refl; sink = λ sink. refl; tee = λ path mode. refl }
 
   wholes-util : IsUtil is_whole
-  wholes-util = record { text = λ text. refl; cat = λ close. refl; drain = refl; split = refl; source = λ source. refl; sink = λ sink. refl }
+  wholes-util = record { text = λ text. refl; cat = λ close. refl; drain = refl; split = refl; source = λ source. refl; sink = λ sink. refl; tee = λ path mode. refl }
 
   aggs-util : IsUtil is_aggregate
-  aggs-util = record { text = λ text. refl; cat = λ close. refl; drain = refl; split = refl; source = λ source. refl; sink = λ sink. refl }
+  aggs-util = record { text = λ text. refl; cat = λ close. refl; drain = refl; split = refl; source = λ source. refl; sink = λ sink. refl; tee = λ path mode. refl }
 
   finishes-util : IsUtil is_finish
-  finishes-util = record { text = λ text. refl; cat = λ close. refl; drain = refl; split = refl; source = λ source. refl; sink = λ sink. refl }
+  finishes-util = record { text = λ text. refl; cat = λ close. refl; drain = refl; split = refl; source = λ source. refl; sink = λ sink. refl; tee = λ path mode. refl }
 
   -- so many ones, or nothing so often
   abbrev times_of : ℕ → ℕ → ℕ
@@ -391,8 +405,8 @@ module _ (width : ℕ) where
   leads-is (suc place) leads is = sym (ne_eqb (suc place) 0 (λ same. omega (arith, same)))
 
   pub chain-spread : (comes : Coming) (stage : Stage) (stages : List Stage) → begins comes ≡ true → list_all is_stage (stage ∷ stages) ≡ true → MayCome width comes stage
-      → IsSpread width (stage ∷ stages) (drawn 0 (chain_steps width 0 comes (stage ∷ stages) 0))
-  chain-spread comes stage stages leads all may =
+      → HasItsGroups width (stage ∷ stages) (drawn 0 (chain_steps width 0 comes (stage ∷ stages) 0)) → IsSpread width (stage ∷ stages) (drawn 0 (chain_steps width 0 comes (stage ∷ stages) 0))
+  chain-spread comes stage stages leads all may grouped =
       let steps : List Step = chain_steps width 0 comes (stage ∷ stages) 0 in
       record {
         stages = λ place it found. (let at : 0 + place ≡ place = omega arith in
@@ -407,6 +421,7 @@ module _ (width : ℕ) where
               finishes = count-drawn is_finish place 0 steps ∙ ap (λ (at : ℕ). count_steps is_finish at steps) (sym at)
                   ∙ chain-count width is_finish (finishes_of width) finishes-util finishes-each 0 comes stage stages 0 place it found all may ∙ ap (λ (leads : Bool). finishes_of width leads it.does) first;
             });
+        groups = grouped;
         unsplit = λ one. all-drawn is_unsplit 0 steps
             ∙ chain-all width (λ kind ins outs. is_unsplit kind) (record {
               text = λ text. refl;
@@ -418,5 +433,5 @@ module _ (width : ℕ) where
               map = λ inv built spread. refl;
               agg = λ inv built spread folds. refl;
               finish = λ inv built spread folds. refl;
-            }) (λ sink. refl) 0 comes (stage ∷ stages) 0 all may;
+            }) (λ path mode. refl) (λ sink. refl) 0 comes (stage ∷ stages) 0 all may;
       }

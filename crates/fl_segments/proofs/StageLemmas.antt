@@ -1,12 +1,14 @@
 -- The nodes of stages: each takes edges that are given before, and each edge is taken once.
 use Rattle.std.proofs.Common.{◌≡◌, ℕ, zero, suc, ◌+◌, ◌<◌, ◌≤◌, ◌==◌, List, [], ◌∷◌, ◌++◌, Bool, true, false, ◌&&◌, if◌then◌else◌, get_or, length, nat_le, nat_lt, refl, ap, sym, subst, ◌∙◌, append-nil, arith, ◌-◌, take, drop, length-drop}
-use Rattle.std.specs.List.{count_by, flat_map, list_all, list_any, range_with_len}
+use Rattle.std.specs.List.{concat, count_by, flat_map, list_all, list_any, range_with_len}
 use Rattle.std.proofs.lemmas.Bool.{true≢false, and_from, and_parts, eqb-true, leb-true, lt-ltb, ltb-true}
 use Rattle.std.proofs.lemmas.List.FromFn.{length-range_with_len}
 use Rattle.std.proofs.lemmas.Grind.{flat_map-append}
 use Rattle.std.proofs.lemmas.List.Folds.{list_all-append}
 use Rattle.std.proofs.lemmas.List.Sums.{sum_by-cons}
 use Rattle.ps_lines.specs.Lines.{is_empty}
+use Rattle.ps_world.specs.Paths.{Components}
+use Rattle.ps_world.specs.declared.tree.Mode.{Mode}
 use Rattle.ut_args.specs.Classes.{class_of}
 use Rattle.ut_args.specs.Inputs.{inputs_of}
 use Rattle.ut_args.specs.declared.invocations.Inv.{Inv}
@@ -15,9 +17,10 @@ use Rattle.fl_graph.specs.declared.kinds.NodeKind.TheVariants as kind
 use Rattle.fl_graph.specs.declared.kinds.From.TheVariants as from
 use Rattle.fl_graph.specs.declared.kinds.To.TheVariants as to
 use Rattle.fl_graph.proofs.ListLemmas.{count-append}
+use Rattle.fl_segments.specs.Chains.{tee_mode}
 use Rattle.fl_segments.specs.Stages.{closes_before, ins_of, ins_read, is_none, is_reader, is_spread, is_stage, is_stream, may_spread, has_finish}
 use Rattle.fl_segments.specs.Inner.Drawing.{Step, step, split_step, behind}
-use Rattle.fl_segments.specs.Inner.Steps.{begins, chain_steps, comes_behind, comes_cut, comes_on, does_parts, does_steps, done_next, done_parts, done_steps, drain_steps, each_ended, end_edge, end_next, end_steps, earlier_steps, first_parts, first_steps, front_edges, front_next, front_steps, goes_steps, hands_on, in_edges, in_steps, input_edges, input_steps, is_joined, is_leading_cat, join_steps, joined_edges, kind_first, kind_in, last_steps, main_next, main_parts, main_steps, map_steps, on_steps, out_steps, parts_on, piped_steps, read_edges, read_steps, split_edges, split_steps, spread_parts, spread_steps, stands, stream_comes, stream_steps, util_parts, util_steps, whole_edge, whole_steps, Tree, Leaf, Join, half_of, tree_of, tree_over, tree_steps, tree_edge, joins_of, finish_steps, finish_edge, fold_steps, fold_parts, mapped_parts, mapped_steps, one_part, folded_steps, folded_edge}
+use Rattle.fl_segments.specs.Inner.Steps.{begins, beside_parts, beside_steps, cat_steps, chain_steps, comes_behind, comes_cut, comes_on, does_parts, does_steps, done_next, done_parts, done_steps, drain_steps, each_ended, end_edge, end_next, end_steps, earlier_steps, files_parts, files_steps, first_parts, first_steps, front_edges, front_next, front_steps, goes_steps, group_parts, group_steps, groups_from, hands_on, in_edges, in_steps, input_edges, input_steps, is_joined, is_leading_cat, join_steps, joined_edges, kind_first, kind_in, last_steps, main_next, main_parts, main_steps, map_steps, on_steps, out_steps, parts_on, piped_steps, read_edges, read_steps, split_edges, split_steps, spread_parts, spread_steps, stands, stream_comes, stream_steps, tee_edge, tee_steps, teed_parts, teed_steps, util_parts, util_steps, whole_edge, whole_steps, Tree, Leaf, Join, half_of, tree_of, tree_over, tree_steps, tree_edge, joins_of, finish_steps, finish_edge, fold_steps, fold_parts, mapped_parts, mapped_steps, one_part, folded_steps, folded_edge}
 use Rattle.fl_segments.specs.declared.parts.Coming.{Coming}
 use Rattle.fl_segments.specs.declared.parts.Coming.TheVariants as coming
 use Rattle.fl_segments.specs.declared.parts.Parts.{Parts}
@@ -32,6 +35,8 @@ use Rattle.fl_segments.specs.declared.stages.Out.TheVariants as out
 use Rattle.fl_segments.specs.declared.stages.Stage.{Stage}
 use Rattle.fl_segments.proofs.DrawingLemmas.{AreBelow, behind-append, behind-given, below-append, given, given-append, next-is, taken}
 use Rattle.fl_segments.proofs.FitLemmas.{few-streams}
+use Rattle.fl_segments.specs.Groups.{is_grouped}
+use Rattle.fl_segments.proofs.GroupLemmas.{GoesInGroups, grouped-so, groups-count, groups-joined}
 use Rattle.fl_segments.proofs.RowLemmas.{range-append}
 use Rattle.fl_graph.specs.Kinds.{has_aggregator}
 use Rattle.std.proofs.lemmas.List.{length-take-le, take-append-drop}
@@ -238,6 +243,19 @@ whole-passes number (edge ∷ other ∷ edges) next some =
     let all : List ℕ = edge ∷ other ∷ edges in
     subst (λ (many : Bool). Passes next (if many then step (kind.Cat false) all number ∷ [] else []) all ((if many then next else get_or all 0 next) ∷ []))
     (sym (lt-ltb 1 (length all) (omega arith))) (passes-gives next (step (kind.Cat false) all number) refl)
+
+-- GROUPS OF FILES
+pub cats-passes : (number : ℕ) (groups : List (List ℕ)) (next : ℕ) → Passes next (cat_steps number groups) (concat groups) (range_with_len next (length groups))
+cats-passes number [] next = passes-none next []
+cats-passes number (edges ∷ groups) next =
+    passes-both next (step (kind.Cat false) edges number ∷ []) (cat_steps number groups) edges (next ∷ []) (concat groups) (range_with_len (next + 1) (length groups))
+    (passes-gives next (step (kind.Cat false) edges number) refl) (cats-passes number groups (next + 1))
+
+pub group-passes : (width number : ℕ) (edges : List ℕ) (next : ℕ) → 1 ≤ width → Passes next (group_steps width number edges) edges (group_parts width next).edges
+group-passes width number edges next some =
+    let groups : List (List ℕ) = groups_from width edges 0 width in
+    subst (λ (before : List ℕ). Passes next (cat_steps number groups) before (range_with_len next width)) (groups-joined width edges some)
+    (subst (λ (count : ℕ). Passes next (cat_steps number groups) (concat groups) (range_with_len next count)) (groups-count width edges 0 width) (cats-passes number groups next))
 
 -- A UTILITY THAT IS SPREAD
 pub split-passes : (width number : ℕ) (edges : List ℕ) (next : ℕ) → Passes next (split_steps width number edges) edges (split_edges width edges next)
@@ -469,6 +487,32 @@ util-some width number leads inv parts next = by_test (is_leading_cat leads inv)
         fold-some number inv (mapped_parts width number inv parts.edges next parts.cut) (behind next (mapped_steps width number inv parts.edges next)) (mapped-some width number inv parts.edges parts.cut next (omega (arith, wide)))
     by_test false false is = omega arith
 
+-- THE FILES OF TEE
+pub tee-passes : (number : ℕ) (mode : Mode) (paths : List Components) (edge next : ℕ) → Passes next (tee_steps number mode paths edge next) (edge ∷ []) (tee_edge paths edge next ∷ [])
+tee-passes number mode [] edge next = passes-none next (edge ∷ [])
+tee-passes number mode (path ∷ paths) edge next =
+    passes-append next (step (kind.TeeFile path mode) (edge ∷ []) number ∷ []) (tee_steps number mode paths next (next + 1)) (edge ∷ []) (next ∷ []) (tee_edge paths next (next + 1) ∷ [])
+    (passes-gives next (step (kind.TeeFile path mode) (edge ∷ []) number) refl) (tee-passes number mode paths next (next + 1))
+
+teed-passes : (number : ℕ) (mode : Mode) (paths : List Components) (parts : Parts) (next : ℕ) → 1 ≤ length parts.edges
+    → Passes next (teed_steps number mode paths parts.edges next) parts.edges (teed_parts number paths parts next).edges
+teed-passes number mode [] parts next some = passes-none next parts.edges
+teed-passes number mode (path ∷ paths) parts next some =
+    let edge : ℕ = whole_edge parts.edges next in
+    let on : ℕ = behind next (whole_steps number parts.edges) in
+    passes-append next (whole_steps number parts.edges) (tee_steps number mode (path ∷ paths) edge on) parts.edges (edge ∷ []) (tee_edge (path ∷ paths) edge on ∷ []) (whole-passes number parts.edges next some)
+    (tee-passes number mode (path ∷ paths) edge on)
+
+pub files-passes : (number : ℕ) (it : Does) (paths : List Components) (parts : Parts) (next : ℕ) → 1 ≤ length parts.edges
+    → Passes next (files_steps number it paths parts.edges next) parts.edges (files_parts number it paths parts next).edges
+files-passes number does.Skip paths parts next some = passes-none next parts.edges
+files-passes number (does.Util inv) paths parts next some = teed-passes number (tee_mode inv) paths parts next some
+
+pub files-some : (number : ℕ) (it : Does) (paths : List Components) (parts : Parts) (next : ℕ) → 1 ≤ length parts.edges → 1 ≤ length (files_parts number it paths parts next).edges
+files-some number does.Skip paths parts next some = some
+files-some number (does.Util inv) [] parts next some = some
+files-some number (does.Util inv) (path ∷ paths) parts next some = omega arith
+
 -- WHAT COMES FIRST
 first-passes : (number : ℕ) (it : Does) (text : List ℕ) (parts : Parts) (next : ℕ) → 1 ≤ length parts.edges
     → Passes next (first_steps number it text parts.edges) parts.edges (first_parts number it text parts next).edges
@@ -495,6 +539,19 @@ first-some number (does.Util inv) text parts next some = by_test (is_empty text)
     by_test : (none : Bool) → 1 ≤ length ((if none then parts else parts_on (behind next (whole_steps number parts.edges) ∷ whole_edge parts.edges next ∷ []) false).edges)
     by_test true = some
     by_test false = omega arith
+
+-- BOTH
+beside-passes : (number : ℕ) (it : Does) (paths : List Components) (text : List ℕ) (parts : Parts) (next : ℕ) → 1 ≤ length parts.edges
+    → Passes next (beside_steps number it paths text parts next) parts.edges (beside_parts number it paths text parts next).edges
+beside-passes number it paths text parts next some =
+    let teed : List Step = files_steps number it paths parts.edges next in
+    let on : Parts = files_parts number it paths parts next in
+    passes-append next teed (first_steps number it text on.edges) parts.edges on.edges (beside_parts number it paths text parts next).edges (files-passes number it paths parts next some)
+    (first-passes number it text on (behind next teed) (files-some number it paths parts next some))
+
+beside-some : (number : ℕ) (it : Does) (paths : List Components) (text : List ℕ) (parts : Parts) (next : ℕ) → 1 ≤ length parts.edges → 1 ≤ length (beside_parts number it paths text parts next).edges
+beside-some number it paths text parts next some =
+    first-some number it text (files_parts number it paths parts next) (behind next (files_steps number it paths parts.edges next)) (files-some number it paths parts next some)
 
 -- WHERE THE OUTPUT GOES
 piped-passes : (number : ℕ) (piped : List ℕ) (next : ℕ) → Passes next (piped_steps number piped next) [] []
@@ -561,17 +618,26 @@ module _ (width number : ℕ) (comes : Coming) (stage : Stage) (next : ℕ) (few
   taken_parts = parts_on (front_edges number comes stage next) (comes_cut comes)
 
   pub does-some : 1 ≤ length (done_parts width number comes stage next).edges
-  does-some = by_does stage.does
+  does-some = by_test (is_grouped width (begins comes) stage.does stage.ins) refl
     where
       by_does : (it : Does) → 1 ≤ length (does_parts width number (begins comes) it taken_parts (front_next number comes stage next)).edges
       by_does does.Skip = omega arith
       by_does (does.Util inv) = util-some width number (begins comes) inv taken_parts (front_next number comes stage next)
 
+      by_test : (groups : Bool) → is_grouped width (begins comes) stage.does stage.ins ≡ groups
+          → 1 ≤ length ((if groups then group_parts width (front_next number comes stage next) else does_parts width number (begins comes) stage.does taken_parts (front_next number comes stage next)).edges)
+      by_test true so =
+          let it : GoesInGroups width (begins comes) stage.does stage.ins = grouped-so width (begins comes) stage.does stage.ins so in
+          let wide = it.wide in
+          let size = length-range_with_len (front_next number comes stage next) width in
+          omega (arith, size, wide)
+      by_test false so = by_does stage.does
+
   pub main-some : 1 ≤ length (main_parts width number comes stage next).edges
-  main-some = first-some number stage.does stage.first (done_parts width number comes stage next) (done_next width number comes stage next) does-some
+  main-some = beside-some number stage.does stage.tees stage.first (done_parts width number comes stage next) (done_next width number comes stage next) does-some
 
   pub does-passes : Passes (front_next number comes stage next) (done_steps width number comes stage next) (front_edges number comes stage next) (done_parts width number comes stage next).edges
-  does-passes = by_does stage.does
+  does-passes = by_test (is_grouped width (begins comes) stage.does stage.ins) refl
     where
       from : ℕ
       from = front_next number comes stage next
@@ -583,15 +649,26 @@ module _ (width number : ℕ) (comes : Coming) (stage : Stage) (next : ℕ) (few
       by_does (does.Util inv) =
           util-passes width number (begins comes) inv (parts_on (read_edges number comes (does.Util inv) stage.ins next) (comes_cut comes)) (front_next number comes stage next)
 
+      by_test : (groups : Bool) → is_grouped width (begins comes) stage.does stage.ins ≡ groups
+          → Passes (front_next number comes stage next)
+          (if groups then group_steps width number (front_edges number comes stage next) else does_steps width number (begins comes) stage.does stage.first (front_edges number comes stage next) (front_next number comes stage next))
+          (front_edges number comes stage next)
+          ((if groups then group_parts width (front_next number comes stage next) else does_parts width number (begins comes) stage.does taken_parts (front_next number comes stage next)).edges)
+      by_test true so =
+          let it : GoesInGroups width (begins comes) stage.does stage.ins = grouped-so width (begins comes) stage.does stage.ins so in
+          let wide = it.wide in
+          group-passes width number (front_edges number comes stage next) (front_next number comes stage next) (omega (arith, wide))
+      by_test false so = by_does stage.does
+
   pub main-passes : Passes next (main_steps width number comes stage next) (open_coming comes) (main_parts width number comes stage next).edges
   main-passes =
       let front : List Step = front_steps number comes stage next in
       let done : List Step = done_steps width number comes stage next in
       let parts : Parts = done_parts width number comes stage next in
-      let firsts : List Step = first_steps number stage.does stage.first parts.edges in
-      passes-append next front (done ++ firsts) (open_coming comes) (front_edges number comes stage next) (main_parts width number comes stage next).edges front-passes
-      (passes-append (front_next number comes stage next) done firsts (front_edges number comes stage next) parts.edges (main_parts width number comes stage next).edges does-passes
-      (first-passes number stage.does stage.first parts (done_next width number comes stage next) does-some))
+      let besides : List Step = beside_steps number stage.does stage.tees stage.first parts (done_next width number comes stage next) in
+      passes-append next front (done ++ besides) (open_coming comes) (front_edges number comes stage next) (main_parts width number comes stage next).edges front-passes
+      (passes-append (front_next number comes stage next) done besides (front_edges number comes stage next) parts.edges (main_parts width number comes stage next).edges does-passes
+      (beside-passes number stage.does stage.tees stage.first parts (done_next width number comes stage next) does-some))
 
   -- its output on one edge
   pub end-passes : Passes (main_next width number comes stage next) (whole_steps number (main_parts width number comes stage next).edges) (main_parts width number comes stage next).edges (end_edge width number comes stage next ∷ [])

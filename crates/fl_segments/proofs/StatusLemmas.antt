@@ -28,7 +28,7 @@ use Rattle.fl_classes.proofs.CutLemmas.{cut-first, cut-rest}
 use Rattle.fl_segments.specs.Chains.{chain_means, grep_status, is_quiet, stage_means, status_by, text_in, texts_read}
 use Rattle.fl_segments.specs.Stages.{ins_read, is_reader, is_spread, is_stage, is_stream, may_spread}
 use Rattle.fl_segments.specs.Inner.Drawing.{Step, step, drawn, behind, next_of}
-use Rattle.fl_segments.specs.Inner.Steps.{begins, chain_nodes, chain_rule, chain_steps, comes_behind, comes_cut, does_nodes, does_steps, done_parts, done_steps, earlier_steps, end_edge, end_next, first_steps, front_edges, front_next, front_steps, grep_rule, last_steps, main_nodes, main_parts, map_steps, out_steps, rule_by, split_cut, split_edges, split_steps, takes_any, util_nodes, util_steps, whole_steps, spread_steps, fold_steps, mapped_steps, mapped_edges}
+use Rattle.fl_segments.specs.Inner.Steps.{begins, beside_steps, chain_nodes, chain_rule, chain_steps, comes_behind, comes_cut, does_nodes, does_steps, done_next, done_parts, done_steps, earlier_steps, end_edge, end_next, front_edges, front_next, front_steps, grep_rule, last_steps, main_nodes, main_parts, map_steps, out_steps, rule_by, split_cut, split_edges, split_steps, takes_any, util_nodes, util_steps, whole_steps, spread_steps, fold_steps, mapped_steps, mapped_edges, stage_steps}
 use Rattle.fl_segments.specs.declared.parts.Coming.{Coming}
 use Rattle.fl_segments.specs.declared.stages.Does.{Does}
 use Rattle.fl_segments.specs.declared.stages.Does.TheVariants as does
@@ -36,7 +36,7 @@ use Rattle.fl_segments.specs.declared.stages.Stage.{Stage}
 use Rattle.fl_segments.proofs.ComingLemmas.{MayCome, goes-may}
 use Rattle.fl_segments.proofs.DrawingLemmas.{all-drawn, drawn-append}
 use Rattle.fl_segments.proofs.MeaningLemmas.{text_at, texts-append, texts_behind, texts_on, texts-count, told_from, told-append}
-use Rattle.fl_segments.proofs.OutcomeLemmas.{ComesCut, FrontReads, OneInput, Parted, earlier-goes, edges-keep, front-reads, ins-same, split-below, split-parted, stream_text}
+use Rattle.fl_segments.proofs.OutcomeLemmas.{FrontReads, OneInput, Parted, Ready, earlier-goes, edges-keep, front-reads, ins-same, split-below, split-parted, stream_text}
 use Rattle.fl_segments.proofs.RowLemmas.{get-here}
 use Rattle.fl_segments.proofs.FitLemmas.{few-streams}
 use Rattle.fl_segments.proofs.StageLemmas.{AllBelow, all-more, front-passes, open_coming, split-count, spread-class, spread-wide}
@@ -121,22 +121,22 @@ module _ (width number : ℕ) (comes : Coming) (stage : Stage) (next : ℕ) (gre
   abbrev back_steps : List Step
   back_steps =
       tails width number grep (front_edges number comes stage next) (front_next number comes stage next)
-      ++ (first_steps number stage.does stage.first (done_parts width number comes stage next).edges
+      ++ (beside_steps number stage.does stage.tees stage.first (done_parts width number comes stage next) (done_next width number comes stage next)
       ++ (whole_steps number (main_parts width number comes stage next).edges ++ out_steps number stage.out stage.piped (end_edge width number comes stage next) (end_next width number comes stage next)))
 
   last-is : last_steps width number comes stage next ≡ head_steps ++ (mid_steps ++ back_steps)
   last-is =
       let front : List Step = front_steps number comes stage next in
       let done : List Step = done_steps width number comes stage next in
-      let firsts : List Step = first_steps number stage.does stage.first (done_parts width number comes stage next).edges in
+      let besides : List Step = beside_steps number stage.does stage.tees stage.first (done_parts width number comes stage next) (done_next width number comes stage next) in
       let outs : List Step = whole_steps number (main_parts width number comes stage next).edges ++ out_steps number stage.out stage.piped (end_edge width number comes stage next) (end_next width number comes stage next) in
       let head : List Step = heads width number grep edges in
       let tail : List Step = tails width number grep edges (front_next number comes stage next) in
-      append_assoc front (done ++ firsts) outs ∙ ap (λ (rest : List Step). front ++ rest) (append_assoc done firsts outs)
-      ∙ ap (λ (done : List Step). front ++ (done ++ (firsts ++ outs)))
-      (ap (λ (it : Does). does_steps width number (begins comes) it stage.first edges (front_next number comes stage next)) same ∙ done-is width number grep edges (begins comes) (front_next number comes stage next))
-      ∙ ap (λ (rest : List Step). front ++ rest) (append_assoc head (mid_steps ++ tail) (firsts ++ outs) ∙ ap (λ (rest : List Step). head ++ rest) (append_assoc mid_steps tail (firsts ++ outs)))
-      ∙ sym (append_assoc front head (mid_steps ++ (tail ++ (firsts ++ outs))))
+      append_assoc front (done ++ besides) outs ∙ ap (λ (rest : List Step). front ++ rest) (append_assoc done besides outs)
+      ∙ ap (λ (done : List Step). front ++ (done ++ (besides ++ outs)))
+      (ap (λ (it : Does). stage_steps width number (begins comes) it stage.ins stage.first edges (front_next number comes stage next)) same ∙ done-is width number grep edges (begins comes) (front_next number comes stage next))
+      ∙ ap (λ (rest : List Step). front ++ rest) (append_assoc head (mid_steps ++ tail) (besides ++ outs) ∙ ap (λ (rest : List Step). head ++ rest) (append_assoc mid_steps tail (besides ++ outs)))
+      ∙ sym (append_assoc front head (mid_steps ++ (tail ++ (besides ++ outs))))
 
   nodes-is : (before : ℕ) → main_nodes width number comes stage next before ≡ range_with_len (before + length head_steps) (length mid_steps)
   nodes-is before =
@@ -318,7 +318,7 @@ module _ (input : List ℕ) (files : Components → List ℕ) where
       ∙ ap (list_any (λ part. selects_of inv (part ∷ []))) (edges-keep input files texts (it ∷ []) edges parts.1))
 
   module _ (width : ℕ) (before : List Bool) (number : ℕ) (comes : Coming) (stage : Stage) (texts : List (List ℕ)) (stream : List ℕ) (is : is_stage stage ≡ true) (may : MayCome width comes stage)
-      (all : AllBelow (length texts) (open_coming comes)) (cut : ComesCut input files comes texts) (comes_so : is_reader stage ≡ true → stream_text input files comes texts ≡ stream) where
+      (all : AllBelow (length texts) (open_coming comes)) (cut : Ready input files width comes stage texts) (comes_so : is_reader stage ≡ true → stream_text input files comes texts ≡ stream) where
     abbrev told : List Bool
     told = before ++ told_selected texts (last_steps width number comes stage (length texts))
 
@@ -417,7 +417,7 @@ module _ (input : List ℕ) (files : Components → List ℕ) where
         by_does (does.Util inv) same = by_grep inv same (is_grep inv) refl
 
   pub chain-status : (width : ℕ) (before : List Bool) (number : ℕ) (comes : Coming) (stage : Stage) (stages : List Stage) (texts : List (List ℕ)) (stream : List ℕ) → list_all is_stage (stage ∷ stages) ≡ true
-      → MayCome width comes stage → AllBelow (length texts) (open_coming comes) → ComesCut input files comes texts → (is_reader stage ≡ true → stream_text input files comes texts ≡ stream)
+      → MayCome width comes stage → AllBelow (length texts) (open_coming comes) → Ready input files width comes stage texts → (is_reader stage ≡ true → stream_text input files comes texts ≡ stream)
       → status_by_rule (chain_rule (stage ∷ stages) (chain_nodes width number comes (stage ∷ stages) (length texts) (length before))) (before ++ told_selected texts (chain_steps width number comes (stage ∷ stages) (length texts)))
       ≡ (chain_means (stage ∷ stages) stream files).status
   chain-status width before number comes stage [] texts stream is may all cut comes_so = last-status width before number comes stage texts stream (and_parts (is_stage stage) true is).0 may all cut comes_so

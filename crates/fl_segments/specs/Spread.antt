@@ -1,12 +1,13 @@
--- How a segment is spread at a width (own): how many maps and wholes each stage has. The code makes them stage by stage.
-use Rattle.std.specs.Prelude.{◌≡◌, ℕ, ◌-◌, List, Bool, true, false, ◌&&◌, ◌==◌, if◌then◌else◌, slice_get, Some}
-use Rattle.std.specs.List.{count_by, list_all}
+-- How a segment is spread at a width (own): how many maps and wholes each stage has, and the groups of a cat that leads. The code makes them stage by stage.
+use Rattle.std.specs.Prelude.{◌≡◌, ℕ, ◌+◌, ◌-◌, ◌<◌, List, [], ◌∷◌, Bool, true, false, ◌&&◌, ◌==◌, if◌then◌else◌, length, slice_get, Some}
+use Rattle.std.specs.List.{count_by, list_all, range_with_len}
 use Rattle.ut_args.specs.Classes.{class_of}
 use Rattle.fl_graph.specs.Kinds.{has_aggregator}
 use Rattle.fl_graph.specs.declared.graphs.Cell.{Cell}
 use Rattle.fl_graph.specs.declared.kinds.NodeKind.{NodeKind}
 use Rattle.fl_graph.specs.declared.kinds.NodeKind.TheVariants as kind
 use Rattle.fl_classes.specs.Used.{is_cat}
+use Rattle.fl_segments.specs.Groups.{group_start, is_grouped}
 use Rattle.fl_segments.specs.Stages.{has_finish, is_spread}
 use Rattle.fl_segments.specs.declared.stages.Does.{Does}
 use Rattle.fl_segments.specs.declared.stages.Does.TheVariants as does
@@ -62,8 +63,26 @@ pub record HasItsMaps (width number : ℕ) (stage : Stage) (nodes : List (Cell N
   pub aggregates : count_at number is_aggregate nodes ≡ aggregates_of width (number == 0) stage.does
   pub finishes : count_at number is_finish nodes ≡ finishes_of width (number == 0) stage.does
 
+-- a group of a cat that leads: a Cat over the edges of its files, which are given before
+abbrev pub group_cell : ℕ → ℕ → ℕ → Cell NodeKind
+group_cell groups files group =
+    record {
+      kind = kind.Cat false;
+      ins = range_with_len (group_start groups files group) (group_start groups files (group + 1) - group_start groups files group);
+      outs = (files + group) ∷ [];
+      stage = 0;
+    }
+
+-- where the files of the first stage go in groups, as many as the width, these stand behind the files
+abbrev pub HasItsGroups : ℕ → List Stage → List (Cell NodeKind) → Type 0
+HasItsGroups width [] nodes = Unit {0}
+HasItsGroups width (stage ∷ stages) nodes =
+    is_grouped width true stage.does stage.ins ≡ true
+    → (group : ℕ) → group < width → slice_get nodes (length stage.ins + group) ≡ Some (group_cell width (length stage.ins) group)
+
 pub record IsSpread (width : ℕ) (segment : List Stage) (nodes : List (Cell NodeKind)) : Type 0 where
   -- each stage has its maps or its whole
   pub stages : (number : ℕ) (stage : Stage) → slice_get segment number ≡ Some stage → HasItsMaps width number stage nodes
+  pub groups : HasItsGroups width segment nodes
   -- nothing is split where there is one part
   pub unsplit : width ≡ 1 → list_all (λ cell. is_unsplit cell.kind) nodes ≡ true

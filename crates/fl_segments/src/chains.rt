@@ -10,6 +10,7 @@ ghost use Rattle.fl_classes.specs.Kinds.{are_run};
 ghost use Rattle.fl_classes.specs.Sources.{source_texts};
 ghost use Rattle.fl_classes.specs.Used.{words_used};
 ghost use Rattle.fl_segments.specs.Chains.{begins_with, chain_means, is_quiet as is_quiet_lem};
+ghost use Rattle.fl_segments.specs.Groups.{marks_hold};
 ghost use Rattle.fl_segments.specs.Spread.{IsSpread};
 ghost use Rattle.fl_segments.specs.Stages.{files_read, files_written, gives_output, is_stage, reads_input, words_at};
 ghost use Rattle.fl_segments.specs.Inner.Drawing.{behind, drawn};
@@ -56,7 +57,9 @@ pub fn chain(alloc: Global, segment: &[Stage], from: &First) -> Result<Graph, Me
 /// The graph of a segment at a width: a utility whose input may be cut is spread over so many parts of it.
 ///
 /// It is as that of `chain`, but for the nodes of such utilities: a Split of the one input, unless it comes in as many parts as the width,
-/// cut as the utility wants it, and a Map of each part. A stream that is on several edges is joined by a Cat where no utility takes it so.
+/// cut as the utility wants it, and a Map of each part. A cat that leads the segment may hand on its files in groups, and a Cat joins each:
+/// where they are files alone, one at least for each group, and all before the last group are marked closed. The outcome is what the segment
+/// means wherever the files that are marked closed are so. A stream that is on several edges is joined by a Cat where no utility takes it so.
 /// At a width below 2 it is that of `chain`.
 pub fn compile(alloc: Global, segment: &[Stage], from: &First, width: u32) -> Result<Graph, Memory>
     requires some { 1 ≤ length segment.now }
@@ -69,7 +72,7 @@ pub fn compile(alloc: Global, segment: &[Stage], from: &First, width: u32) -> Re
     ensures writes { IfOk result (λ graph. paths_written graph.nodes ≡ files_written segment.now) }
     ensures input { IfOk result (λ graph. list_any (λ cell. is_input cell.kind) graph.nodes ≡ reads_input segment.now from.now) }
     ensures output { IfOk result (λ graph. list_any (λ cell. is_output cell.kind) graph.nodes ≡ gives_output segment.now) }
-    ensures outcome { IfOk result (λ graph. (input : List ℕ) (files : Components → List ℕ) →
+    ensures outcome { IfOk result (λ graph. (input : List ℕ) (files : Components → List ℕ) → marks_hold files segment.now ≡ true →
         outcome graph (source_texts graph.nodes input files) ≡ chain_means segment.now (begins_with from.now input) files) }
     ensures used { IfOk result (λ graph. words_used graph.nodes ≡ words_at width segment.now) }
     ensures spread { IfOk result (λ graph. IsSpread width segment.now graph.nodes) }

@@ -1,10 +1,12 @@
-//! What a stage does: its utility, and what comes before its output.
+//! What a stage does: its utility, the files that tee writes, and what comes before its output.
 ghost use Rattle.std.specs.Prelude.{◌≡◌, ◌+◌, ◌++◌, [], ◌∷◌, false, if◌then◌else◌, length, IfOk, OnOk};
+ghost use Rattle.fl_segments.specs.Chains.{tee_mode};
 ghost use Rattle.fl_segments.specs.Stages.{is_none};
 ghost use Rattle.fl_segments.specs.Inner.Drawing.{behind, drawn, step};
-ghost use Rattle.fl_segments.specs.Inner.Steps.{before_parts, before_steps, does_nodes, does_parts, does_steps, first_parts, first_steps, main_nodes, main_parts, main_steps, util_nodes, util_parts, util_steps};
+ghost use Rattle.fl_segments.specs.Inner.Steps.{before_parts, before_steps, beside_parts, beside_steps, does_nodes, does_parts, does_steps, files_parts, files_steps, first_parts, first_steps, group_parts, group_steps, main_nodes, main_parts, main_steps, stage_parts, stage_steps, tee_edge, tee_steps, teed_parts, teed_steps, util_nodes, util_parts, util_steps};
 
 use crate::drawing::Drawing;
+use crate::groups::{add_groups, is_grouped};
 use crate::inputs::{add_front, begins, is_leading_cat};
 use crate::nodes::{add_nothing, add_text, add_whole_stream, is_empty, one_part};
 use crate::parts::{Coming, Parts, parts_on};
@@ -12,6 +14,7 @@ use crate::spread::{add_spread, is_spread};
 use crate::stages::{Does, Stage};
 use fl_graph::{NodeKind, Seq};
 use ps_lines::{Memory, Text};
+use ps_world::{Mode, Path};
 use std::alloc::Global;
 use ut_args::Inv;
 
@@ -41,12 +44,52 @@ pub(crate) fn add_main(
     let taken = add_front(alloc, drawing, number, stage, coming)?;
     let done = add_done(alloc, drawing, width, number, begins(coming), stage, taken)?;
     let Written { parts, nodes } = done;
-    let parts = add_first(alloc, drawing, number, stage, parts)?;
+    let parts = add_beside(alloc, drawing, number, stage, parts)?;
+    Ok(Written { parts, nodes })
+}
+
+/// Adds the nodes of what a stage does with these parts, which leads the segment or doesn't: the files of a cat may go in groups.
+#[tactic(auto, using(crate::proofs::GroupLemmas::named))]
+fn add_done(
+    alloc: Global,
+    drawing: &mut Drawing,
+    width: u32,
+    number: u32,
+    leads: bool,
+    stage: &Stage,
+    taken: Parts,
+) -> Result<Written, Memory>
+    ensures nodes { OnOk result (drawing.new.nodes.items ≡ drawing.old.nodes.items ++ drawn drawing.old.next (stage_steps width number leads stage.now.does stage.now.ins stage.now.first taken.edges drawing.old.next)) }
+    ensures next { OnOk result (drawing.new.next ≡ behind drawing.old.next (stage_steps width number leads stage.now.does stage.now.ins stage.now.first taken.edges drawing.old.next)) }
+    ensures parts { IfOk result (λ written. written.parts ≡ stage_parts width number leads stage.now.does stage.now.ins taken drawing.old.next) }
+    ensures named { IfOk result (λ written. written.nodes ≡ does_nodes width number leads stage.now.does taken.edges (length drawing.old.nodes.items)) }
+{
+    if is_grouped(width, leads, stage) {
+        return add_grouped(alloc, drawing, width, number, taken.edges.as_slice());
+    }
+    add_does(alloc, drawing, width, number, leads, stage, taken)
+}
+
+/// Adds the groups of a cat that leads the segment and has its files on these edges.
+fn add_grouped(
+    alloc: Global,
+    drawing: &mut Drawing,
+    width: u32,
+    number: u32,
+    edges: &[u32],
+) -> Result<Written, Memory>
+    ensures nodes { OnOk result (drawing.new.nodes.items ≡ drawing.old.nodes.items ++ drawn drawing.old.next (group_steps width number edges.now)) }
+    ensures next { OnOk result (drawing.new.next ≡ behind drawing.old.next (group_steps width number edges.now)) }
+    ensures parts { IfOk result (λ written. written.parts ≡ group_parts width drawing.old.next) }
+    ensures named { IfOk result (λ written. written.nodes ≡ []) }
+{
+    let nodes = Seq::from_vec(Vec::new(alloc));
+    let parts = add_groups(alloc, drawing, width, number, edges)?;
     Ok(Written { parts, nodes })
 }
 
 /// Adds the nodes of what a stage does with these parts, which leads the segment or doesn't.
-fn add_done(
+fn add_does(
     alloc: Global,
     drawing: &mut Drawing,
     width: u32,
@@ -151,6 +194,125 @@ fn add_whole(
     let copy = inv.copy()?;
     drawing.add(NodeKind::Whole(copy), edges, number)?;
     Ok(Written { parts, nodes })
+}
+
+/// Adds the files that tee writes this output to, and what comes before it.
+fn add_beside(
+    alloc: Global,
+    drawing: &mut Drawing,
+    number: u32,
+    stage: &Stage,
+    parts: Parts,
+) -> Result<Parts, Memory>
+    ensures nodes { OnOk result (drawing.new.nodes.items ≡ drawing.old.nodes.items ++ drawn drawing.old.next (beside_steps number stage.now.does stage.now.tees stage.now.first parts drawing.old.next)) }
+    ensures next { OnOk result (drawing.new.next ≡ behind drawing.old.next (beside_steps number stage.now.does stage.now.tees stage.now.first parts drawing.old.next)) }
+    ensures parts { IfOk result (λ both. both ≡ beside_parts number stage.now.does stage.now.tees stage.now.first parts drawing.old.next) }
+{
+    let teed = add_files(alloc, drawing, number, stage, parts)?;
+    add_first(alloc, drawing, number, stage, teed)
+}
+
+/// Adds the files that tee writes this output to, and gives what they hand on.
+fn add_files(
+    alloc: Global,
+    drawing: &mut Drawing,
+    number: u32,
+    stage: &Stage,
+    parts: Parts,
+) -> Result<Parts, Memory>
+    ensures nodes { OnOk result (drawing.new.nodes.items ≡ drawing.old.nodes.items ++ drawn drawing.old.next (files_steps number stage.now.does stage.now.tees parts.edges drawing.old.next)) }
+    ensures next { OnOk result (drawing.new.next ≡ behind drawing.old.next (files_steps number stage.now.does stage.now.tees parts.edges drawing.old.next)) }
+    ensures parts { IfOk result (λ teed. teed ≡ files_parts number stage.now.does stage.now.tees parts drawing.old.next) }
+{
+    match &stage.does {
+        Does::Skip => Ok(parts),
+        Does::Util(inv) => add_teed(
+            alloc,
+            drawing,
+            number,
+            mode_of(inv),
+            stage.tees.as_slice(),
+            parts,
+        ),
+    }
+}
+
+/// Adds the nodes of files that this output is written to, where there are any, and gives what they hand on.
+fn add_teed(
+    alloc: Global,
+    drawing: &mut Drawing,
+    number: u32,
+    mode: Mode,
+    paths: &[Path],
+    parts: Parts,
+) -> Result<Parts, Memory>
+    ensures nodes { OnOk result (drawing.new.nodes.items ≡ drawing.old.nodes.items ++ drawn drawing.old.next (teed_steps number mode paths.now parts.edges drawing.old.next)) }
+    ensures next { OnOk result (drawing.new.next ≡ behind drawing.old.next (teed_steps number mode paths.now parts.edges drawing.old.next)) }
+    ensures parts { IfOk result (λ teed. teed ≡ teed_parts number paths.now parts drawing.old.next) }
+{
+    if paths.is_empty() {
+        return Ok(parts);
+    }
+    let edge = add_whole_stream(alloc, drawing, number, parts.edges.as_slice())?;
+    let last = add_tee_files(alloc, drawing, number, mode, paths, edge)?;
+    one_part(alloc, last)
+}
+
+/// Adds the nodes of files, each of which gets what is on this edge and hands it on to the next, and gives the last one's edge.
+fn add_tee_files(
+    alloc: Global,
+    drawing: &mut Drawing,
+    number: u32,
+    mode: Mode,
+    paths: &[Path],
+    edge: u32,
+) -> Result<u32, Memory>
+    ensures nodes { OnOk result (drawing.new.nodes.items ≡ drawing.old.nodes.items ++ drawn drawing.old.next (tee_steps number mode paths.now edge drawing.old.next)) }
+    ensures next { OnOk result (drawing.new.next ≡ behind drawing.old.next (tee_steps number mode paths.now edge drawing.old.next)) }
+    ensures edge { IfOk result (λ last. last ≡ tee_edge paths.now edge drawing.old.next) }
+{
+    let mut on = edge;
+    for path in paths {
+        on = add_tee_file(alloc, drawing, number, path, mode, on)?;
+    }
+    Ok(on)
+}
+
+/// Adds the node of a file that gets what is on this edge and hands it on, and gives the edge on which it does.
+fn add_tee_file(
+    alloc: Global,
+    drawing: &mut Drawing,
+    number: u32,
+    path: &Path,
+    mode: Mode,
+    edge: u32,
+) -> Result<u32, Memory>
+    ensures nodes { OnOk result (drawing.new.nodes.items ≡ drawing.old.nodes.items ++ drawn drawing.old.next (step (NodeKind.TeeFile path.now mode) (edge ∷ []) number ∷ [])) }
+    ensures next { OnOk result (drawing.new.next ≡ drawing.old.next + 1) }
+    ensures edge { IfOk result (λ on. on ≡ drawing.old.next) }
+{
+    let next = drawing.next;
+    let edges = drawing.giving(alloc, &[edge])?;
+    let copy = path.copy()?;
+    drawing.add(NodeKind::TeeFile(copy, mode), edges, number)?;
+    Ok(next)
+}
+
+/// How tee begins the files that it writes (XCU tee): behind what they hold with `-a`, else anew.
+fn mode_of(inv: &Inv) -> Mode
+    ensures { result ≡ tee_mode inv.now }
+{
+    match inv {
+        Inv::Tee(tee) => begun(tee.args.appends),
+        _ => Mode::Fresh,
+    }
+}
+
+/// How a file is begun that is written behind what it holds, or isn't.
+fn begun(appends: bool) -> Mode
+    ensures { result ≡ (if appends then Mode.Append else Mode.Fresh) }
+{
+    if appends { Mode::Append } else { Mode::Fresh }
 }
 
 /// Adds what comes first, as a part before the output, and gives both.

@@ -5,13 +5,14 @@
 //! spreads the utilities whose input may be cut over so many parts of it.
 //!
 //! `specs/Stages.antt` says which stages there may be, and which files they read and write; `specs/Chains.antt` what a segment means;
-//! `specs/Noted.antt` which utilities run, and how often.
+//! `specs/Groups.antt` when the files of a cat go in groups; `specs/Noted.antt` which utilities run, and how often.
 //! `specs/Inner/` has words that only proofs need.
 #![tactic(auto)]
 
 mod chains;
 mod commands;
 mod drawing;
+mod groups;
 mod inputs;
 mod nodes;
 mod outputs;

@@ -8,14 +8,13 @@ use Rattle.ut_args.specs.declared.commands.Command.{Command}
 use Rattle.ut_args.specs.declared.commands.Command.TheVariants as command
 use Rattle.ut_args.specs.declared.invocations.Inv.{Inv}
 use Rattle.ut_streams.specs.Utilities.{Input}
-use Rattle.fl_classes.specs.Flow.{Outcome}
 use Rattle.fl_classes.specs.Utilities.{labelled}
 use Rattle.fl_segments.specs.Chains.{text_in}
 use Rattle.fl_segments.specs.Noted.{Noted}
 use Rattle.fl_segments.specs.declared.stages.Does.TheVariants as does
 use Rattle.fl_segments.specs.declared.stages.Out.TheVariants as out
 use Rattle.fl_segments.specs.declared.stages.Stage.{Stage}
-use Rattle.fl_commands.specs.Inputs.{noted_over, output_for, selects_for, status_of}
+use Rattle.fl_commands.specs.Inputs.{noted_over}
 use Rattle.fl_commands.specs.Operands.{deals, ins_of, lacks, without_input}
 use Rattle.fl_commands.specs.declared.members.Member.{Member}
 use Rattle.fl_commands.specs.declared.operands.Operand.{Operand}
@@ -38,14 +37,6 @@ inputs_with deals texts operands stream files = labelled (remaining (without_inp
 abbrev pub command_left : Command → List Operand → Command
 command_left asked operands = with_operands (emptied (map lacks operands) (operands_by asked)) asked
 
--- what a command leaves
-abbrev pub left_by : Command → List Operand → List Input → Outcome
-left_by asked operands inputs = record {
-  output = output_for (command_left asked operands) inputs;
-  files = [];
-  status = status_of asked (some_lacks operands) (selects_for (command_left asked operands) inputs);
-}
-
 -- what is noted of it: its words, with the empty text in place of operands without an input
 abbrev pub words_left : List (List ℕ) → List (List ℕ) → List Operand → List (List ℕ)
 words_left words texts operands = take (length words - length texts) words ++ emptied (map lacks operands) texts
@@ -53,8 +44,8 @@ words_left words texts operands = take (length words - length texts) words ++ em
 abbrev pub run_noted : Inv → List Operand → List Noted
 run_noted inv operands = noted_over (command_of inv) (words_left (words_of inv) (operands_of inv) operands) (length (ins_of (deals (command_of inv)) operands))
 
--- the stage of an invocation with these operands
-pub record IsStageOf (inv : Inv) (operands : List Operand) (stage : Stage) : Type 0 where
+-- the stage of an invocation with these operands, which writes these files
+pub record IsStageOf (inv : Inv) (operands : List Operand) (tees : List Components) (stage : Stage) : Type 0 where
   pub without : Inv
   pub asks : command_of without ≡ command_left (command_of inv) operands
   pub words : words_of without ≡ words_left (words_of inv) (operands_of inv) operands
@@ -67,7 +58,7 @@ pub record IsStageOf (inv : Inv) (operands : List Operand) (stage : Stage) : Typ
     status = plain_status (command_of inv) (some_lacks operands);
     reads = [];
     writes = [];
-    tees = [];
+    tees = tees;
   }
 
 -- the stages of the members of a pipeline
@@ -75,4 +66,4 @@ abbrev pub AreStagesOf : List Member → List Stage → Type 0
 AreStagesOf [] [] = Unit {0}
 AreStagesOf [] (stage ∷ stages) = ⊥
 AreStagesOf (member ∷ members) [] = ⊥
-AreStagesOf (member ∷ members) (stage ∷ stages) = IsStageOf member.inv member.operands.items stage × AreStagesOf members stages
+AreStagesOf (member ∷ members) (stage ∷ stages) = IsStageOf member.inv member.operands.items member.tees.items stage × AreStagesOf members stages

@@ -1,9 +1,12 @@
 -- The nodes of a segment at a width (own), stage by stage. Those of a stage, in their order: the end of a stream that it doesn't read, those
--- of its inputs, what joins them, its utility or what that is spread over, what comes first, and where its output goes. All have the stage's
--- number, and each part is said of the number of the next edge. What comes of a part is a stream on one or several edges.
+-- of its inputs, what joins them, its utility or what that is spread over, the files that tee writes, what comes first, and where its output
+-- goes. All have the stage's number, and each part is said of the number of the next edge. What comes of a part is a stream on one or several
+-- edges.
 use Rattle.std.specs.Prelude.{ℕ, zero, suc, ◌+◌, ◌-◌, ◌/◌, List, [], ◌∷◌, ◌++◌, Bool, true, false, not, ◌&&◌, ◌||◌, ◌==◌, nat_lt, if◌then◌else◌, length, get_or, take, drop, Option, Some, None}
 use Rattle.std.specs.List.{flat_map, range_with_len}
 use Rattle.ps_lines.specs.Lines.{is_empty}
+use Rattle.ps_world.specs.Paths.{Components}
+use Rattle.ps_world.specs.declared.tree.Mode.{Mode}
 use Rattle.ut_args.specs.Classes.{class_of, keeps_closed_of}
 use Rattle.ut_args.specs.declared.classes.Class.{Class}
 use Rattle.ut_args.specs.declared.classes.Class.TheVariants as class
@@ -16,8 +19,10 @@ use Rattle.fl_graph.specs.declared.kinds.NodeKind.{NodeKind}
 use Rattle.fl_graph.specs.declared.kinds.NodeKind.TheVariants as kind
 use Rattle.fl_graph.specs.declared.kinds.From.TheVariants as from
 use Rattle.fl_graph.specs.declared.kinds.To.TheVariants as to
+use Rattle.fl_classes.specs.Parts.{slice}
 use Rattle.fl_classes.specs.Used.{is_cat}
-use Rattle.fl_segments.specs.Chains.{is_quiet}
+use Rattle.fl_segments.specs.Chains.{is_quiet, tee_mode}
+use Rattle.fl_segments.specs.Groups.{group_start, is_grouped}
 use Rattle.fl_segments.specs.Stages.{closes_before, has_finish, is_none, is_reader, is_spread, is_stream, joins_before}
 use Rattle.fl_segments.specs.Inner.Drawing.{Step, step, split_step, behind}
 use Rattle.fl_segments.specs.declared.parts.Coming.{Coming}
@@ -259,6 +264,56 @@ abbrev pub does_nodes : ℕ → ℕ → Bool → Does → List ℕ → ℕ → L
 does_nodes width number leads does.Skip edges before = []
 does_nodes width number leads (does.Util inv) edges before = util_nodes width number leads inv edges before
 
+-- each file that tee writes gets what is on this edge, and hands it on
+abbrev pub tee_steps : ℕ → Mode → List Components → ℕ → ℕ → List Step
+tee_steps number mode [] edge next = []
+tee_steps number mode (path ∷ paths) edge next = step (kind.TeeFile path mode) (edge ∷ []) number ∷ tee_steps number mode paths next (next + 1)
+
+abbrev pub tee_edge : List Components → ℕ → ℕ → ℕ
+tee_edge [] edge next = edge
+tee_edge (path ∷ paths) edge next = tee_edge paths next (next + 1)
+
+-- where there are such files, they get the output whole
+abbrev pub teed_steps : ℕ → Mode → List Components → List ℕ → ℕ → List Step
+teed_steps number mode paths edges next =
+    if is_none paths then [] else whole_steps number edges ++ tee_steps number mode paths (whole_edge edges next) (behind next (whole_steps number edges))
+
+abbrev pub teed_parts : ℕ → List Components → Parts → ℕ → Parts
+teed_parts number paths parts next =
+    if is_none paths then parts else one_part (tee_edge paths (whole_edge parts.edges next) (behind next (whole_steps number parts.edges)))
+
+abbrev pub files_steps : ℕ → Does → List Components → List ℕ → ℕ → List Step
+files_steps number does.Skip paths edges next = []
+files_steps number (does.Util inv) paths edges next = teed_steps number (tee_mode inv) paths edges next
+
+abbrev pub files_parts : ℕ → Does → List Components → Parts → ℕ → Parts
+files_parts number does.Skip paths parts next = parts
+files_parts number (does.Util inv) paths parts next = teed_parts number paths parts next
+
+-- the edges in groups, so many from this one on, and a Cat over each
+abbrev pub groups_from : ℕ → List ℕ → ℕ → ℕ → List (List ℕ)
+groups_from width edges group zero = []
+groups_from width edges group (suc left) =
+    slice edges (group_start width (length edges) group) (group_start width (length edges) (group + 1)) ∷ groups_from width edges (group + 1) left
+
+abbrev pub cat_steps : ℕ → List (List ℕ) → List Step
+cat_steps number [] = []
+cat_steps number (edges ∷ groups) = step (kind.Cat false) edges number ∷ cat_steps number groups
+
+abbrev pub group_steps : ℕ → ℕ → List ℕ → List Step
+group_steps width number edges = cat_steps number (groups_from width edges 0 width)
+
+abbrev pub group_parts : ℕ → ℕ → Parts
+group_parts width next = parts_on (range_with_len next width) true
+
+-- what a stage does, where the files of a cat that leads may go in groups
+abbrev pub stage_steps : ℕ → ℕ → Bool → Does → List In → List ℕ → List ℕ → ℕ → List Step
+stage_steps width number leads it ins text edges next =
+    if is_grouped width leads it ins then group_steps width number edges else does_steps width number leads it text edges next
+
+abbrev pub stage_parts : ℕ → ℕ → Bool → Does → List In → Parts → ℕ → Parts
+stage_parts width number leads it ins parts next = if is_grouped width leads it ins then group_parts width next else does_parts width number leads it parts next
+
 -- what comes first is a part before the output, which is whole then
 abbrev pub before_steps : ℕ → List ℕ → List ℕ → List Step
 before_steps number text edges = if is_empty text then [] else whole_steps number edges ++ step (kind.Text text) [] number ∷ []
@@ -274,6 +329,14 @@ first_steps number (does.Util inv) text edges = before_steps number text edges
 abbrev pub first_parts : ℕ → Does → List ℕ → Parts → ℕ → Parts
 first_parts number does.Skip text parts next = parts
 first_parts number (does.Util inv) text parts next = before_parts number text parts next
+
+-- both: the files, and what comes before what they hand on
+module _ (number : ℕ) (it : Does) (paths : List Components) (text : List ℕ) (parts : Parts) (next : ℕ) where
+  abbrev pub beside_steps : List Step
+  beside_steps = files_steps number it paths parts.edges next ++ first_steps number it text (files_parts number it paths parts next).edges
+
+  abbrev pub beside_parts : Parts
+  beside_parts = first_parts number it text (files_parts number it paths parts next) (behind next (files_steps number it paths parts.edges next))
 
 -- where the output of the last stage goes
 abbrev pub piped_steps : ℕ → List ℕ → ℕ → List Step
@@ -362,19 +425,21 @@ module _ (number : ℕ) (comes : Coming) (stage : Stage) (next : ℕ) where
 
 module _ (width number : ℕ) (comes : Coming) (stage : Stage) (next : ℕ) where
   abbrev pub done_steps : List Step
-  done_steps = does_steps width number (begins comes) stage.does stage.first (front_edges number comes stage next) (front_next number comes stage next)
+  done_steps =
+      stage_steps width number (begins comes) stage.does stage.ins stage.first (front_edges number comes stage next) (front_next number comes stage next)
 
   abbrev pub done_parts : Parts
-  done_parts = does_parts width number (begins comes) stage.does (parts_on (front_edges number comes stage next) (comes_cut comes)) (front_next number comes stage next)
+  done_parts =
+      stage_parts width number (begins comes) stage.does stage.ins (parts_on (front_edges number comes stage next) (comes_cut comes)) (front_next number comes stage next)
 
   abbrev pub done_next : ℕ
   done_next = behind (front_next number comes stage next) done_steps
 
   abbrev pub main_steps : List Step
-  main_steps = front_steps number comes stage next ++ (done_steps ++ first_steps number stage.does stage.first done_parts.edges)
+  main_steps = front_steps number comes stage next ++ (done_steps ++ beside_steps number stage.does stage.tees stage.first done_parts done_next)
 
   abbrev pub main_parts : Parts
-  main_parts = first_parts number stage.does stage.first done_parts done_next
+  main_parts = beside_parts number stage.does stage.tees stage.first done_parts done_next
 
   abbrev pub main_next : ℕ
   main_next = behind next main_steps

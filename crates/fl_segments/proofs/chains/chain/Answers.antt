@@ -1,4 +1,4 @@
-use Rattle.fl_segments.proofs.ChainLemmas.{chained_if, if_ok}
+use Rattle.fl_segments.proofs.ChainLemmas.{chained_if, if_ok, led-narrow}
 use Rattle.fl_segments.proofs.chains.chain.Goals as goal
 
 pub returns-clause-valid : goal.returns-clause-valid
@@ -41,7 +41,7 @@ pub returns-clause-outcome : goal.returns-clause-outcome
 returns-clause-outcome c =
     if_ok c.chain_graph.result
     (chained_if 1 c.chain_graph.result c.args.from c.args.segment.now c.requires.some c.requires.stages c.requires.paths c.chain_graph.ensures.nodes c.chain_graph.ensures.status)
-    (λ graph is. is.outcome)
+    (λ graph is input files. is.outcome input files (led-narrow c.args.segment.now files))
 
 pub returns-clause-used : goal.returns-clause-used
 returns-clause-used c =

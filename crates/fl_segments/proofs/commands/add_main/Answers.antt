@@ -12,8 +12,8 @@ returns-clause-nodes c =
       to_does = c.in_ok-done.ensures.next;
       done_is = c.in_ok-done.ensures.parts;
       nodes_are = c.in_ok-done.ensures.named;
-      first_so = c.in_ok-parts.ensures.nodes;
-      to_first = c.in_ok-parts.ensures.next;
+      beside_so = c.in_ok-parts.ensures.nodes;
+      to_beside = c.in_ok-parts.ensures.next;
       both_is = c.in_ok-parts.ensures.parts;
     })
 
@@ -28,8 +28,8 @@ returns-clause-next c =
       to_does = c.in_ok-done.ensures.next;
       done_is = c.in_ok-done.ensures.parts;
       nodes_are = c.in_ok-done.ensures.named;
-      first_so = c.in_ok-parts.ensures.nodes;
-      to_first = c.in_ok-parts.ensures.next;
+      beside_so = c.in_ok-parts.ensures.nodes;
+      to_beside = c.in_ok-parts.ensures.next;
       both_is = c.in_ok-parts.ensures.parts;
     })
 
@@ -44,8 +44,8 @@ returns-clause-parts c =
       to_does = c.in_ok-done.ensures.next;
       done_is = c.in_ok-done.ensures.parts;
       nodes_are = c.in_ok-done.ensures.named;
-      first_so = c.in_ok-parts.ensures.nodes;
-      to_first = c.in_ok-parts.ensures.next;
+      beside_so = c.in_ok-parts.ensures.nodes;
+      to_beside = c.in_ok-parts.ensures.next;
       both_is = c.in_ok-parts.ensures.parts;
     })
 
@@ -60,7 +60,7 @@ returns-clause-named c =
       to_does = c.in_ok-done.ensures.next;
       done_is = c.in_ok-done.ensures.parts;
       nodes_are = c.in_ok-done.ensures.named;
-      first_so = c.in_ok-parts.ensures.nodes;
-      to_first = c.in_ok-parts.ensures.next;
+      beside_so = c.in_ok-parts.ensures.nodes;
+      to_beside = c.in_ok-parts.ensures.next;
       both_is = c.in_ok-parts.ensures.parts;
     })

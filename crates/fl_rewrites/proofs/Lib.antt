@@ -7,3 +7,13 @@ pub mod CarryLemmas
 pub mod ValueLemmas
 pub mod SpliceLemmas
 pub mod PlaceLemmas
+pub mod KnownLemmas
+pub mod ExchangeLemmas
+pub mod ExchangedLemmas
+pub mod CarriedLemmas
+pub mod StandLemmas
+pub mod JoinedLemmas
+pub mod UnjoinLemmas
+pub mod RowLemmas
+pub mod SeamLemmas
+pub mod MarkLemmas

@@ -87,7 +87,7 @@ near-files (one ∷ ones) (other ∷ others) all files =
     let parts = and_parts other.file (list_all (λ (value : Value). value.file) others) files in
     and_from one.file (list_all (λ (value : Value). value.file) ones) (all.0.file parts.0) (near-files ones others all.1 parts.1)
 
-near-groups : (ones others : List Value) → AllZip IsNear ones others → Fewer (flat_map (λ (value : Value). value.group) ones) (flat_map (λ (value : Value). value.group) others)
+pub near-groups : (ones others : List Value) → AllZip IsNear ones others → Fewer (flat_map (λ (value : Value). value.group) ones) (flat_map (λ (value : Value). value.group) others)
 near-groups [] [] all = no_more
 near-groups [] (other ∷ others) all = absurd all
 near-groups (one ∷ ones) [] all = absurd all

@@ -13,6 +13,12 @@ pub record Keeps (old new : Graph) : Type 0 where
   pub suits : (sources : List (List ℕ)) → Suits old.nodes sources → Suits new.nodes sources
   pub leaves : (sources : List (List ℕ)) → Suits old.nodes sources → outcome new sources ≡ outcome old sources
 
+-- the same for those texts of the sources of which this is known
+pub record KeepsWhere (known : List (List ℕ) → Type 0) (old new : Graph) : Type 0 where
+  pub valid : Valid new.nodes new.status
+  pub suits : (sources : List (List ℕ)) → known sources → Suits old.nodes sources → Suits new.nodes sources
+  pub leaves : (sources : List (List ℕ)) → known sources → Suits old.nodes sources → outcome new sources ≡ outcome old sources
+
 -- a rewrite that makes this graph of the given one, or doesn't apply, has answered
 abbrev pub Answers : Option Graph → Graph → Rewritten → Type 0
 Answers made graph (rewritten.Done new) = made ≡ Some new
@@ -24,3 +30,9 @@ abbrev pub KeepsFlow : Graph → Rewritten → Type 0
 KeepsFlow graph (rewritten.Done new) = Keeps graph new
 KeepsFlow graph (rewritten.NotApplicable same) = Unit {0}
 KeepsFlow graph rewritten.Memory = Unit {0}
+
+-- the same for those texts of the sources of which this is known
+abbrev pub KeepsFlowWhere : (List (List ℕ) → Type 0) → Graph → Rewritten → Type 0
+KeepsFlowWhere known graph (rewritten.Done new) = KeepsWhere known graph new
+KeepsFlowWhere known graph (rewritten.NotApplicable same) = Unit {0}
+KeepsFlowWhere known graph rewritten.Memory = Unit {0}

@@ -10,9 +10,17 @@
 #![tactic(auto)]
 
 mod answers;
+mod joined;
+mod known;
 mod numbers;
 mod places;
+mod replacing;
+mod rows;
 
 pub use answers::Rewritten;
+pub use joined::{JoinedNodes, Unjoined, exchange, joined_at, map_nodes};
+pub use known::{are_files, is_known, joins_plainly};
 pub use numbers::number;
 pub use places::{edge_count, giver_of, taker_of};
+pub use replacing::{replace, with_nodes};
+pub use rows::row;

@@ -25,7 +25,7 @@ pub fn number(alloc: Global, nodes: Vec<Node>) -> Result<Vec<Node>, Memory>
 }
 
 /// The edges in the order in which they are given.
-fn given_edges(alloc: Global, nodes: &[Node]) -> Result<Vec<u32>, Memory>
+pub(crate) fn given_edges(alloc: Global, nodes: &[Node]) -> Result<Vec<u32>, Memory>
     ensures { IfOk result (λ edges. edges.items ≡ gives nodes.now) }
 {
     let mut edges = Vec::new(alloc);
@@ -52,7 +52,7 @@ fn places_of(alloc: Global, edges: &[u32], count: u32) -> Result<Vec<u32>, Memor
 }
 
 /// The least number above these.
-fn bound_of(edges: &[u32]) -> usize
+pub(crate) fn bound_of(edges: &[u32]) -> usize
     ensures { result ≡ bound edges.now }
 {
     let mut above = 0;

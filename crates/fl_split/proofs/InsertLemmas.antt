@@ -181,7 +181,7 @@ split-keeps old edge parts place taker valid some taken there plain =
     sound-split next edge parts taker at.front at.back old.status some takes_it plain before below in
     let leaves : LeavesAlways old.nodes (at.front ++ put next edge parts taker at.back) old.status (moved_status (length at.front) old.status) =
     subst (λ (cells : List (Cell NodeKind)). LeavesAlways cells (at.front ++ put next edge parts taker at.back) old.status (moved_status (length at.front) old.status)) (sym at.whole)
-    (λ sources one other first second asks. leaves-split next edge parts taker at.front at.back old.status some takes_it plain before.wired sources one other first second asks) in
+    (λ sources known one other first second asks. leaves-split next edge parts taker at.front at.back old.status some takes_it plain before.wired sources one other first second asks) in
     let kept : Keeps old (record { nodes = numbered (at.front ++ put next edge parts taker at.back); status = moved_status (length at.front) old.status }) =
     keeps old (at.front ++ put next edge parts taker at.back) (moved_status (length at.front) old.status) valid sound leaves in
     let nodes : at.front ++ put next edge parts taker at.back ≡ replaced (split_cells next edge parts) place old.nodes = sym (at.others (split_cells next edge parts)) in

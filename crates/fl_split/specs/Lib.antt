@@ -1,1 +1,3 @@
 pub mod Inserting
+pub mod Commuting
+pub mod Grouping

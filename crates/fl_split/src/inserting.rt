@@ -8,7 +8,7 @@ ghost use Rattle.fl_rewrites.specs.Places.{replaced};
 ghost use Rattle.fl_split.specs.Inserting.{may_be_split as may_be_split_lem, may_have_parts as may_have_parts_lem, may_take_parts as may_take_parts_lem, moved as moved_lem, moved_status as moved_status_lem, site_of as site_of_lem, split_cells, split_graph, turned as turned_lem, turned_cell, with_split};
 
 use fl_graph::{Graph, Node, NodeKind, Seq, StatusRule};
-use fl_rewrites::{Rewritten, edge_count, number, taker_of};
+use fl_rewrites::{Rewritten, edge_count, number, row, taker_of};
 use ps_lines::Memory;
 use std::alloc::Global;
 
@@ -174,18 +174,6 @@ fn join_edges(alloc: Global, next: u32, parts: u32, joined: u32) -> Result<Edges
     let ins = Seq::from_vec(row(alloc, next, parts)?);
     let outs = Seq::from_vec(Vec::from_slice(alloc, &[joined])?);
     Ok(Edges { ins, outs })
-}
-
-/// So many numbers from this one on.
-fn row(alloc: Global, from: u32, count: u32) -> Result<Vec<u32>, Memory>
-    requires { from + count < 2 ^ 32 }
-    ensures { IfOk result (λ row. row.items ≡ range_with_len from count) }
-{
-    let mut row = Vec::new(alloc);
-    for number in from..from + count {
-        row.push(number)?;
-    }
-    Ok(row)
 }
 
 /// Gives a node the new edge in place of the old. On Memory the node is as it was.

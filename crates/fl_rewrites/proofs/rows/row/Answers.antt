@@ -1,6 +1,6 @@
 use Rattle.std.proofs.Common.{arith}
-use Rattle.fl_split.proofs.RowLemmas.{row-on}
-use Rattle.fl_split.proofs.inserting.row.Goals as goal
+use Rattle.fl_rewrites.proofs.RowLemmas.{row-on}
+use Rattle.fl_rewrites.proofs.rows.row.Goals as goal
 
 pub loop-number-preserved : goal.loop-number-preserved
 loop-number-preserved c =

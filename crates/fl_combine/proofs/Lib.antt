@@ -1,0 +1,3 @@
+pub mod AggregateLemmas
+pub mod TreeLemmas
+pub mod FanLemmas

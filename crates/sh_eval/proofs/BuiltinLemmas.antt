@@ -27,7 +27,7 @@ use Rattle.sh_eval.specs.declared.shell.Shell.{Shell}
 use Rattle.sh_eval.specs.Shells.{with_status}
 use Rattle.sh_eval.specs.States.{State, Means, ends, on, leaves, puts, tells, to_read, reads_to}
 use Rattle.sh_eval.specs.Growth.{Grows, Adds}
-use Rattle.sh_eval.specs.Asking.{Asked, no_name, unknown, unlisted, unusable, utility, builtin, does}
+use Rattle.sh_eval.specs.Asking.{Asked, no_name, unknown, unlisted, unusable, tee, utility, builtin, does}
 use Rattle.sh_eval.specs.Builtins.{out_of, leaves_loops, sets, shifts, misused, answers, tests, echoes, reads, set_all, line_in, behind_line}
 use Rattle.sh_eval.specs.Lines.{bad_usage}
 use Rattle.sh_eval.specs.Redirections.{named_by}
@@ -44,6 +44,7 @@ means_of none no_name = none
 means_of none (unknown name) = none
 means_of none (unlisted name letter) = none
 means_of none (unusable is_special name) = none
+means_of none (tee name args) = none
 means_of none (utility name called) = none
 means_of none (builtin is_special means) = means
 
@@ -83,6 +84,7 @@ AddsIfAsked no_name = Unit {0}
 AddsIfAsked (unknown name) = Unit {0}
 AddsIfAsked (unlisted name letter) = Unit {0}
 AddsIfAsked (unusable is_special name) = Unit {0}
+AddsIfAsked (tee name args) = Unit {0}
 AddsIfAsked (utility name called) = Unit {0}
 AddsIfAsked (builtin is_special means) = Adds means
 

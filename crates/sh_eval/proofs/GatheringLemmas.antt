@@ -12,8 +12,10 @@ use Rattle.ut_args.specs.Invocations.{command_of, words_of}
 use Rattle.ut_args.specs.Reading.{invocation}
 use Rattle.ut_args.specs.declared.commands.Command.{Command as Invoked}
 use Rattle.ut_args.specs.declared.invocations.Inv.{Inv}
+use Rattle.ps_world.specs.Paths.{Components}
 use Rattle.fl_commands.specs.Inner.Stages.{some_lacks}
-use Rattle.fl_commands.specs.Members.{AllNamesStand}
+use Rattle.fl_commands.specs.Members.{AllNamesStand, files_teed}
+use Rattle.fl_commands.specs.Writers.{MayWrite}
 use Rattle.fl_commands.specs.Operands.{AllStand}
 use Rattle.fl_commands.specs.declared.members.Member.{Member}
 use Rattle.fl_segments.specs.declared.chains.TheConstants.{MAX_STAGES}
@@ -37,7 +39,7 @@ use Rattle.sh_eval.specs.Shells.{inside, with_env}
 use Rattle.sh_eval.specs.Simple.{by_patterns, checked, done, most_operands}
 use Rattle.sh_eval.specs.States.{State, Means, in_shell, refused}
 use Rattle.sh_eval.specs.Table.{pages, patterns_of}
-use Rattle.sh_eval.specs.Utilities.{Called, Patterns, deals, is_silent, needs_all, read, read_use, runs_utility, uses_by_operands, written_use}
+use Rattle.sh_eval.specs.Utilities.{Called, Patterns, deals, is_silent, needs_all, read, read_use, runs_utility, uses_by_operands}
 use Rattle.sh_eval.specs.declared.refusals.Refusal.TheVariants as refusal
 use Rattle.sh_eval.proofs.OperandSteps.{lacks-are, lines-are, looked}
 use Rattle.sh_eval.proofs.SimpleSteps.{utility-so}
@@ -53,8 +55,8 @@ asked-is [] asked some is = absurd (omega (arith, some))
 asked-is (name ∷ rest) asked some is = ap (asked_as name (name ∷ rest)) is
 
 -- none is too many
-not-more : (count : ℕ) (files : List (List ℕ)) → files ≡ [] → count ≤ most_operands → nat_lt most_operands (count + length files) ≡ false
-not-more count files none few = ap (λ (it : List (List ℕ)). nat_lt most_operands (count + length it)) none ∙ le-ltb most_operands (count + 0) (omega (arith, few))
+not-more : (count : ℕ) → count ≤ most_operands → nat_lt most_operands count ≡ false
+not-more count few = le-ltb most_operands count few
 
 module _ (inv : Inv) (can : CanBeMember inv) where
   abbrev called : Called
@@ -74,17 +76,16 @@ module _ (inv : Inv) (can : CanBeMember inv) where
       reads = flat_map (read_use state) (operands_of inv)
 
       uses-are : uses_by_operands pages called state ++ [] ≡ reads
-      uses-are = append-nil (uses_by_operands pages called state) ∙ ap (λ (it : List (List ℕ)). reads ++ map (written_use state) it) can.none ∙ append-nil reads
+      uses-are = append-nil reads
 
   -- what is checked passes
   checked-so : (expansions : Expansions) (state : State) → first_busy state.session.streams.held (flat_map (read_use state) (operands_of inv)) ≡ None
       → checked expansions pages [] [] (does (name_of called) (words_of inv) (command_of inv)) state ≡ runs state
   checked-so expansions state free =
-      ap (λ (it : Asked). checked expansions pages [] [] it state) (utility-so (name_of called) (words_of inv) (command_of inv) (can.other (name_of called) (words_of inv)))
-      ∙ cond-true (is_built_of inv) (by_patterns expansions pages (name_of called) called [] [] (patterns_of (command_of inv)) state) (refused refusal.NotBuilt state) can.built
+      ap (λ (it : Asked). checked expansions pages [] [] it state) (utility-so (name_of called) (words_of inv) (command_of inv) can.built)
       ∙ ap (λ (it : Patterns). by_patterns expansions pages (name_of called) called [] [] it state) can.patterns
       ∙ ap (λ (it : Bool). if it then refused refusal.ArgsTooMany state else done expansions false [] (uses_by_operands pages called) [] runs state)
-      (not-more (length (operands_of inv)) (files_of inv) can.none can.few)
+      (not-more (length (operands_of inv)) can.few)
       ∙ runs-free expansions state free
 
 -- a command whose words ask for a member is that of the member
@@ -124,7 +125,6 @@ module _ (words : List WordTree) (shell : Shell) (held : List Held) (tree : Tree
   pub plain-so : (state : State) → member.operands.items ≡ looked state (operands_of its_inv) → IsPlain state (called_by its_inv)
   plain-so state named =
       record {
-        no_files = found.can.none;
         is_whole = ap (λ (it : Bool). needs_all (command_of its_inv) && it) (lacks-are state (operands_of its_inv) ∙ ap some_lacks (sym named)) ∙ found.whole;
       }
 
@@ -140,9 +140,11 @@ module _ (words : List WordTree) (shell : Shell) (held : List Held) (tree : Tree
             built = found.can.built;
             named = found.looked.are;
             few = few-operands (operands_of its_inv) member.operands.items found.can.few found.looked.are;
+            tees = subst (MayWrite its_inv) (sym found.teeless) tt;
           },
           tt,
         );
+        teeless = append-nil member.tees.items ∙ found.teeless;
         there = there-so tree.held found.looked.stand;
         looked = (found.looked, tt);
         stand = λ expansions are files told. (member-is expansions are files told, tt);
@@ -160,7 +162,7 @@ found-at tree words shell held state member is found =
 -- ALL STAGES. None
 pub none-gathered : (shell : Shell) (held : List Held) (state : TreeState) → AreGathered no_command shell held state [] []
 none-gathered shell held state =
-    record { ready = tt; there = none-there state.held; looked = tt; stand = λ expansions are files told. tt; told = λ at told home. (tt, refl) }
+    record { ready = tt; teeless = refl; there = none-there state.held; looked = tt; stand = λ expansions are files told. tt; told = λ at told home. (tt, refl) }
   where
     none-there : (told : Option Files) → IfSome told (λ files. AllNamesStand files [])
     none-there None = tt
@@ -177,6 +179,7 @@ module _ (tree : CommandTree) (trees : CommandTrees) (shell : Shell) (held : Lis
   more-gathered =
       record {
         ready = (first.ready.0, rest.ready);
+        teeless = ap (λ (it : List Components). it ++ files_teed members) (sym (append-nil member.tees.items) ∙ first.teeless) ∙ rest.teeless;
         there = both-there state.held first.there rest.there;
         looked = (first.looked.0, rest.looked);
         stand = λ expansions are files told. ((first.stand expansions are files told).0, rest.stand expansions are files told);

@@ -24,26 +24,28 @@ use Rattle.sh_expand.specs.declared.faults.ExpandFault.TheVariants as fault
 use Rattle.sh_eval.specs.declared.shell.Shell.{Shell}
 use Rattle.sh_eval.specs.declared.refusals.Refusal.TheVariants as refusal
 use Rattle.sh_eval.specs.Shells.{inside}
-use Rattle.sh_eval.specs.Lines.{unset_line, arithmetic_line, bad_usage}
+use Rattle.sh_eval.specs.Lines.{unset_line, arithmetic_line, bad_usage, diagnostic, no_such_file, is_a_directory}
 use Rattle.sh_eval.specs.declared.outcomes.Position.{Position}
 use Rattle.sh_eval.specs.declared.outcomes.Position.TheVariants as position
 use Rattle.sh_eval.specs.Commands.{staged, goes_on_behind, joined_by, negated, apart, subshell, its_status, first_stage, middle_stage, last_stage, substitution, handed_on, reading_piped, unchanged, with_text, some_command, chosen, succeeded, noted, tested_by, of_body, turn, turn_used, turns, rounds, is_over, goes_round, left_by, while_holds, for_fields, entered, most_turns, set_to, none_substituted, failed}
 use Rattle.sh_eval.specs.Expanding.{ends_told, stops_at, goes_on_with, with_variables, given_by, with_fields, with_targets, assigning}
 use Rattle.sh_eval.specs.Expanding.{with_text as with_text_of}
 use Rattle.sh_eval.specs.Targets.{Target}
-use Rattle.sh_eval.specs.Redirections.{Use, named_by, unless_busy, where_free, first_busy, Redirected, led, stopped, reading_at, writing_at, redirected, leads_to, goes_on_in, redirecting, in_redirections, uses_of, holding}
+use Rattle.sh_eval.specs.Redirections.{Use, file_begun, named_by, unless_busy, where_free, first_busy, Redirected, led, stopped, reading_at, writing_at, redirected, leads_to, goes_on_in, redirecting, in_redirections, uses_of, holding}
 use Rattle.fl_segments.specs.Noted.{Noted}
 use Rattle.fl_commands.specs.Inputs.{noted_over, status_of}
 use Rattle.sh_eval.specs.Inner.Runs.{Does, takes}
-use Rattle.sh_eval.specs.Utilities.{Called, appends, deals, needs_all, Made, make_file, make_files, write_files, notes, words_without, Pages, Patterns, read, wrong, refers_back, given_to, inputs_in, has_none, reads_standard, taken_in, takes_inputs, tells_some, lines_told, made_by, texts_joined, writes_out, does_nothing, runs_utility, uses_by_operands}
+use Rattle.sh_eval.specs.Utilities.{Called, deals, needs_all, notes, words_without, Pages, Patterns, read, wrong, refers_back, given_to, inputs_in, has_none, reads_standard, taken_in, takes_inputs, tells_some, lines_told, writes_out, does_nothing, runs_utility, uses_by_operands}
+use Rattle.sh_eval.specs.Teeing.{Made, copies, making, making_at, none_made, spreads, tees, tells_and_copies, uses_by_files, with_place, without, writes}
 use Rattle.sh_eval.specs.Builtins.{misused, answers, sets, shifts, set_all, line_in, behind_line, reads}
-use Rattle.sh_eval.specs.Asking.{Asked, no_name, unknown, unlisted, unusable, utility, builtin, at_fault, does, asked_as, asked_by}
+use Rattle.sh_eval.specs.Asking.{Asked, no_name, unknown, unlisted, unusable, tee, utility, builtin, at_fault, does, asked_as, asked_by}
 use Rattle.sh_eval.specs.Simple.{assigned_for, done, where_few, by_patterns, checked, runs_simple, most_operands}
 use Rattle.sh_eval.specs.Meaning.{held_in, has_item, list_means, and_or_means, joined_means, pipeline_means, stages_means, later_stages_mean, command_means, branches_mean, else_means, simple_means, in_means, words_mean, tail_means, subs_mean, script_means}
-use Rattle.ut_args.specs.Inputs.{files_by, operands_by}
+use Rattle.ut_args.specs.Inputs.{operands_by}
 use Rattle.ut_args.specs.Reading.{invocation}
 use Rattle.ut_args.specs.declared.commands.Command.{Command}
 use Rattle.ut_args.specs.declared.commands.Command.TheVariants as command
+use Rattle.ut_args.specs.declared.commands.TeeArgs.{TeeArgs}
 use Rattle.ut_args.specs.declared.faults.ArgFault.{ArgFault}
 use Rattle.ut_args.specs.declared.faults.ArgFault.TheVariants as arg
 use Rattle.ut_test.specs.declared.outcomes.Tested.{Tested}
@@ -315,34 +317,7 @@ pub adds-in_redirections : (flow : Flow) (targets : List Target) (next : Means) 
 adds-in_redirections flow [] next adds state = adds state
 adds-in_redirections flow (target ∷ targets) next adds state = adds-redirecting flow (target ∷ targets) next adds state
 
--- UTILITIES. The files that are made, and those that are written, are no output
-abbrev IsOf : State → Made → Type 0
-IsOf state made = (made.world.output ≡ state.world.output) × (made.world.errors ≡ state.world.errors)
-
-is_of-make_file : (anew : Bool) (name text : List ℕ) (place : Place) (state : State) (made : Made) → IsOf state made → IsOf state (make_file anew name text place made)
-is_of-make_file anew name text place.Missing state made is = is
-is_of-make_file anew name text (place.Makeable path) state made is = is
-is_of-make_file anew name text (place.Dir path) state made is = is
-is_of-make_file anew name text (place.File path) state made is = is
-is_of-make_file anew name text place.Null state made is = is
-
-is_of-make_files : (old : State) (anew : Bool) (name : List ℕ) (texts : List (List ℕ)) (state : State) (made : Made) → IsOf state made → IsOf state (make_files old anew name texts made)
-is_of-make_files old anew name [] state made is = is
-is_of-make_files old anew name (text ∷ texts) state made is =
-    is_of-make_files old anew name texts state (make_file anew name text (named_by old text) made) (is_of-make_file anew name text (named_by old text) state made is)
-
-grows-made : (state : State) (made : Made) → IsOf state made → Grows state (in_world (λ world. made.world) state)
-grows-made state made is =
-    record {
-      output = subst (λ (text : List ℕ). BeginsWith text state.world.output) (sym is.0) (begins-self state.world.output);
-      errors = subst (λ (text : List ℕ). BeginsWith text state.world.errors) (sym is.1) (begins-self state.world.errors);
-      turns = omega arith;
-    }
-
-grows-write_files : (paths : List Components) (text : List ℕ) (state : State) → Grows state (write_files paths text state)
-grows-write_files [] text state = grows-self state
-grows-write_files (path ∷ paths) text state = grows-write_files paths text (write (to.File path) text state)
-
+-- UTILITIES
 grows-if : (start : State) (test : Bool) (first second : State) → Grows start first → Grows start second → Grows start (if test then first else second)
 grows-if start true first second grows_first grows_second = grows_first
 grows-if start false first second grows_first grows_second = grows_second
@@ -360,9 +335,6 @@ grows-tells_some : (start : State) (lines : List ℕ) (state : State) → Grows 
 grows-tells_some start [] state grows = grows
 grows-tells_some start (byte ∷ bytes) state grows = grows-tells start (byte ∷ bytes) state grows
 
-grows-files : (start : State) (paths : List Components) (text : List ℕ) (state : State) → Grows start state → Grows start (write_files paths text state)
-grows-files start paths text state grows = grows-trans start state (write_files paths text state) grows (grows-write_files paths text state)
-
 grows-notes : (start : State) (ran : List Noted) (state : State) → Grows start state → Grows start (in_world (notes ran) state)
 grows-notes start ran state grows = record { output = grows.output; errors = grows.errors; turns = grows.turns }
 
@@ -375,8 +347,8 @@ adds-takes does state =
     grows-puts state (does.written state) (leaves (does.status state) noted) (record { output = noted_grows.output; errors = noted_grows.errors; turns = noted_grows.turns })
 
 module _ (pages : Pages) where
-  pub adds-takes_inputs : (name : List ℕ) (called : Called) (paths : List Components) (is_whole : Bool) → Adds (takes_inputs pages name called paths is_whole)
-  adds-takes_inputs name called paths is_whole state =
+  pub adds-takes_inputs : (name : List ℕ) (called : Called) → Adds (takes_inputs pages name called)
+  adds-takes_inputs name called state =
       let operands = operands_by called.command in
       let inputs = inputs_in (given_to state (deals called.command) name operands) in
       let taken = taken_in (reads_standard operands) state in
@@ -384,17 +356,14 @@ module _ (pages : Pages) where
       let ran = noted_over called.command (words_without (has_none state) called) (length inputs) in
       let noted = in_world (notes ran) taken in
       let noted_grows = grows-notes state ran taken taken_grows in
-      let left = leaves (status_of called.command (not is_whole || list_any (has_none state) operands) (pages.selects called.command inputs)) noted in
-      grows-files state paths (texts_joined pages inputs) (puts (pages.output called.command inputs) left)
-      (grows-puts state (pages.output called.command inputs) left (record { output = noted_grows.output; errors = noted_grows.errors; turns = noted_grows.turns }))
+      let left = leaves (status_of called.command (list_any (has_none state) operands) (pages.selects called.command inputs)) noted in
+      grows-puts state (pages.output called.command inputs) left (record { output = noted_grows.output; errors = noted_grows.errors; turns = noted_grows.turns })
 
-  adds-writes_out : (name : List ℕ) (called : Called) (made : Made) (state : State) → IsOf state made → Grows state (writes_out pages name called made state).state
-  adds-writes_out name called made state is =
-      let given = given_to state (deals called.command) name (operands_by called.command) in
-      let first : State = in_world (λ world. made.world) state in
-      let lines = made.complaints ++ lines_told called.command given in
-      grows-trans state (tells_some lines first) (takes_inputs pages name called made.paths made.is_whole (tells_some lines first)).state
-      (grows-tells_some state lines first (grows-made state made is)) (adds-takes_inputs name called made.paths made.is_whole (tells_some lines first))
+  adds-writes_out : (name : List ℕ) (called : Called) → Adds (writes_out pages name called)
+  adds-writes_out name called state =
+      let lines = lines_told called.command (given_to state (deals called.command) name (operands_by called.command)) in
+      grows-trans state (tells_some lines state) (takes_inputs pages name called (tells_some lines state)).state
+      (grows-tells_some state lines state (grows-self state)) (adds-takes_inputs name called (tells_some lines state))
 
   adds-does_nothing : (name : List ℕ) (called : Called) → Adds (does_nothing pages name called)
   adds-does_nothing name called state =
@@ -403,14 +372,48 @@ module _ (pages : Pages) where
   pub adds-runs_utility : (name : List ℕ) (called : Called) → Adds (runs_utility pages name called)
   adds-runs_utility name called state = by_need (needs_all called.command && list_any (has_none state) (operands_by called.command))
     where
-      begun : Made
-      begun = record { world = state.world; paths = []; complaints = []; is_whole = true }
-
-      by_need : (needs : Bool) → Grows state (if needs then does_nothing pages name called state else writes_out pages name called (made_by pages name called state) state).state
+      by_need : (needs : Bool) → Grows state (if needs then does_nothing pages name called state else writes_out pages name called state).state
       by_need true = adds-does_nothing name called state
-      by_need false =
-          adds-writes_out name called (made_by pages name called state) state
-          (is_of-make_files state (not (appends called.command)) name (files_by called.command) state begun (refl, refl))
+      by_need false = adds-writes_out name called state
+
+-- TEE
+adds-making_at : (anew : Bool) (name text : List ℕ) (at : Place) (made : Made) (next : Made → Means) → ((made : Made) → Adds (next made)) → Adds (making_at anew name text at made next)
+adds-making_at anew name text place.Missing made next adds state = adds (without (diagnostic name text no_such_file) made) state
+adds-making_at anew name text (place.Makeable path) made next adds state =
+    grows-trans state (in_world (file_begun anew path) state) (next (with_place (to.File path) made) (in_world (file_begun anew path) state)).state (grows-self state) (adds (with_place (to.File path) made) (in_world (file_begun anew path) state))
+adds-making_at anew name text (place.Dir path) made next adds state = adds (without (diagnostic name text is_a_directory) made) state
+adds-making_at anew name text (place.File path) made next adds state =
+    grows-trans state (in_world (file_begun anew path) state) (next (with_place (to.File path) made) (in_world (file_begun anew path) state)).state (grows-self state) (adds (with_place (to.File path) made) (in_world (file_begun anew path) state))
+adds-making_at anew name text place.Null made next adds state = adds (with_place to.Null made) state
+
+adds-making : (anew : Bool) (name : List ℕ) (texts : List (List ℕ)) (made : Made) (next : Made → Means) → ((made : Made) → Adds (next made)) → Adds (making anew name texts made next)
+adds-making anew name [] made next adds state = adds made state
+adds-making anew name (text ∷ texts) made next adds state =
+    adds-making_at anew name text (named_by state text) made (λ behind. making anew name texts behind next) (λ behind. adds-making anew name texts behind next adds) state
+
+pub grows-writes : (start : State) (places : List To) (bytes : List ℕ) (state : State) → Grows start state → Grows start (writes places bytes state)
+grows-writes start [] bytes state grows = grows
+grows-writes start (place ∷ places) bytes state grows =
+    grows-writes start places bytes (write place bytes state) (grows-trans start state (write place bytes state) grows (grows-write place bytes state))
+
+pub adds-spreads : (places : List To) (text : List ℕ) → Adds (spreads places text)
+adds-spreads places text state = grows-writes state places text (puts text state) (grows-puts state text state (grows-self state))
+
+pub adds-copies : (places : List To) (is_whole : Bool) → Adds (copies places is_whole)
+adds-copies places is_whole state =
+    let taken : State = reads_to [] state in
+    let taken_grows = grows-reads_to state [] state (grows-self state) in
+    let left : State = leaves (if is_whole then 0 else 1) taken in
+    grows-writes state places (to_read state) (puts (to_read state) left)
+    (grows-puts state (to_read state) left (record { output = taken_grows.output; errors = taken_grows.errors; turns = taken_grows.turns }))
+
+adds-tells_and_copies : (made : Made) → Adds (tells_and_copies made)
+adds-tells_and_copies made state =
+    grows-trans state (tells_some made.lines state) (copies made.places made.is_whole (tells_some made.lines state)).state
+    (grows-tells_some state made.lines state (grows-self state)) (adds-copies made.places made.is_whole (tells_some made.lines state))
+
+pub adds-tees : (name : List ℕ) (args : TeeArgs) → Adds (tees name args)
+adds-tees name args state = adds-making (not args.appends) name args.files none_made tells_and_copies adds-tells_and_copies state
 
 -- BUILT-INS
 pub adds-misused : (how : Flow) (name : List ℕ) → Adds (misused how name)
@@ -444,6 +447,7 @@ AddsAsked no_name = Unit {0}
 AddsAsked (unknown name) = Unit {0}
 AddsAsked (unlisted name letter) = Unit {0}
 AddsAsked (unusable is_special name) = Unit {0}
+AddsAsked (tee name args) = Unit {0}
 AddsAsked (utility name called) = Unit {0}
 AddsAsked (builtin is_special means) = Adds means
 
@@ -496,13 +500,12 @@ module _ (expansions : Expansions) where
       (adds-in_redirections (at_fault is_special) targets (assigned_for expansions is_special assigns next) (adds-assigned_for is_special assigns next adds))
 
   module _ (pages : Pages) where
-    adds-where_few : (called : Called) (next : Means) → Adds next → Adds (where_few expansions pages called next)
-    adds-where_few called next adds =
-        adds-choice (λ state. nat_lt most_operands (length (operands_by called.command) + length (files_by called.command))) (refused refusal.ArgsTooMany) next (λ state. grows-self state) adds
+    adds-where_few : (operands : List (List ℕ)) (next : Means) → Adds next → Adds (where_few expansions pages operands next)
+    adds-where_few operands next adds = adds-choice (λ state. nat_lt most_operands (length operands)) (refused refusal.ArgsTooMany) next (λ state. grows-self state) adds
 
     pub adds-by_patterns : (name : List ℕ) (called : Called) (assigns : List (List ℕ × WordTree)) (targets : List Target) (patterns : Patterns) → Adds (by_patterns expansions pages name called assigns targets patterns)
     adds-by_patterns name called assigns targets read state =
-        adds-where_few called (done expansions false assigns (uses_by_operands pages called) targets (runs_utility pages name called))
+        adds-where_few (operands_by called.command) (done expansions false assigns (uses_by_operands pages called) targets (runs_utility pages name called))
         (adds-done false assigns (uses_by_operands pages called) targets (runs_utility pages name called) (adds-runs_utility pages name called)) state
     adds-by_patterns name called assigns targets wrong state = adds-done false assigns (λ state. []) targets (misused flow.On name) (adds-misused flow.On name) state
     adds-by_patterns name called assigns targets (refers_back pattern) state = grows-self state
@@ -516,9 +519,9 @@ module _ (expansions : Expansions) where
     adds-checked assigns targets (unlisted name letter) adds state = grows-self state
     adds-checked assigns targets (unusable is_special name) adds state =
         adds-done is_special assigns (λ state. []) targets (misused (at_fault is_special) name) (adds-misused (at_fault is_special) name) state
-    adds-checked assigns targets (utility name called) adds state =
-        adds-choice (λ state. pages.is_built called.command) (by_patterns expansions pages name called assigns targets (pages.patterns called.command)) (refused refusal.NotBuilt)
-        (adds-by_patterns name called assigns targets (pages.patterns called.command)) (λ state. grows-self state) state
+    adds-checked assigns targets (tee name args) adds state =
+        adds-where_few args.files (done expansions false assigns (uses_by_files args) targets (tees name args)) (adds-done false assigns (uses_by_files args) targets (tees name args) (adds-tees name args)) state
+    adds-checked assigns targets (utility name called) adds state = adds-by_patterns name called assigns targets (pages.patterns called.command) state
     adds-checked assigns targets (builtin is_special means) adds state = adds-done is_special assigns (λ state. []) targets means adds state
 
     pub adds-runs_simple : (assigns : List (List ℕ × WordTree)) (words : List WordTree) (redirs : List RedirTree) → Adds (runs_simple expansions pages assigns words redirs)

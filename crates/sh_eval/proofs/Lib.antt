@@ -13,10 +13,12 @@ pub mod RedirectionLemmas
 pub mod RedirectionSteps
 pub mod RedirectionLoops
 pub mod SkippingLemmas
+pub mod BuiltLemmas
 pub mod SimpleSteps
 pub mod OperandSteps
 pub mod RunSteps
 pub mod UtilitySteps
+pub mod TeeingSteps
 pub mod MeasureLemmas
 pub mod ScriptSteps
 pub mod OpeningLemmas

@@ -30,7 +30,7 @@ use Rattle.std.specs.Cmp.Lexicographic.{pointwise}
 use Rattle.sh_eval.specs.Contract.{Seen, Faults, Point, point_of, faults_of, Base, Has, CanTake, Stands, Stay, HeldStays}
 use Rattle.sh_eval.specs.Leading.{begun_at}
 use Rattle.sh_eval.specs.Redirecting.{Led, Breaks, Does, TellsLine, of_tree}
-use Rattle.sh_eval.proofs.Steps.{no-fewer, held-none}
+use Rattle.sh_eval.proofs.Steps.{can-take, no-fewer, held-none}
 use Rattle.sh_eval.proofs.WritingLemmas.{stay-filled}
 
 -- READING. What is written goes where it went
@@ -86,13 +86,6 @@ led-null text bytes shell session session' tree seen faults none session_is =
     (λ base state has. ap (λ (it : List ℕ). read_from it state) (sym none))
 
 -- WRITING. What descriptors lead to is there
-can-take : (place : To) (old new : Files) → Stay old new → CanTake old place → CanTake new place
-can-take to.Output old new stay can = can
-can-take to.Errors old new stay can = can
-can-take (to.Pipe number) old new stay can = can
-can-take (to.File path) old new stay can = stay.files path can
-can-take to.Null old new stay can = can
-
 stands-led : (streams : Streams) (number : ℕ) (place : To) (old new : Files) → Stay old new → NoWriterOut new → CanTake new place → Stands streams old → Stands (leads_to number place streams) new
 stands-led streams number place old new stay whole can stands = by_number (number == 2)
   where
@@ -100,7 +93,7 @@ stands-led streams number place old new stay whole can stands = by_number (numbe
     by_number true = record { whole = whole; output = can-take streams.to old new stay stands.output; errors = can }
     by_number false = record { whole = whole; output = can; errors = can-take streams.errors_to old new stay stands.errors }
 
-file-here : (files : Files) (path : Components) (bytes : List ℕ) → CanTake (map.insert files path (Bytes bytes)) (to.File path)
+pub file-here : (files : Files) (path : Components) (bytes : List ℕ) → CanTake (map.insert files path (Bytes bytes)) (to.File path)
 file-here files path bytes = subst IsFile (sym (set_at files path (Bytes bytes)).here) tt
 
 stands-begun : (held : Option Files) (streams : Streams) (number : ℕ) (anew : Bool) (path : Components) → IfSome held (Stands streams) → IfSome (option_map (begun_at anew path) held) (Stands (leads_to number (to.File path) streams))
@@ -109,11 +102,11 @@ stands-begun (Some files) streams number anew path stands =
     let bytes : List ℕ = if anew then [] else bytes_at files path in
     stands-led streams number (to.File path) files (begun_at anew path files) (stay-filled files path bytes) (no_writer_out-filled files path bytes stands.whole) (file-here files path bytes) stands
 
-stays-begun : (anew : Bool) (path : Components) (held : Option Files) → HeldStays held (option_map (begun_at anew path) held)
+pub stays-begun : (anew : Bool) (path : Components) (held : Option Files) → HeldStays held (option_map (begun_at anew path) held)
 stays-begun anew path None = refl
 stays-begun anew path (Some files) = record { new = begun_at anew path files; told = refl; stay = stay-filled files path (if anew then [] else bytes_at files path) }
 
-whole-begun : (anew : Bool) (path : Components) (held : Option Files) → IfSome held NoWriterOut → IfSome (option_map (begun_at anew path) held) NoWriterOut
+pub whole-begun : (anew : Bool) (path : Components) (held : Option Files) → IfSome held NoWriterOut → IfSome (option_map (begun_at anew path) held) NoWriterOut
 whole-begun anew path None whole = tt
 whole-begun anew path (Some files) whole = no_writer_out-filled files path (if anew then [] else bytes_at files path) whole
 

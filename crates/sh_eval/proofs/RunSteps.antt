@@ -23,9 +23,11 @@ use Rattle.sh_eval.specs.declared.streams.From.{From}
 use Rattle.sh_eval.specs.declared.streams.From.TheVariants as from
 use Rattle.sh_eval.specs.declared.streams.To.{To}
 use Rattle.sh_eval.specs.declared.streams.To.TheVariants as to
+use Rattle.sh_eval.specs.declared.utilities.Task.{Task}
+use Rattle.sh_eval.specs.declared.utilities.Task.TheVariants as task
 use Rattle.sh_eval.specs.Contract.{Seen, drawn_of, Faults, faults_of, Point, point_of, seen_of, Base, then_ran, Has, HasEnd, IsBehind, Comes, NoFewer, HasCause, IsSound, HeldStays, Keeps, Meaning, Evaluates, goes_on}
 use Rattle.sh_eval.specs.Inner.Inputs.{TakesStream, how_ended, is_own_input, shell_ended, taken_from, text_from}
-use Rattle.sh_eval.specs.Inner.Runs.{AreMeant, Begins, Does, IsMeant, takes, takes_in}
+use Rattle.sh_eval.specs.Inner.Runs.{AreMeant, Begins, CanRun, Does, IsMeant, asks_of, takes, takes_in}
 use Rattle.sh_eval.specs.Shells.{with_status}
 use Rattle.sh_eval.specs.States.{State, in_world, leaves, leaving, left_in, on, puts, reading, write}
 use Rattle.sh_eval.specs.Utilities.{notes, taken_in}
@@ -57,7 +59,7 @@ module _ (base : Base) (shell : Shell) (session : Session) (tree : TreeState) (l
   errors-is = ap (λ (it : Seen). it.errors) has.seen
 
   -- the standard input is taken to its end
-  takes-so : (session' : Session) (tree' : TreeState) (left' : Option (List ℕ)) (faults' : Faults) (reads : Bool) (place : From) → state.session.streams.from ≡ place → tree'.home ≡ tree.home → tree'.held ≡ tree.held
+  pub takes-so : (session' : Session) (tree' : TreeState) (left' : Option (List ℕ)) (faults' : Faults) (reads : Bool) (place : From) → state.session.streams.from ≡ place → tree'.home ≡ tree.home → tree'.held ≡ tree.held
       → session' ≡ (if reads then reading (taken_from place) state.session else state.session) → left' ≡ left_behind (reads && is_own_input place) left
       → Has base (point_of shell session' tree' (seen_of (drawn_of left' used) taken errors) faults') (if reads then leaving place [] state else state)
   takes-so session' tree' left' faults' true from.Standard is home held session_is left_is =
@@ -98,7 +100,7 @@ module _ (base : Base) (shell : Shell) (session : Session) (tree : TreeState) (l
       }
 
   -- a status is left
-  leaves-so : (shell' : Shell) (status meant : ℕ) → shell' ≡ with_status status shell → status ≡ meant
+  pub leaves-so : (shell' : Shell) (status meant : ℕ) → shell' ≡ with_status status shell → status ≡ meant
       → Has base (point_of shell' session tree (seen_of (drawn_of left used) taken errors) faults) (leaves meant state)
   leaves-so shell' status meant is same =
       record {
@@ -217,10 +219,15 @@ cause-so ended.Memory old new of_errors cause = tt
 held-same : (old new : Option Files) → new ≡ old → HeldStays old new
 held-same old new is = subst (λ (it : Option Files). HeldStays old it) (sym is) (held-none old)
 
+-- no task writes files beside its output
+pub no-files : (it : Task) (tree : TreeState) → CanRun it tree → (first : First) → (asks_of it first).paths ≡ []
+no-files (task.Utility inv operands) tree can first = refl
+no-files (task.Pipeline members) tree can first = can.teeless
+
 -- THE OUTPUT of the run takes what is written
 module _ (asks : First → Asks) (reads : Bool) (does : Does) (first : First) (shell shell' : Shell) (session session' : Session) (tree tree' : TreeState) (left left' taken taken' errors : Option (List ℕ))
     (used used' : Option Log) (old new : runs.Counts) (of_errors : ℕ) (came : Ended)
-    (meant : AreMeant asks reads does tree) (stream : TakesStream reads session session' first) (shell-is : shell' ≡ shell_ended came shell)
+    (meant : AreMeant asks reads does tree) (none : (asks first).paths ≡ []) (stream : TakesStream reads session session' first) (shell-is : shell' ≡ shell_ended came shell)
     (ran : Runs (asks first) tree tree' left left' taken taken' old new used used' came) where
   abbrev old-point : Point
   old-point = point_of shell session tree (seen_of (drawn_of left used) taken errors) (all_counts old of_errors)
@@ -254,7 +261,7 @@ module _ (asks : First → Asks) (reads : Bool) (does : Does) (first : First) (s
             (sym (to-is does state ∙ sym (ap (λ (it : Session). it.streams.to) has.session) ∙ leads))
             (writes-so base shell' session' tree' left' taken errors used' (all_counts new of_errors) (takes_in does state)
             (ends-so asks reads does first shell session session' tree tree' left left' used used' taken errors (all_counts old of_errors) (all_counts new of_errors) meant stream base state has
-            shell' status (shell-is ∙ ap (λ (it : Ended). shell_ended it shell) is) ran.lent.home ran.held (done _ ran.status) (whole _ ran.read) (whole _ ran.noted))
+            shell' status (shell-is ∙ ap (λ (it : Ended). shell_ended it shell) is) ran.lent.home (ran.held none) (done _ ran.status) (whole _ ran.read) (whole _ ran.noted))
             taken' (does.written state) (done _ ran.output ∙ ap (then_bytes taken) (meant-so base state has).output));
       }
     where
@@ -275,8 +282,8 @@ module _ (asks : First → Asks) (reads : Bool) (does : Does) (first : First) (s
         comes = λ expansions are base state has. comes-so came refl leads base state has;
         keeps = λ gone.
             record {
-              whole = λ whole. subst (λ (it : Option Files). IfSome it NoWriterOut) (sym ran.held) whole;
-              files = held-same tree.held tree'.held ran.held;
+              whole = λ whole. subst (λ (it : Option Files). IfSome it NoWriterOut) (sym (ran.held none)) whole;
+              files = held-same tree.held tree'.held (ran.held none);
               output = keeps-to reads session session' stream.session;
               errors = keeps-errors reads session session' stream.session;
             };
@@ -289,7 +296,7 @@ module _ (asks : First → Asks) (reads : Bool) (does : Does) (first : First) (s
 -- THE OUTPUT of the run is gathered: what is written is nothing so far
 module _ (asks : First → Asks) (reads : Bool) (does : Does) (first : First) (shell shell' : Shell) (session session' : Session) (tree tree' : TreeState) (left left' taken errors : Option (List ℕ)) (text : List ℕ)
     (used used' : Option Log) (input input' of_output of_errors of_tree of_tree' : ℕ) (came : Ended)
-    (meant : AreMeant asks reads does tree) (stream : TakesStream reads session session' first) (shell-is : shell' ≡ shell_ended came shell)
+    (meant : AreMeant asks reads does tree) (none : (asks first).paths ≡ []) (stream : TakesStream reads session session' first) (shell-is : shell' ≡ shell_ended came shell)
     (ran : Runs (asks first) tree tree' left left' (Some []) (Some text) (counts_of input 0 of_tree) (counts_of input' 0 of_tree') used used' came) where
   abbrev kept-old : Point
   kept-old = point_of shell session tree (seen_of (drawn_of left used) taken errors) (faults_of input of_output of_errors of_tree)
@@ -314,7 +321,7 @@ module _ (asks : First → Asks) (reads : Bool) (does : Does) (first : First) (s
     record {
       flow = refl;
       has = ends-so asks reads does first shell session session' tree tree' left left' used used' taken errors (faults_of input of_output of_errors of_tree) (faults_of input' of_output of_errors of_tree') meant stream base state has
-          shell' status (shell-is ∙ ap (λ (it : Ended). shell_ended it shell) is) ran.lent.home ran.held (done _ ran.status) (whole _ ran.read) (whole _ ran.noted);
+          shell' status (shell-is ∙ ap (λ (it : Ended). shell_ended it shell) is) ran.lent.home (ran.held none) (done _ ran.status) (whole _ ran.read) (whole _ ran.noted);
     },
     some-same (done _ ran.output)
         ∙ (meant-here asks reads does first shell session session' tree tree' left left' used used' taken errors (faults_of input of_output of_errors of_tree) (faults_of input' of_output of_errors of_tree') meant stream base state has).output,
@@ -344,8 +351,8 @@ module _ (asks : First → Asks) (reads : Bool) (does : Does) (first : First) (s
   pub kept-keeps : Keeps kept-old kept-new
   kept-keeps =
       record {
-        whole = λ whole. subst (λ (it : Option Files). IfSome it NoWriterOut) (sym ran.held) whole;
-        files = held-same tree.held tree'.held ran.held;
+        whole = λ whole. subst (λ (it : Option Files). IfSome it NoWriterOut) (sym (ran.held none)) whole;
+        files = held-same tree.held tree'.held (ran.held none);
         output = keeps-to reads session session' stream.session;
         errors = keeps-errors reads session session' stream.session;
       }
@@ -399,7 +406,7 @@ module _ (asks : First → Asks) (reads : Bool) (does : Does) (first : First) (s
 -- what a run gives to the evaluation of its inputs, by where descriptor 1 leads
 module _ (asks : First → Asks) (reads : Bool) (does : Does) (first : First) (shell shell' : Shell) (session session' : Session) (tree tree' : TreeState) (left left' taken errors : Option (List ℕ))
     (used used' : Option Log) (came : Ended) (came_how : How)
-    (meant : AreMeant asks reads does tree) (stream : TakesStream reads session session' first) (shell-is : shell' ≡ shell_ended came shell) (how-is : came_how ≡ how_ended came) where
+    (meant : AreMeant asks reads does tree) (none : (asks first).paths ≡ []) (stream : TakesStream reads session session' first) (shell-is : shell' ≡ shell_ended came shell) (how-is : came_how ≡ how_ended came) where
   pub ran-out : (taken' : Option (List ℕ)) (input input' output output' of_errors of_tree of_tree' : ℕ) → session'.streams.to ≡ to.Output
       → Runs (asks first) tree tree' left left' taken taken' (counts_of input output of_tree) (counts_of input' output' of_tree') used used' came
       → Evaluates (meant_by does) (point_of shell session tree (seen_of (drawn_of left used) taken errors) (faults_of input output of_errors of_tree)) came_how
@@ -407,7 +414,7 @@ module _ (asks : First → Asks) (reads : Bool) (does : Does) (first : First) (s
   ran-out taken' input input' output output' of_errors of_tree of_tree' leads ran =
       rw how-is
       (written-out asks reads does first shell shell' session session' tree tree' left left' taken taken' errors used used' (counts_of input output of_tree) (counts_of input' output' of_tree') of_errors came
-      meant stream shell-is ran (sym (keeps-to reads session session' stream.session) ∙ leads))
+      meant none stream shell-is ran (sym (keeps-to reads session session' stream.session) ∙ leads))
 
   module _ (text : List ℕ) (input input' of_output of_errors of_tree of_tree' : ℕ)
       (ran : Runs (asks first) tree tree' left left' (Some []) (Some text) (counts_of input 0 of_tree) (counts_of input' 0 of_tree') used used' came) where
@@ -417,20 +424,20 @@ module _ (asks : First → Asks) (reads : Bool) (does : Does) (first : First) (s
     ran-stopped gone =
         rw how-is
         (kept-stopped asks reads does first shell shell' session session' tree tree' left left' taken errors text used used' input input' of_output of_errors of_tree of_tree' came
-        meant stream shell-is ran (subst (λ (it : How). goes_on it ≡ false) how-is gone))
+        meant none stream shell-is ran (subst (λ (it : How). goes_on it ≡ false) how-is gone))
 
     pub ran-put : goes_on came_how ≡ true → (put_how : How) (last : Point)
         → Evaluates (λ expansions state. on (puts text state)) (point_of shell' session' tree' (seen_of (drawn_of left' used') taken errors) (faults_of input' of_output of_errors of_tree')) put_how last
         → Evaluates (meant_by does) (point_of shell session tree (seen_of (drawn_of left used) taken errors) (faults_of input of_output of_errors of_tree)) put_how last
     ran-put gone put_how last put =
         kept-put asks reads does first shell shell' session session' tree tree' left left' taken errors text used used' input input' of_output of_errors of_tree of_tree' came
-        meant stream shell-is ran (subst (λ (it : How). goes_on it ≡ true) how-is gone) put_how last put
+        meant none stream shell-is ran (subst (λ (it : How). goes_on it ≡ true) how-is gone) put_how last put
 
     -- what is put can be put
     pub sound-so : IsSound session tree → IsSound session' tree'
     sound-so sound = sound-behind (point_of shell session tree (seen_of (drawn_of left used) taken errors) (faults_of input of_output of_errors of_tree))
         (point_of shell' session' tree' (seen_of (drawn_of left' used') taken errors) (faults_of input' of_output of_errors of_tree'))
-        (kept-keeps asks reads does first shell shell' session session' tree tree' left left' taken errors text used used' input input' of_output of_errors of_tree of_tree' came meant stream shell-is ran) sound
+        (kept-keeps asks reads does first shell shell' session session' tree tree' left left' taken errors text used used' input input' of_output of_errors of_tree of_tree' came meant none stream shell-is ran) sound
 
 pub put-so : (slice text : List ℕ) (old new : Point) (came : How) → slice ≡ text → Evaluates (λ expansions state. on (puts slice state)) old came new → Evaluates (λ expansions state. on (puts text state)) old came new
 put-so slice text old new came same one = subst (λ (it : List ℕ). Evaluates (λ expansions state. on (puts it state)) old came new) same one

@@ -26,7 +26,7 @@ use Rattle.sh_eval.specs.Inner.Gathering.{AllPlain, AreMembers, IsMember, IsPlai
 use Rattle.sh_eval.specs.Segments.{is_plain_place, name_of, given_for, inputs_fed, ran_of, lines_for, reads_first, member_means, written_by, text_through, status_for, status_through, takes_through, runs_through}
 use Rattle.sh_eval.specs.Shells.{inside, with_status}
 use Rattle.sh_eval.specs.States.{World, State, Ends, after, on, in_session, in_world, innermost, leaves, leaving, left_in, grown_at, piping, puts, reading, to_read, unpiped, write}
-use Rattle.sh_eval.specs.Utilities.{Given, input, Called, Pages, appends, complaints_in, deals, does_nothing, file_input, given_from, given_to, has_none, inputs_in, is_silent, made_by, make_files, needs_all, notes, reads_standard, standard_again, standard_input, taken_in, takes_inputs, tells_some, words_without, writes_out}
+use Rattle.sh_eval.specs.Utilities.{Given, input, Called, Pages, complaints_in, deals, does_nothing, file_input, given_from, given_to, has_none, inputs_in, is_silent, needs_all, notes, reads_standard, standard_again, standard_input, taken_in, takes_inputs, tells_some, words_without, writes_out}
 
 -- WHAT OPERANDS GIVE hangs on the files, the working directory and the stream alone
 module _ (one other : State) (files : one.world.files ≡ other.world.files) (home : one.world.home ≡ other.world.home) where
@@ -266,10 +266,8 @@ module _ (pages : Pages) where
   pub single-is : (state : State) (member : Called) → IsPlain state member → member_means pages member state ≡ runs_through pages (member ∷ []) state
   single-is state member plain =
       ap (λ (it : Bool). if it then does_nothing pages (name_of member) member state
-      else writes_out pages (name_of member) member (made_by pages (name_of member) member state) state) plain.is_whole
-      ∙ ap (λ (it : List (List ℕ)). writes_out pages (name_of member) member
-      (make_files state (not (appends member.command)) (name_of member) it (record { world = state.world; paths = []; complaints = []; is_whole = true })) state) plain.no_files
-      ∙ ap (λ (it : List ℕ). takes_inputs pages (name_of member) member [] true (tells_some it state)) (sym (append-nil (lines_for state member)))
+      else writes_out pages (name_of member) member state) plain.is_whole
+      ∙ ap (λ (it : List ℕ). takes_inputs pages (name_of member) member (tells_some it state)) (sym (append-nil (lines_for state member)))
       ∙ taken-is (tells_some (lines_for state member ++ []) state) member
 
 -- A PIPE that is opened takes in what is written, and is closed
@@ -443,7 +441,6 @@ last-ready changes reads lines text ran status state =
 plain-same : (one other : State) (files : one.world.files ≡ other.world.files) (home : one.world.home ≡ other.world.home) (member : Called) → IsPlain one member → IsPlain other member
 plain-same one other files home member plain =
     record {
-      no_files = plain.no_files;
       is_whole = ap (λ (it : Bool). needs_all member.command && it) (sym (lacks-same one other files home (operands_by member.command))) ∙ plain.is_whole;
     }
 

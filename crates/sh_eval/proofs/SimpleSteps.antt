@@ -1,19 +1,19 @@
 -- What is evaluated of a simple command comes of what is evaluated behind its words and assignments.
-use Rattle.std.proofs.Common.{◌≡◌, ℕ, List, [], ◌∷◌, ◌<◌, ◌≤◌, ◌+◌, nat_le, nat_lt, Bor, length, map, get_or, arith, Bool, true, false, Result, Ok, Err, Some, ◌++◌, append-nil, refl, sym, ap, ◌∙◌, subst, if◌then◌else◌}
+use Rattle.std.proofs.Common.{◌≡◌, ℕ, List, [], ◌∷◌, ◌<◌, ◌≤◌, ◌+◌, nat_le, nat_lt, Bor, length, map, get_or, arith, Bool, true, false, Result, Ok, Err, Option, Some, None, refl, sym, ap, ◌∙◌, subst, if◌then◌else◌}
 use Rattle.std.proofs.lemmas.List.{length-map}
 use Rattle.std.proofs.lemmas.Bool.{true≢false, cond-true, cond-false, and_from, and_parts, le-leb, le-ltb, leb-true, lt-ltb}
 use Rattle.std.specs.Global.{Vec}
-use Rattle.std.specs.List.{flat_map}
 use Rattle.ps_lines.specs.Texts.{texts_of}
 use Rattle.ps_world.specs.TreeState.{TreeState}
 use Rattle.sh_arith.specs.Variables.{Variables}
 use Rattle.sh_tree.specs.Trees.{WordTree, RedirTree}
 use Rattle.ut_args.specs.Built.{is_built_by, is_built_of}
-use Rattle.ut_args.specs.Inputs.{files_by, files_of, operands_of}
+use Rattle.ut_args.specs.Inputs.{operands_of}
 use Rattle.ut_args.specs.Invocations.{command_of, words_of}
 use Rattle.ut_args.specs.Reading.{invocation}
 use Rattle.ut_args.specs.declared.commands.Command.{Command}
 use Rattle.ut_args.specs.declared.commands.Command.TheVariants as command
+use Rattle.ut_args.specs.declared.commands.TeeArgs.{TeeArgs}
 use Rattle.ut_args.specs.declared.invocations.Inv.{Inv}
 use Rattle.ut_args.specs.declared.faults.ArgFault.{ArgFault}
 use Rattle.ut_args.specs.declared.faults.ArgFault.TheVariants as fault
@@ -30,20 +30,20 @@ use Rattle.sh_eval.specs.declared.simple.Doing.{Doing}
 use Rattle.sh_eval.specs.declared.simple.Doing.TheVariants as doing
 use Rattle.sh_eval.specs.Shells.{with_env}
 use Rattle.sh_eval.specs.States.{State, Means, refused}
-use Rattle.sh_eval.specs.Asking.{Asked, no_name, unknown, unlisted, unusable, utility, builtin, asked_as, asked_by, at_fault, does, is_special}
+use Rattle.sh_eval.specs.Asking.{Asked, no_name, unknown, unlisted, unusable, tee, utility, builtin, asked_as, asked_by, at_fault, does, is_special}
 use Rattle.sh_eval.specs.Builtins.{misused}
 use Rattle.sh_eval.specs.Contract.{Seen, Faults, Point, point_of, Base, Has, Comes, Meaning, Evaluates, PassesOn}
 use Rattle.sh_eval.specs.Expanding.{assigning, with_targets}
 use Rattle.sh_eval.specs.Growth.{Adds}
-use Rattle.sh_eval.specs.Inner.Doing.{can_be_done, can_run, is_own, stays_of, way_of, own_means, uses_own, asked_of}
+use Rattle.sh_eval.specs.Inner.Doing.{can_be_done, can_run, is_own, stays_of, way_of, own_means, tee_of, uses_own, asked_of}
 use Rattle.sh_eval.specs.Inner.Inputs.{called_by}
-use Rattle.sh_eval.specs.Inner.Opening.{FindsUses, opened}
-use Rattle.sh_eval.specs.Redirections.{Use}
+use Rattle.sh_eval.specs.Inner.Opening.{opened}
 use Rattle.sh_eval.specs.Targets.{Target}
 use Rattle.sh_eval.specs.Simple.{assigned_for, by_patterns, checked, done, most_operands, restored, undone}
 use Rattle.sh_eval.specs.Table.{pages, patterns_of}
-use Rattle.sh_eval.specs.Utilities.{Patterns, read, read_use, refers_back, runs_utility, uses_by_operands, written_use, wrong}
-use Rattle.sh_eval.proofs.Growing.{grows-self, AddsAsked, does-adds, asked-adds, adds-misused, adds-assigned_for, adds-by_patterns, adds-checked, adds-runs_utility, adds-with_targets}
+use Rattle.sh_eval.specs.Teeing.{tees, uses_by_files}
+use Rattle.sh_eval.specs.Utilities.{Patterns, read, refers_back, runs_utility, uses_by_operands, wrong}
+use Rattle.sh_eval.proofs.Growing.{grows-self, AddsAsked, does-adds, asked-adds, adds-misused, adds-assigned_for, adds-by_patterns, adds-checked, adds-runs_utility, adds-tees, adds-with_targets}
 use Rattle.sh_eval.proofs.Steps.{changed, meant-at}
 
 -- what goes on with fields
@@ -88,6 +88,7 @@ own-so no_name is = absurd (true≢false (sym is))
 own-so (unknown name) is = absurd (true≢false (sym is))
 own-so (unlisted name letter) is = absurd (true≢false (sym is))
 own-so (unusable is_special name) is = absurd (true≢false (sym is))
+own-so (tee name args) is = absurd (true≢false (sym is))
 own-so (utility name called) is = absurd (true≢false (sym is))
 own-so (builtin is_special means) is = (is_special, means, refl)
 
@@ -96,6 +97,7 @@ own-adds no_name adds state = grows-self state
 own-adds (unknown name) adds state = grows-self state
 own-adds (unlisted name letter) adds state = grows-self state
 own-adds (unusable is_special name) adds state = adds-misused (at_fault is_special) name state
+own-adds (tee name args) adds state = adds-tees name args state
 own-adds (utility name called) adds state = adds-runs_utility pages name called state
 own-adds (builtin is_special means) adds state = adds state
 
@@ -109,65 +111,77 @@ own-checked no_name assigns targets old new came is one = absurd (true≢false (
 own-checked (unknown name) assigns targets old new came is one = absurd (true≢false (sym is))
 own-checked (unlisted name letter) assigns targets old new came is one = absurd (true≢false (sym is))
 own-checked (unusable is_special name) assigns targets old new came is one = absurd (true≢false (sym is))
+own-checked (tee name args) assigns targets old new came is one = absurd (true≢false (sym is))
 own-checked (utility name called) assigns targets old new came is one = absurd (true≢false (sym is))
 own-checked (builtin is_special means) assigns targets old new came is one = one
 
--- another command is a utility
-pub utility-so : (name : List ℕ) (words : List (List ℕ)) (asked : Command) → is_own (does name words asked) ≡ false → does name words asked ≡ utility name (record { words = words; command = asked })
-utility-so name words command.True other = absurd (true≢false other)
-utility-so name words command.False other = absurd (true≢false other)
-utility-so name words command.Colon other = absurd (true≢false other)
-utility-so name words (command.Break args) other = absurd (true≢false other)
-utility-so name words (command.Continue args) other = absurd (true≢false other)
-utility-so name words (command.Exit args) other = absurd (true≢false other)
-utility-so name words (command.Set args) other = absurd (true≢false other)
-utility-so name words (command.Shift args) other = absurd (true≢false other)
-utility-so name words (command.Unset args) other = absurd (true≢false other)
-utility-so name words (command.Read args) other = absurd (true≢false other)
-utility-so name words (command.Test args) other = absurd (true≢false other)
-utility-so name words (command.Bracket args) other = absurd (true≢false other)
-utility-so name words (command.Echo args) other = absurd (true≢false other)
-utility-so name words (command.Cat args) other = refl
-utility-so name words (command.Grep args) other = refl
-utility-so name words (command.Tr args) other = refl
-utility-so name words (command.Cut args) other = refl
-utility-so name words (command.Head args) other = refl
-utility-so name words (command.Tail args) other = refl
-utility-so name words (command.Wc args) other = refl
-utility-so name words (command.Uniq args) other = refl
-utility-so name words (command.Sort args) other = refl
-utility-so name words (command.Paste args) other = refl
-utility-so name words (command.Tee args) other = refl
+-- what is built is a utility
+pub utility-so : (name : List ℕ) (words : List (List ℕ)) (asked : Command) → is_built_by asked ≡ true → does name words asked ≡ utility name (record { words = words; command = asked })
+utility-so name words (command.Cat args) built = refl
+utility-so name words (command.Grep args) built = refl
+utility-so name words (command.Tr args) built = refl
+utility-so name words (command.Cut args) built = refl
+utility-so name words (command.Head args) built = refl
+utility-so name words (command.Tail args) built = refl
+utility-so name words (command.Wc args) built = refl
+utility-so name words (command.Uniq args) built = refl
+utility-so name words (command.Sort args) built = refl
+utility-so name words (command.Paste args) built = refl
+utility-so name words other built = absurd (true≢false (sym built))
 
--- one that has a stream writes no file
-built-so : (asked : Command) → is_built_by asked ≡ true → files_by asked ≡ []
-built-so command.True is = refl
-built-so command.False is = refl
-built-so command.Colon is = refl
-built-so (command.Break args) is = refl
-built-so (command.Continue args) is = refl
-built-so (command.Exit args) is = refl
-built-so (command.Set args) is = refl
-built-so (command.Shift args) is = refl
-built-so (command.Unset args) is = refl
-built-so (command.Read args) is = refl
-built-so (command.Test args) is = refl
-built-so (command.Bracket args) is = refl
-built-so (command.Echo args) is = refl
-built-so (command.Cat args) is = refl
-built-so (command.Grep args) is = refl
-built-so (command.Tr args) is = refl
-built-so (command.Cut args) is = refl
-built-so (command.Head args) is = refl
-built-so (command.Tail args) is = refl
-built-so (command.Wc args) is = refl
-built-so (command.Uniq args) is = refl
-built-so (command.Sort args) is = refl
-built-so (command.Paste args) is = refl
-built-so (command.Tee args) is = absurd (true≢false (sym is))
+-- tee
+same-some : {X : Type 0} (one other : X) → Some one ≡ Some other → one ≡ other
+same-some {X} one other is = ap (λ (it : Option X). either it) is
+  where
+    either : Option X → X
+    either None = one
+    either (Some it) = it
 
-pub writes-none : (it : Inv) → is_built_of it ≡ true → files_of it ≡ []
-writes-none it is = built-so (command_of it) is
+none-some : {X : Type 0} (it : X) → None ≡ Some it → ⊥
+none-some {X} it is = subst some is tt
+  where
+    some : Option X → Type 0
+    some None = Unit {0}
+    some (Some value) = ⊥
+
+tee-does : (name : List ℕ) (words : List (List ℕ)) (asked : Command) (args : TeeArgs) → tee_of asked ≡ Some args → does name words asked ≡ tee name args
+tee-does name words (command.Tee its) args is = ap (tee name) (same-some its args is)
+tee-does name words other args is = absurd (none-some args is)
+
+pub tee-so : (name : List ℕ) (words : List (List ℕ)) (asked : Command) (args : TeeArgs) (assigns : List (List ℕ × WordTree)) (targets : List Target) (old new : Point) (came : How) → tee_of asked ≡ Some args
+    → Evaluates (λ expansions. checked expansions pages assigns targets (tee name args)) old came new → Evaluates (λ expansions. checked expansions pages assigns targets (does name words asked)) old came new
+tee-so name words asked args assigns targets old new came is one =
+    subst (λ (it : Asked). Evaluates (λ expansions. checked expansions pages assigns targets it) old came new) (sym (tee-does name words asked args is)) one
+
+module _ (name : List ℕ) (args : TeeArgs) (assigns : List (List ℕ × WordTree)) (targets : List Target) where
+  abbrev tee_runs : Expansions → Means
+  tee_runs expansions = done expansions false assigns (uses_by_files args) targets (tees name args)
+
+  abbrev tee_checked : Meaning
+  tee_checked expansions = checked expansions pages assigns targets (tee name args)
+
+  -- one with too many files is refused
+  pub tee-many : (shell : Shell) (session : Session) (tree : TreeState) (seen : Seen) (faults : Faults) → nat_lt most_operands (length args.files) ≡ true
+      → Evaluates tee_checked (point_of shell session tree seen faults) (how.Gone (flow.Refused refusal.ArgsTooMany)) (point_of shell session tree seen faults)
+  tee-many shell session tree seen faults many =
+      refused-so refusal.ArgsTooMany tee_checked shell session tree seen faults
+      (λ expansions state. sym (cond-true (nat_lt most_operands (length args.files)) (refused refusal.ArgsTooMany state) (tee_runs expansions state) many))
+
+  -- and any other is run
+  pub tee-few : (old new : Point) (came : How) → nat_lt most_operands (length args.files) ≡ false → Evaluates (done_so assigns targets (tee name args)) old came new → Evaluates tee_checked old came new
+  tee-few old new came few one =
+      meant-at tee_checked (done_so assigns targets (tee name args)) old new came
+      (λ expansions base state has. cond-false (nat_lt most_operands (length args.files)) (refused refusal.ArgsTooMany state) (tee_runs expansions state) few) one
+
+-- how many files there are, by those that were looked at
+pub files-long : (files : List (List ℕ)) (texts : List (Vec ℕ)) → texts_of texts ≡ files → length files ≡ length texts
+files-long files texts are = ap length (sym are) ∙ length-map texts (λ text. text.items)
+
+pub files-many : (files : List (List ℕ)) (texts : List (Vec ℕ)) → texts_of texts ≡ files → 256 < length texts → nat_lt most_operands (length files) ≡ true
+files-many files texts are many = let long = files-long files texts are in lt-ltb most_operands (length files) (omega (arith, many, long))
+
+pub files-few : (files : List (List ℕ)) (texts : List (Vec ℕ)) → texts_of texts ≡ files → length texts ≤ 256 → nat_lt most_operands (length files) ≡ false
+files-few files texts are few = let long = files-long files texts are in le-ltb most_operands (length files) (omega (arith, few, long))
 
 module _ (name : List ℕ) (it : Inv) (assigns : List (List ℕ × WordTree)) (targets : List Target) where
   abbrev checks : Asked → Meaning
@@ -180,25 +194,11 @@ module _ (name : List ℕ) (it : Inv) (assigns : List (List ℕ × WordTree)) (t
   abbrev pub found_so : Patterns → Meaning
   found_so found expansions = by_patterns expansions pages name (called_by it) assigns targets found
 
-  module _ (other : is_own (does name (words_of it) (command_of it)) ≡ false) where
-    as-utility : (old new : Point) (came : How) → Evaluates (checks the_utility) old came new → Evaluates (checks (does name (words_of it) (command_of it))) old came new
-    as-utility old new came one = subst (λ (it : Asked). Evaluates (checks it) old came new) (sym (utility-so name (words_of it) (command_of it) other)) one
-
-    -- a utility that has no stream is refused
-    pub unbuilt : (shell : Shell) (session : Session) (tree : TreeState) (seen : Seen) (faults : Faults) → is_built_of it ≡ false
-        → Evaluates (checks (does name (words_of it) (command_of it))) (point_of shell session tree seen faults) (how.Gone (flow.Refused refusal.NotBuilt)) (point_of shell session tree seen faults)
-    unbuilt shell session tree seen faults is =
-        as-utility (point_of shell session tree seen faults) (point_of shell session tree seen faults) (how.Gone (flow.Refused refusal.NotBuilt))
-        (refused-so refusal.NotBuilt (checks the_utility) shell session tree seen faults
-        (λ expansions state. sym (cond-false (is_built_of it) (found_so (patterns_of (command_of it)) expansions state) (refused refusal.NotBuilt state) is)))
-
-    -- and of another the patterns are looked at
-    pub built-found : (old new : Point) (came : How) → is_built_of it ≡ true → Evaluates (found_so (patterns_of (command_of it))) old came new
-        → Evaluates (checks (does name (words_of it) (command_of it))) old came new
-    built-found old new came is one =
-        as-utility old new came
-        (meant-at (checks the_utility) (found_so (patterns_of (command_of it))) old new came
-        (λ expansions base state has. cond-true (is_built_of it) (found_so (patterns_of (command_of it)) expansions state) (refused refusal.NotBuilt state) is) one)
+  -- of a utility the patterns are looked at
+  pub built-found : (old new : Point) (came : How) → is_built_of it ≡ true → Evaluates (found_so (patterns_of (command_of it))) old came new
+      → Evaluates (checks (does name (words_of it) (command_of it))) old came new
+  built-found old new came is one =
+      subst (λ (it : Asked). Evaluates (checks it) old came new) (sym (utility-so name (words_of it) (command_of it) is)) one
 
   -- what was found of the patterns is what they are
   pub found-so : (found found' : Patterns) (old new : Point) (came : How) → found ≡ found' → Evaluates (found_so found) old came new → Evaluates (found_so found') old came new
@@ -221,29 +221,19 @@ module _ (name : List ℕ) (it : Inv) (assigns : List (List ℕ × WordTree)) (t
   abbrev by_count : Expansions → Means
   by_count expansions = done expansions false assigns (uses_by_operands pages (called_by it)) targets (runs_utility pages name (called_by it))
 
-  few-so : (files : List (List ℕ)) → files ≡ [] → nat_lt most_operands (length (operands_of it) + length files) ≡ nat_lt most_operands (length (operands_of it))
-  few-so files none = ap (λ (it_files : List (List ℕ)). nat_lt most_operands (length (operands_of it) + length it_files)) none ∙ ap (nat_lt most_operands) (add-none (length (operands_of it)))
-    where
-      add-none : (number : ℕ) → number + 0 ≡ number
-      add-none number = omega arith
-
-  read-means : (expansions : Expansions) (state : State) → is_built_of it ≡ true → found_so read expansions state
-      ≡ (if nat_lt most_operands (length (operands_of it)) then refused refusal.ArgsTooMany state else by_count expansions state)
-  read-means expansions state is = ap (λ (it : Bool). if it then refused refusal.ArgsTooMany state else by_count expansions state) (few-so (files_of it) (writes-none it is))
-
   -- one with too many operands is refused
-  pub too-many : (shell : Shell) (session : Session) (tree : TreeState) (seen : Seen) (faults : Faults) → is_built_of it ≡ true → nat_lt most_operands (length (operands_of it)) ≡ true
+  pub too-many : (shell : Shell) (session : Session) (tree : TreeState) (seen : Seen) (faults : Faults) → nat_lt most_operands (length (operands_of it)) ≡ true
       → Evaluates (found_so read) (point_of shell session tree seen faults) (how.Gone (flow.Refused refusal.ArgsTooMany)) (point_of shell session tree seen faults)
-  too-many shell session tree seen faults is many =
+  too-many shell session tree seen faults many =
       refused-so refusal.ArgsTooMany (found_so read) shell session tree seen faults
-      (λ expansions state. sym (read-means expansions state is ∙ cond-true (nat_lt most_operands (length (operands_of it))) (refused refusal.ArgsTooMany state) (by_count expansions state) many))
+      (λ expansions state. sym (cond-true (nat_lt most_operands (length (operands_of it))) (refused refusal.ArgsTooMany state) (by_count expansions state) many))
 
   -- and any other is run
-  pub utility-runs : (old new : Point) (came : How) → is_built_of it ≡ true → nat_lt most_operands (length (operands_of it)) ≡ false
+  pub utility-runs : (old new : Point) (came : How) → nat_lt most_operands (length (operands_of it)) ≡ false
       → Evaluates (done_so assigns targets the_utility) old came new → Evaluates (found_so read) old came new
-  utility-runs old new came is few one =
+  utility-runs old new came few one =
       meant-at (found_so read) (done_so assigns targets the_utility) old new came
-      (λ expansions base state has. read-means expansions state is ∙ cond-false (nat_lt most_operands (length (operands_of it))) (refused refusal.ArgsTooMany state) (by_count expansions state) few) one
+      (λ expansions base state has. cond-false (nat_lt most_operands (length (operands_of it))) (refused refusal.ArgsTooMany state) (by_count expansions state) few) one
 
 -- the words of one of the shell's own commands don't count beside its options and operands
 same-own : (name : List ℕ) (words others : List (List ℕ)) (asked : Command) → is_own (does name words asked) ≡ true → does name words asked ≡ does name others asked
@@ -341,6 +331,7 @@ doing-adds doing.Nothing = own-adds no_name tt
 doing-adds (doing.Builtin name inv) = own-adds (asked_of (doing.Builtin name inv)) (does-adds name.now [] (command_of inv.now))
 doing-adds (doing.Misuse name) = own-adds (asked_of (doing.Misuse name)) tt
 doing-adds (doing.WrongPatterns name) = own-adds (asked_of (doing.WrongPatterns name)) tt
+doing-adds (doing.Tee name args) = own-adds (asked_of (doing.Tee name args)) tt
 doing-adds (doing.Utility name inv) = own-adds (asked_of (doing.Utility name inv)) tt
 
 pub done-adds : (assigns : List (List ℕ × WordTree)) (it : Doing) (expansions : Expansions) → Adds (assigned_for expansions (stays_of (asked_of it)) assigns (own_means (asked_of it)))
@@ -353,6 +344,7 @@ Runs (doing.Builtin name inv) old came new =
     (words : List (List ℕ)) (is_special : Bool) (means : Means) → does name.now words (command_of inv.now) ≡ builtin is_special means → Evaluates (λ expansions. means) old came new
 Runs (doing.Misuse name) old came new = Evaluates (λ expansions. misused (at_fault (is_special name.now)) name.now) old came new
 Runs (doing.WrongPatterns name) old came new = Evaluates (λ expansions. misused flow.On name.now) old came new
+Runs (doing.Tee name args) old came new = Evaluates (λ expansions. tees name.now args.now) old came new
 Runs (doing.Utility name inv) old came new = Evaluates (λ expansions. runs_utility pages name.now (called_by inv.now)) old came new
 
 pub runs-own : (it : Doing) (old new : Point) (came : How) → can_be_done it ≡ true → Runs it old came new → Evaluates (λ expansions. own_means (asked_of it)) old came new
@@ -363,6 +355,7 @@ runs-own (doing.Builtin name inv) old new came own run = by_own (own-so (does na
     by_own (is_special, means, is) = subst (λ (it : Asked). Evaluates (λ expansions. own_means it) old came new) (sym is) (run [] is_special means is)
 runs-own (doing.Misuse name) old new came own run = run
 runs-own (doing.WrongPatterns name) old new came own run = run
+runs-own (doing.Tee name args) old new came own run = run
 runs-own (doing.Utility name inv) old new came own run = run
 
 pub misuse-runs : (way : Flow) (name : List ℕ) (old new : Point) (came : How) → way ≡ at_fault (is_special name) → Evaluates (λ expansions. misused way name) old came new
@@ -417,13 +410,6 @@ run-few it name inv is can = leb-true (length (operands_of inv.now)) most_operan
 
 pub can-run : (inv : Inv) → is_built_of inv ≡ true → length (operands_of inv) ≤ most_operands → can_run inv ≡ true
 can-run inv built few = and_from (is_built_of inv) (nat_le (length (operands_of inv)) most_operands) built (le-leb (length (operands_of inv)) most_operands few)
-
--- the paths that a utility's operands use
-pub finds-operands : (inv : Inv) (tree : TreeState) (uses : List Use) → is_built_of inv ≡ true
-    → ((state : State) → tree.held ≡ Some state.world.files → tree.home ≡ state.world.home → uses ≡ flat_map (read_use state) (operands_of inv)) → FindsUses tree uses (uses_by_operands pages (called_by inv))
-finds-operands inv tree uses built found = λ state held home.
-    found state held home ∙ sym (append-nil (flat_map (read_use state) (operands_of inv)))
-    ∙ ap (λ (it : List (List ℕ)). flat_map (read_use state) (operands_of inv) ++ map (written_use state) it) (sym (writes-none inv built))
 
 -- the words of an invocation are those that were read
 pub words-so : (name : List ℕ) (words given : List (List ℕ)) (asked : Command) (assigns : List (List ℕ × WordTree)) (targets : List Target) (old new : Point) (came : How) → words ≡ given

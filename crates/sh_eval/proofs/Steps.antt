@@ -63,7 +63,7 @@ no-fewer-trans old mid new first second =
     record { input = omega arith; output = omega arith; errors = omega arith; tree = omega arith }
 
 -- what the next command needs
-can-take : (place : To) (old new : Files) → Stay old new → CanTake old place → CanTake new place
+pub can-take : (place : To) (old new : Files) → Stay old new → CanTake old place → CanTake new place
 can-take to.Output old new stay can = can
 can-take to.Errors old new stay can = can
 can-take (to.Pipe number) old new stay can = can

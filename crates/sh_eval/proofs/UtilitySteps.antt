@@ -6,7 +6,7 @@ use Rattle.ps_world.specs.Files.{bytes_at}
 use Rattle.ps_world.specs.Paths.{Components}
 use Rattle.ps_world.specs.declared.places.Place.TheVariants as place
 use Rattle.ps_world.specs.TreeState.{TreeState}
-use Rattle.ut_args.specs.Inputs.{files_of, operands_of, remaining}
+use Rattle.ut_args.specs.Inputs.{operands_of, remaining}
 use Rattle.ut_args.specs.Invocations.{command_of, words_of}
 use Rattle.ut_args.specs.declared.invocations.Inv.{Inv}
 use Rattle.ut_streams.specs.Utilities.{Input}
@@ -35,7 +35,7 @@ use Rattle.sh_eval.specs.Inner.Runs.{AreMeant, inputs_of, takes, utility_does}
 use Rattle.sh_eval.specs.Shells.{with_status}
 use Rattle.sh_eval.specs.States.{State, after, on, leaves, tells, to_read}
 use Rattle.sh_eval.specs.Table.{pages}
-use Rattle.sh_eval.specs.Utilities.{Given, Made, appends, deals, does_nothing, given_to, has_none, is_silent, lines_told, made_by, make_files, needs_all, reads_standard, runs_utility, takes_inputs, tells_some, words_without, writes_out}
+use Rattle.sh_eval.specs.Utilities.{Given, deals, does_nothing, given_to, has_none, is_silent, lines_told, needs_all, reads_standard, runs_utility, takes_inputs, tells_some, words_without, writes_out}
 use Rattle.sh_eval.proofs.Growing.{adds-takes_inputs, grows-self}
 use Rattle.sh_eval.proofs.OperandSteps.{looked, inputs-are, lines-are, lacks-are, emptied-are, reads-are, streams-are, all-inputs, as-many, output-left, selects-left}
 use Rattle.sh_eval.proofs.Steps.{changed, followed, meant-at, nothing, stopped}
@@ -119,7 +119,7 @@ module _ (name : List ℕ) (asked : Inv) (operands : List Operand) (needed : (ne
   own-so first false is own = ap (λ (it : Bool). is_shell_input first && it) (streams-are dealt operands ∙ is) ∙ and-false (is_shell_input first)
 
 pub utility-meant : (name : List ℕ) (asked : Inv) (operands : List Operand) (tree : TreeState) → (needs_all (command_of asked) && some_lacks operands) ≡ false → AreNamedIn tree (operands_of asked) operands
-    → AreMeant (command_asks asked operands) (reads_stream operands) (utility_does name asked) tree
+    → AreMeant (command_asks asked operands []) (reads_stream operands) (utility_does name asked) tree
 utility-meant name asked operands tree needed looks first state held home begins =
     let named : operands ≡ looked state (operands_of asked) = looks state held home in
     record {
@@ -130,14 +130,14 @@ utility-meant name asked operands tree needed looks first state held home begins
       drawn = own-so name asked operands needed state named first (reads_stream operands) refl begins.own;
     }
 
--- where no files are written, this is what it means
-pub inputs-meant : (name : List ℕ) (asked : Inv) (state : State) → takes_inputs pages name (called_by asked) [] true state ≡ takes (utility_does name asked) state
+-- this is what it means
+pub inputs-meant : (name : List ℕ) (asked : Inv) (state : State) → takes_inputs pages name (called_by asked) state ≡ takes (utility_does name asked) state
 inputs-meant name asked state = refl
 
 pub takes-meant : (name : List ℕ) (asked : Inv) (old new : Point) (came : How) → Evaluates (λ expansions. takes (utility_does name asked)) old came new
-    → Evaluates (λ expansions. takes_inputs pages name (called_by asked) [] true) old came new
+    → Evaluates (λ expansions. takes_inputs pages name (called_by asked)) old came new
 takes-meant name asked old new came one =
-    meant-at (λ expansions. takes_inputs pages name (called_by asked) [] true) (λ expansions. takes (utility_does name asked)) old new came (λ expansions base state has. inputs-meant name asked state) one
+    meant-at (λ expansions. takes_inputs pages name (called_by asked)) (λ expansions. takes (utility_does name asked)) old new came (λ expansions base state has. inputs-meant name asked state) one
 
 -- THE WHOLE UTILITY: the lines, and what is behind them
 module _ (name : List ℕ) (asked : Inv) (lines : List ℕ) (skips : Bool) where
@@ -146,7 +146,7 @@ module _ (name : List ℕ) (asked : Inv) (lines : List ℕ) (skips : Bool) where
     where
       by_skip : (it : Bool) → Grows state (runs_behind it name asked state).state
       by_skip true = grows-self state
-      by_skip false = adds-takes_inputs pages name (called_by asked) [] true state
+      by_skip false = adds-takes_inputs pages name (called_by asked) state
 
   -- what is behind them, by whether it does nothing
   pub behind-skips : (shell shell' : Shell) (session : Session) (tree : TreeState) (seen : Seen) (faults : Faults) (status : ℕ) → skips ≡ true → status ≡ status_of (command_of asked) true false → shell' ≡ with_status status shell
@@ -155,45 +155,34 @@ module _ (name : List ℕ) (asked : Inv) (lines : List ℕ) (skips : Bool) where
       subst (λ (it : Bool). Evaluates (λ expansions. runs_behind it name asked) (point_of shell session tree seen faults) (how.Gone flow.On) (point_of shell' session tree seen faults)) (sym is)
       (changed flow.On (with_status (status_of (command_of asked) true false)) shell shell' session tree seen faults (shell_is ∙ ap (λ (it : ℕ). with_status it shell) status_is))
 
-  pub behind-runs : (old new : Point) (came : How) → skips ≡ false → Evaluates (λ expansions. takes_inputs pages name (called_by asked) [] true) old came new
+  pub behind-runs : (old new : Point) (came : How) → skips ≡ false → Evaluates (λ expansions. takes_inputs pages name (called_by asked)) old came new
       → Evaluates (λ expansions. runs_behind skips name asked) old came new
   behind-runs old new came is one = subst (λ (it : Bool). Evaluates (λ expansions. runs_behind it name asked) old came new) (sym is) one
 
   -- what is meant, by what the operands name
-  utility-is : (state : State) → files_of asked ≡ [] → lines ≡ lines_by name asked (looked state (operands_of asked)) → skips ≡ (needs_all (command_of asked) && some_lacks (looked state (operands_of asked)))
+  utility-is : (state : State) → lines ≡ lines_by name asked (looked state (operands_of asked)) → skips ≡ (needs_all (command_of asked) && some_lacks (looked state (operands_of asked)))
       → runs_utility pages name (called_by asked) state ≡ runs_behind skips name asked (tells_some lines state)
-  utility-is state none told skipped =
-      ap (λ (it : Bool). if it then does_nothing pages name (called_by asked) state else writes_out pages name (called_by asked) (made_by pages name (called_by asked) state) state)
+  utility-is state told skipped =
+      ap (λ (it : Bool). if it then does_nothing pages name (called_by asked) state else writes_out pages name (called_by asked) state)
       (ap (λ (it : Bool). needs_all (command_of asked) && it) (lacks-are state (operands_of asked)) ∙ sym skipped)
       ∙ by_skip skips
     where
-      given : List Given
-      given = given_to state (deals (command_of asked)) name (operands_of asked)
-
-      lines-is : lines_told (command_of asked) given ≡ lines
+      lines-is : lines_told (command_of asked) (given_to state (deals (command_of asked)) name (operands_of asked)) ≡ lines
       lines-is = ap (λ (it : List ℕ). if is_silent (command_of asked) then [] else it) (lines-are state name (deals (command_of asked)) (operands_of asked)) ∙ sym told
 
-      begun : Made
-      begun = record { world = state.world; paths = []; complaints = []; is_whole = true }
-
-      made-is : made_by pages name (called_by asked) state ≡ begun
-      made-is = ap (λ (it : List (List ℕ)). make_files state (not (appends (command_of asked))) name it begun) none
-
-      by_skip : (it : Bool) → (if it then does_nothing pages name (called_by asked) state else writes_out pages name (called_by asked) (made_by pages name (called_by asked) state) state)
+      by_skip : (it : Bool) → (if it then does_nothing pages name (called_by asked) state else writes_out pages name (called_by asked) state)
           ≡ runs_behind it name asked (tells_some lines state)
       by_skip true = ap (λ (it : List ℕ). on (leaves (status_of (command_of asked) true false) (tells_some it state))) lines-is
-      by_skip false =
-          ap (λ (it : Made). writes_out pages name (called_by asked) it state) made-is
-          ∙ ap (λ (it : List ℕ). takes_inputs pages name (called_by asked) [] true (tells_some it state)) lines-is
+      by_skip false = ap (λ (it : List ℕ). takes_inputs pages name (called_by asked) (tells_some it state)) lines-is
 
-  module _ (operands : List Operand) (old : Point) (none : files_of asked ≡ []) (looks : AreNamedIn old.tree (operands_of asked) operands) (told : lines ≡ lines_by name asked operands)
+  module _ (operands : List Operand) (old : Point) (looks : AreNamedIn old.tree (operands_of asked) operands) (told : lines ≡ lines_by name asked operands)
       (skipped : skips ≡ (needs_all (command_of asked) && some_lacks operands)) where
     abbrev both : Meaning
     both expansions state = after (on (tells_some lines state)) (runs_behind skips name asked)
 
     same : (expansions : Expansions) (base : Base) (state : State) → Has base old state → runs_utility pages name (called_by asked) state ≡ both expansions state
     same expansions base state has =
-        utility-is state none (told ∙ ap (lines_by name asked) (looks state has.held has.home)) (skipped ∙ ap (λ (it : List Operand). needs_all (command_of asked) && some_lacks it) (looks state has.held has.home))
+        utility-is state (told ∙ ap (lines_by name asked) (looks state has.held has.home)) (skipped ∙ ap (λ (it : List Operand). needs_all (command_of asked) && some_lacks it) (looks state has.held has.home))
 
     pub utility-stopped : (new : Point) (came : How) → goes_on came ≡ false → Evaluates (λ expansions state. on (tells_some lines state)) old came new
         → Evaluates (λ expansions. runs_utility pages name (called_by asked)) old came new

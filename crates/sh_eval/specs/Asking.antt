@@ -6,6 +6,7 @@ use Rattle.std.specs.Str.{bytes_eq}
 use Rattle.ut_args.specs.Reading.{invocation}
 use Rattle.ut_args.specs.declared.commands.Command.{Command}
 use Rattle.ut_args.specs.declared.commands.Command.TheVariants as command
+use Rattle.ut_args.specs.declared.commands.TeeArgs.{TeeArgs}
 use Rattle.ut_args.specs.declared.faults.ArgFault.{ArgFault}
 use Rattle.ut_args.specs.declared.faults.ArgFault.TheVariants as fault
 use Rattle.sh_eval.specs.declared.flows.Flow.{Flow}
@@ -15,12 +16,13 @@ use Rattle.sh_eval.specs.Builtins.{succeeds, fails, echoes, tests, leaves_loops,
 use Rattle.sh_eval.specs.Utilities.{Called}
 
 -- what a command is asked to do: nothing but its assignments and redirections, by a name that no command has, with a letter that it hasn't,
--- in words that it can't use, one of the eleven utilities, or one of the shell's own commands. The flag says that it is a special built-in
+-- in words that it can't use, tee, another utility, or one of the shell's own commands. The flag says that it is a special built-in
 pub data Asked : Type 0 where
   no_name : Asked
   unknown : List ℕ → Asked
   unlisted : List ℕ → ℕ → Asked
   unusable : Bool → List ℕ → Asked
+  tee : List ℕ → TeeArgs → Asked
   utility : List ℕ → Called → Asked
   builtin : Bool → Means → Asked
 
@@ -33,7 +35,7 @@ abbrev pub is_special : List ℕ → Bool
 is_special name =
     list_any (bytes_eq name) (codes ":" ∷ codes "break" ∷ codes "continue" ∷ codes "exit" ∷ codes "set" ∷ codes "shift" ∷ codes "unset" ∷ [])
 
--- a command of the table: one of the eleven utilities, or one of the shell's own
+-- a command of the table: a utility, or one of the shell's own
 abbrev pub does : List ℕ → List (List ℕ) → Command → Asked
 does name words command.True = builtin false succeeds
 does name words command.False = builtin false fails
@@ -48,6 +50,7 @@ does name words (command.Read args) = builtin false (reads args.names)
 does name words (command.Test args) = builtin false (tests name args.arguments)
 does name words (command.Bracket args) = builtin false (tests name args.arguments)
 does name words (command.Echo args) = builtin false (echoes args.operands)
+does name words (command.Tee args) = tee name args
 does name words other = utility name (record { words = words; command = other })
 
 abbrev pub asked_as : List ℕ → List (List ℕ) → Result Command ArgFault → Asked

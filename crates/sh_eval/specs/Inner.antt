@@ -7,4 +7,5 @@ pub mod Faults
 pub mod Opening
 pub mod Inputs
 pub mod Runs
+pub mod Teeing
 pub mod Gathering

@@ -6,6 +6,7 @@ pub mod Commands
 pub mod Targets
 pub mod Redirections
 pub mod Utilities
+pub mod Teeing
 pub mod Expanding
 pub mod Builtins
 pub mod Asking

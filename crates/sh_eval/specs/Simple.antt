@@ -1,19 +1,20 @@
 -- Simple commands (XCU 2.9.1): their words are expanded, what they ask for is checked, and then their redirections, their assignments and
 -- the command itself are done, in this order.
-use Rattle.std.specs.Prelude.{ℕ, List, [], ◌∷◌, ◌++◌, Bool, false, ◌+◌, nat_lt, length, Option, Some, None, if◌then◌else◌}
+use Rattle.std.specs.Prelude.{ℕ, List, [], ◌∷◌, ◌++◌, Bool, false, nat_lt, length, Option, Some, None, if◌then◌else◌}
 use Rattle.std.specs.FinMap as finite
 use Rattle.sh_tree.specs.Trees.{WordTree, RedirTree}
 use Rattle.sh_arith.specs.Variables.{Variables}
 use Rattle.sh_expand.specs.Outcomes.{Expansions}
-use Rattle.ut_args.specs.Inputs.{files_by, operands_by}
+use Rattle.ut_args.specs.Inputs.{operands_by}
 use Rattle.sh_eval.specs.declared.flows.Flow.TheVariants as flow
 use Rattle.sh_eval.specs.declared.refusals.Refusal.TheVariants as refusal
 use Rattle.sh_eval.specs.States.{State, Ends, Means, ends, on, refused, in_shell, leaves}
 use Rattle.sh_eval.specs.Targets.{Target}
 use Rattle.sh_eval.specs.Expanding.{with_fields, with_targets, assigning}
 use Rattle.sh_eval.specs.Redirections.{Use, uses_of, where_free, in_redirections}
-use Rattle.sh_eval.specs.Asking.{Asked, no_name, unknown, unlisted, unusable, utility, builtin, at_fault, asked_by}
+use Rattle.sh_eval.specs.Asking.{Asked, no_name, unknown, unlisted, unusable, tee, utility, builtin, at_fault, asked_by}
 use Rattle.sh_eval.specs.Utilities.{Called, Pages, Patterns, read, wrong, refers_back, uses_by_operands, runs_utility}
+use Rattle.sh_eval.specs.Teeing.{tees, uses_by_files}
 use Rattle.sh_eval.specs.Builtins.{misused}
 
 -- the most file operands of a command
@@ -46,13 +47,12 @@ module _ (expansions : Expansions) where
 
   module _ (pages : Pages) where
     -- a utility is run where its patterns are read and it has not too many operands
-    abbrev pub where_few : Called → Means → Means
-    where_few called next state =
-        if nat_lt most_operands (length (operands_by called.command) + length (files_by called.command)) then refused refusal.ArgsTooMany state else next state
+    abbrev pub where_few : List (List ℕ) → Means → Means
+    where_few operands next state = if nat_lt most_operands (length operands) then refused refusal.ArgsTooMany state else next state
 
     abbrev pub by_patterns : List ℕ → Called → List (List ℕ × WordTree) → List Target → Patterns → Means
     by_patterns name called assigns targets read state =
-        where_few called (done false assigns (uses_by_operands pages called) targets (runs_utility pages name called)) state
+        where_few (operands_by called.command) (done false assigns (uses_by_operands pages called) targets (runs_utility pages name called)) state
     by_patterns name called assigns targets wrong state = done false assigns (λ state. []) targets (misused flow.On name) state
     by_patterns name called assigns targets (refers_back pattern) state = refused (refusal.UnsupportedPattern pattern) state
 
@@ -63,8 +63,8 @@ module _ (expansions : Expansions) where
     checked assigns targets (unknown name) state = refused (refusal.UnknownCommand name) state
     checked assigns targets (unlisted name letter) state = refused (refusal.UnsupportedFlag name letter) state
     checked assigns targets (unusable is_special name) state = done is_special assigns (λ state. []) targets (misused (at_fault is_special) name) state
-    checked assigns targets (utility name called) state =
-        if pages.is_built called.command then by_patterns name called assigns targets (pages.patterns called.command) state else refused refusal.NotBuilt state
+    checked assigns targets (tee name args) state = where_few args.files (done false assigns (uses_by_files args) targets (tees name args)) state
+    checked assigns targets (utility name called) state = by_patterns name called assigns targets (pages.patterns called.command) state
     checked assigns targets (builtin is_special means) state = done is_special assigns (λ state. []) targets means state
 
     -- a simple command, behind its substitutions

@@ -1,6 +1,5 @@
--- What is built so far.
+-- What the pages of the utilities say.
 use Rattle.std.specs.Prelude.{ℕ, List, Option, Some, None}
-use Rattle.ut_args.specs.Built.{is_built_by}
 use Rattle.ut_args.specs.declared.commands.Command.{Command}
 use Rattle.ut_args.specs.declared.commands.Command.TheVariants as command
 use Rattle.ut_regex.specs.declared.fault.ReFault.{ReFault}
@@ -22,6 +21,5 @@ abbrev pub patterns_of : Command → Patterns
 patterns_of (command.Grep args) = told_by (first_faulty args.syntax args.patterns)
 patterns_of other = read
 
--- the utilities that have a stream
 abbrev pub pages : Pages
-pages = record { is_built = is_built_by; patterns = patterns_of; output = output_for; selects = selects_for }
+pages = record { patterns = patterns_of; output = output_for; selects = selects_for }

@@ -1,12 +1,11 @@
 -- The utilities of the table, as a shell runs them (XCU 2.9.1, and each utility's page): their operands are looked up, what can't be read
 -- is told, and the output for what can be read is written. What a utility writes for its inputs is its own matter, and given here.
-use Rattle.std.specs.Prelude.{ℕ, List, [], ◌∷◌, ◌++◌, Bool, true, false, not, ◌&&◌, ◌||◌, map, take, length, ◌-◌, if◌then◌else◌}
+use Rattle.std.specs.Prelude.{ℕ, List, [], ◌∷◌, ◌++◌, Bool, true, false, ◌&&◌, ◌||◌, map, take, length, ◌-◌, if◌then◌else◌}
 use Rattle.std.specs.List.{list_any, flat_map}
-use Rattle.ps_world.specs.Paths.{Components}
 use Rattle.ps_world.specs.Files.{bytes_at}
 use Rattle.ps_world.specs.declared.places.Place.{Place}
 use Rattle.ps_world.specs.declared.places.Place.TheVariants as place
-use Rattle.ut_args.specs.Inputs.{files_by, is_standard, operands_by}
+use Rattle.ut_args.specs.Inputs.{is_standard, operands_by}
 pub use Rattle.ut_args.specs.Inputs.{deals}
 use Rattle.ut_args.specs.declared.commands.Command.{Command}
 use Rattle.ut_args.specs.declared.commands.Command.TheVariants as command
@@ -14,10 +13,9 @@ use Rattle.ut_streams.specs.Utilities.{Input}
 use Rattle.fl_segments.specs.Noted.{Noted}
 use Rattle.fl_commands.specs.Inputs.{noted_over, status_of}
 use Rattle.fl_commands.specs.Operands.{lacks, named}
-use Rattle.sh_eval.specs.declared.streams.To.TheVariants as to
-use Rattle.sh_eval.specs.States.{World, State, Means, on, in_world, leaves, puts, tells, to_read, reads_to, write}
+use Rattle.sh_eval.specs.States.{World, State, Means, on, in_world, leaves, puts, tells, to_read, reads_to}
 use Rattle.sh_eval.specs.Lines.{diagnostic, no_such_file, is_a_directory}
-use Rattle.sh_eval.specs.Redirections.{Use, named_by, file_begun}
+use Rattle.sh_eval.specs.Redirections.{Use, named_by}
 
 -- what an operand gives: an input, nothing, or a line of why there is none
 pub data Given : Type 0 where
@@ -36,18 +34,11 @@ pub record Called : Type 0 where
   pub words : List (List ℕ)
   pub command : Command
 
--- what the page of each of the eleven utilities says: whether it is built, what becomes of its patterns, and for its inputs what it writes and
--- whether it selects a line
+-- what the page of each utility says: what becomes of its patterns, and for its inputs what it writes and whether it selects a line
 pub record Pages : Type 0 where
-  pub is_built : Command → Bool
   pub patterns : Command → Patterns
   pub output : Command → List Input → List ℕ
   pub selects : Command → List Input → Bool
-
--- the files are appended to (XCU tee)
-abbrev pub appends : Command → Bool
-appends (command.Tee args) = args.appends
-appends other = false
 
 -- nothing is told of an operand that has no input (XCU grep)
 abbrev pub is_silent : Command → Bool
@@ -114,40 +105,9 @@ reads_standard (operand ∷ operands) = list_any is_standard (operand ∷ operan
 abbrev pub has_none : State → List ℕ → Bool
 has_none state operand = lacks (named state.world.files state.world.home operand)
 
--- what a command uses: its inputs, and the files that it writes
+-- what a command uses: its inputs
 abbrev pub read_use : State → List ℕ → List Use
 read_use state operand = if is_standard operand then [] else record { text = operand; place = named_by state operand; writes = false } ∷ []
-
-abbrev pub written_use : State → List ℕ → Use
-written_use state text = record { text = text; place = named_by state text; writes = true }
-
--- FILES THAT A UTILITY WRITES (XCU tee): those that can be made are begun, and the others told
-pub record Made : Type 0 where
-  pub world : World
-  pub paths : List Components
-  pub complaints : List ℕ
-  pub is_whole : Bool
-
-abbrev pub with_file : Bool → Components → Made → Made
-with_file anew path made = record made { world = file_begun anew path made.world; paths = made.paths ++ path ∷ [] }
-
-abbrev pub without_file : List ℕ → Made → Made
-without_file line made = record made { complaints = made.complaints ++ line; is_whole = false }
-
-abbrev pub make_file : Bool → List ℕ → List ℕ → Place → Made → Made
-make_file anew name text place.Missing made = without_file (diagnostic name text no_such_file) made
-make_file anew name text (place.Makeable path) made = with_file anew path made
-make_file anew name text (place.Dir path) made = without_file (diagnostic name text is_a_directory) made
-make_file anew name text (place.File path) made = with_file anew path made
-make_file anew name text place.Null made = made
-
-abbrev pub make_files : State → Bool → List ℕ → List (List ℕ) → Made → Made
-make_files state anew name [] made = made
-make_files state anew name (text ∷ texts) made = make_files state anew name texts (make_file anew name text (named_by state text) made)
-
-abbrev pub write_files : List Components → List ℕ → State → State
-write_files [] text state = state
-write_files (path ∷ paths) text state = write_files paths text (write (to.File path) text state)
 
 -- these utilities have run
 abbrev pub notes : List Noted → World → World
@@ -168,26 +128,21 @@ lines_told called given = if is_silent called then [] else flat_map (λ line. li
 
 module _ (pages : Pages) where
   abbrev pub uses_by_operands : Called → State → List Use
-  uses_by_operands called state = flat_map (read_use state) (operands_by called.command) ++ map (written_use state) (files_by called.command)
+  uses_by_operands called state = flat_map (read_use state) (operands_by called.command)
 
-  abbrev pub texts_joined : List Input → List ℕ
-  texts_joined inputs = flat_map (λ it. it.text) inputs
-
-  -- the inputs are taken, a status is left, and the output is written; these files get the inputs, where all of those that are written were
-  -- made
-  abbrev pub takes_inputs : List ℕ → Called → List Components → Bool → Means
-  takes_inputs name called paths is_whole state =
+  -- the inputs are taken, a status is left, and the output is written
+  abbrev pub takes_inputs : List ℕ → Called → Means
+  takes_inputs name called state =
       let operands = operands_by called.command in
       let inputs = inputs_in (given_to state (deals called.command) name operands) in
       let noted = notes (noted_over called.command (words_without (has_none state) called) (length inputs)) in
-      let status = status_of called.command (not is_whole || list_any (has_none state) operands) (pages.selects called.command inputs) in
-      on (write_files paths (texts_joined inputs) (puts (pages.output called.command inputs) (leaves status (in_world noted (taken_in (reads_standard operands) state)))))
+      let status = status_of called.command (list_any (has_none state) operands) (pages.selects called.command inputs) in
+      on (puts (pages.output called.command inputs) (leaves status (in_world noted (taken_in (reads_standard operands) state))))
 
-  -- what can't be read, or made, is told before
-  abbrev pub writes_out : List ℕ → Called → Made → Means
-  writes_out name called made state =
-      let given = given_to state (deals called.command) name (operands_by called.command) in
-      takes_inputs name called made.paths made.is_whole (tells_some (made.complaints ++ lines_told called.command given) (in_world (λ world. made.world) state))
+  -- what can't be read is told before
+  abbrev pub writes_out : List ℕ → Called → Means
+  writes_out name called state =
+      takes_inputs name called (tells_some (lines_told called.command (given_to state (deals called.command) name (operands_by called.command))) state)
 
   -- some do nothing at all where an operand has no input, but to tell of it (own)
   abbrev pub does_nothing : List ℕ → Called → Means
@@ -195,12 +150,7 @@ module _ (pages : Pages) where
       let given = given_to state (deals called.command) name (operands_by called.command) in
       on (leaves (status_of called.command true false) (tells_some (lines_told called.command given) state))
 
-  -- the files that it writes are begun before all else
-  abbrev pub made_by : List ℕ → Called → State → Made
-  made_by name called state =
-      make_files state (not (appends called.command)) name (files_by called.command) (record { world = state.world; paths = []; complaints = []; is_whole = true })
-
   abbrev pub runs_utility : List ℕ → Called → Means
   runs_utility name called state =
       if needs_all called.command && list_any (has_none state) (operands_by called.command) then does_nothing name called state
-      else writes_out name called (made_by name called state) state
+      else writes_out name called state

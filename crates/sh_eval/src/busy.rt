@@ -1,11 +1,12 @@
 //! Paths that are busy: a command reads or writes one that it writes too, or that an enclosing redirection writes or holds.
-ghost use Rattle.std.specs.Prelude.{◌≡◌, [], ◌∷◌, ◌++◌, Some, OnOk};
+ghost use Rattle.std.specs.Prelude.{◌≡◌, [], ◌∷◌, ◌++◌, map, Some, OnOk};
 ghost use Rattle.std.specs.List.{flat_map, list_any};
 ghost use Rattle.std.specs.Option.{option_copied};
 ghost use Rattle.ps_lines.specs.Texts.{texts_of};
 ghost use Rattle.ps_world.specs.Counts.{Counts};
 ghost use Rattle.sh_eval.specs.Redirections.{clashes as clashes_lem, first_busy as first_busy_lem, held_at, held_by, is_busy as is_busy_lem, named_by, path_at as path_at_lem, uses_by, uses_of, writes_by as writes_by_lem};
 ghost use Rattle.sh_eval.specs.States.{State};
+ghost use Rattle.sh_eval.specs.Teeing.{written_use};
 ghost use Rattle.sh_eval.specs.Utilities.{read_use};
 
 use crate::streams::{Held, HeldPaths};
@@ -95,6 +96,24 @@ fn add_operand<T: Tree>(
         return Ok(());
     }
     add_use(alloc, text, false, uses, tree)
+}
+
+/// Looks up what the files that tee writes use, from the left, behind the uses that are known.
+pub(crate) fn add_files<T: Tree>(
+    alloc: Global,
+    texts: &[Vec<u8>],
+    uses: &mut Vec<Use>,
+    tree: &mut T,
+) -> Result<(), WorldErr>
+    ensures ok { (state : State) → (T.state tree.old).held ≡ Some state.world.files → (T.state tree.old).home ≡ state.world.home
+        → OnOk result (uses.new.items ≡ uses.old.items ++ map (written_use state) (texts_of texts.now)) }
+    ensures state { T.state tree.new ≡ T.state tree.old }
+    ensures cause { Counts (T.faults tree.old) (T.faults tree.new) result }
+{
+    for text in texts {
+        add_use(alloc, text.as_slice(), true, uses, tree)?;
+    }
+    Ok(())
 }
 
 /// Whether a redirection writes its path, if it uses one.

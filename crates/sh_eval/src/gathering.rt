@@ -5,7 +5,7 @@ ghost use Rattle.ps_world.specs.Counts.{Counts};
 ghost use Rattle.sh_tree.specs.Trees.{no_sub, simple as simple_of, simple_command};
 ghost use Rattle.sh_tree.specs.Views.{command_tree, simple_tree, stages_tree, word_tree};
 ghost use Rattle.fl_commands.specs.Inner.Stages.{some_lacks};
-ghost use Rattle.ut_args.specs.Inputs.{files_of, operands_of};
+ghost use Rattle.ut_args.specs.Inputs.{operands_of};
 ghost use Rattle.ut_args.specs.Invocations.{command_of};
 ghost use Rattle.sh_eval.specs.Inner.Gathering.{AddsStage, CanBeMember, Gathers, GiveFields, IsAskedBy, IsFound, IsFree, IsRead};
 ghost use Rattle.sh_eval.specs.Inner.Inputs.{IsLooked, called_by, lines_by};
@@ -17,7 +17,7 @@ use crate::busy::{add_operands, first_busy};
 use crate::expanding::fields_of;
 use crate::patterns::{Checked, check_patterns};
 use crate::shell::Shell;
-use crate::simple::{MAX_OPERANDS, is_builtin};
+use crate::simple::MAX_OPERANDS;
 use crate::streams::{HeldPaths, Streams, To};
 use crate::utilities::{lines_told, look_for_operands, skips};
 use fl_commands::{Member, Operand};
@@ -193,7 +193,11 @@ fn find_member<T: Tree>(
     };
     // The invocation is let go by a call: at a way out it would be proved a variant at a time.
     match find_operands(alloc, &inv, held, tree) {
-        Ok(Some(operands)) => Ok(Some(Member { inv, operands })),
+        Ok(Some(operands)) => Ok(Some(Member {
+            inv,
+            operands,
+            tees: Vec::new(alloc),
+        })),
         Ok(None) => {
             drop(inv);
             Ok(None)
@@ -315,25 +319,14 @@ fn keep_member(alloc: Global, inv: Inv) -> Result<Option<Inv>, Memory>
     }
 }
 
-/// Whether an invocation is that of a utility that runs, whatever its operands name, and writes no file.
+/// Whether an invocation is that of a utility that runs as a graph, whatever its operands name.
 fn can_be_member(alloc: Global, inv: &Inv) -> Result<bool, Memory>
     ensures { IfOk result (λ can. can ≡ true → CanBeMember inv.now) }
 {
-    if is_builtin(inv)
-        || !is_built(inv)
-        || !writes_none(inv)
-        || inv.operands().len() > MAX_OPERANDS
-    {
+    if !is_built(inv) || inv.operands().len() > MAX_OPERANDS {
         return Ok(false);
     }
     has_patterns(alloc, inv)
-}
-
-/// Whether a utility writes no file.
-fn writes_none(inv: &Inv) -> bool
-    ensures { result ≡ true → files_of inv.now ≡ [] }
-{
-    !matches!(inv, Inv::Tee(_))
 }
 
 /// Whether the patterns of an invocation are read.

@@ -8,9 +8,9 @@
 //! errors grown by prefixes of what is meant; and why. `run_script` evaluates a whole script; `specs/Scripts.antt` says what it leaves.
 //!
 //! Lists, pipelines, groups, subshells, `if`, loops, command substitutions, redirections and simple commands are evaluated. A utility runs
-//! by `fl_commands`, as a graph of its own; one that isn't built is refused as NotBuilt where it would run.
+//! by `fl_commands`, as a graph of its own; `tee` is run by the shell itself (`teeing`), as its own commands are.
 //!
-//! A pipeline whose stages are all utilities is gathered to a segment and runs as one graph, through which its bytes stream
+//! A pipeline whose stages are all utilities but `tee` is gathered to a segment and runs as one graph, through which its bytes stream
 //! (`gathering`, `segments`; `specs/Segments.antt` says what it does, which is what its stages mean one after the other). Every other
 //! pipeline runs stage by stage, and what a stage writes is kept for the next.
 #![tactic(auto)]
@@ -42,6 +42,7 @@ mod skipping;
 mod stops;
 mod streams;
 mod targets;
+mod teeing;
 mod top;
 mod utilities;
 mod writing;

@@ -525,7 +525,7 @@ fn eval_last_stage<T: Tree, I: Source + Send, O: Sink + Send, E: Sink, G: Gate, 
         command, &mut inner, session, tree, input, out, err, gate, engine,
     );
     session.read_from(from);
-    shell.status = inner.status;
+    shell.take_status(inner);
     Played {
         how: settled(how),
         input,
@@ -1477,7 +1477,7 @@ fn eval_subshell<T: Tree, I: Source + Send, O: Sink + Send, E: Sink, G: Gate, X:
     let Played { how, input, out } = eval_list(
         list, &mut inner, session, tree, input, out, err, gate, engine,
     );
-    shell.status = inner.status;
+    shell.take_status(inner);
     Played {
         how: settled(how),
         input,

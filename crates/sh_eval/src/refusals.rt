@@ -34,6 +34,4 @@ pub enum Refusal {
     ArgsTooMany,
     /// This pattern of `grep` has a back-reference.
     UnsupportedPattern(Text),
-    /// The command isn't built yet.
-    NotBuilt,
 }

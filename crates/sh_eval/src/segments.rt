@@ -1,6 +1,6 @@
 //! Runs of utilities of a pipeline as one.
-ghost use Rattle.std.specs.Prelude.{◌≡◌, ◌≤◌, length, true, IfSome};
-ghost use Rattle.fl_commands.specs.Members.{AllCanRun, AllNamesStand};
+ghost use Rattle.std.specs.Prelude.{◌≡◌, ◌≤◌, [], length, true, IfSome};
+ghost use Rattle.fl_commands.specs.Members.{AllCanRun, AllNamesStand, files_teed};
 ghost use Rattle.fl_segments.specs.declared.chains.TheConstants.{MAX_STAGES};
 ghost use Rattle.sh_eval.specs.Contract.{Evaluates, IsSound, drawn_of, faults_of, point_of, seen_of};
 ghost use Rattle.sh_eval.specs.Inner.Gathering.{AllLooked, AreTold, calls_of, emptied};
@@ -33,6 +33,7 @@ pub(crate) fn run_segment<T: Tree, I: Source + Send, O: Sink + Send, E: Sink, G:
     requires some { 1 ≤ length segment.members.items }
     requires most { length segment.members.items ≤ MAX_STAGES }
     requires ready { AllCanRun segment.members.items }
+    requires teeless { files_teed segment.members.items ≡ [] }
     requires there { IfSome (T.state tree.old).held (λ files. AllNamesStand files segment.members.items) }
     requires looked { AllLooked (T.state tree.old) segment.members.items }
     requires told { AreTold segment.members.items segment.lines.items (T.state tree.old) }

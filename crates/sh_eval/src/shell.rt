@@ -2,7 +2,7 @@
 ghost use Rattle.std.specs.Prelude.{◌≡◌, [], IfNone, IfOk, IfSome, OnOk};
 ghost use Rattle.std.specs.FinMap as map;
 ghost use Rattle.ps_lines.specs.Texts.{texts_of};
-ghost use Rattle.sh_eval.specs.Shells.{started, inside as inside_lem};
+ghost use Rattle.sh_eval.specs.Shells.{started, inside as inside_lem, with_status};
 ghost use Rattle.sh_eval.specs.Commands.{entered, none_substituted, with_kept};
 
 use crate::newlines::without_newlines;
@@ -80,6 +80,13 @@ impl Shell {
             substituted: Texts::new(alloc),
             substitution_status: 0,
         })
+    }
+
+    /// Leaves a subshell, or the last stage of a pipeline: its status is all that stays of it (XCU 2.9.2, 2.12).
+    pub(crate) fn take_status(&mut self, inner: Shell)
+        ensures { self.new ≡ with_status inner.status self.old }
+    {
+        self.status = inner.status;
     }
 
     /// Keeps the text of a substitution, without the newlines at its end, and its status.

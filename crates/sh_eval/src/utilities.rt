@@ -263,7 +263,7 @@ fn take_inputs<T: Tree, I: Source + Send, O: Sink + Send, E: Sink, G: Gate, X: E
     requires looked { IsLooked (T.state tree.old) (operands_of inv.now) operands.now }
     requires needed { (needs_all_lem (command_of inv.now) && some_lacks_lem operands.now) ≡ false }
     requires sound { IsSound session.old (T.state tree.old) }
-    ensures { (name : List ℕ) → Evaluates (λ expansions. takes_inputs pages name (called_by inv.now) [] true)
+    ensures { (name : List ℕ) → Evaluates (λ expansions. takes_inputs pages name (called_by inv.now))
         (point_of shell.old session.old (T.state tree.old) (seen_of (drawn_of (I.left input) (X.used engine.old)) (O.taken out) (E.taken err.old))
         (faults_of (I.faults input) (O.faults out) (E.faults err.old) (T.faults tree.old)))
         result.how
@@ -365,7 +365,18 @@ fn run_asked<T: Tree, I: Source + Send, O: Sink + Send, G: Gate, X: Engine>(
 {
     match task {
         Task::Utility(inv, operands) => {
-            run_command(alloc, inv, operands, from, tree, input, out, gate, engine)
+            run_command(
+                alloc,
+                inv,
+                operands,
+                &[],
+                from,
+                tree,
+                input,
+                out,
+                gate,
+                engine,
+            )
         }
         Task::Pipeline(members) => run_pipeline(
             alloc, members, from, tree, input, out, gate, engine,
@@ -581,7 +592,7 @@ fn add_line_at(
 }
 
 /// Puts the line of this reason behind others.
-fn add_reason(
+pub(crate) fn add_reason(
     alloc: Global,
     name: &[u8],
     text: &[u8],

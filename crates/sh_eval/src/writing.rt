@@ -73,7 +73,7 @@ pub(crate) fn tell<T: Tree, O: Sink, E: Sink>(
 }
 
 /// Writes bytes to a place.
-fn write_to<T: Tree, O: Sink, E: Sink>(
+pub(crate) fn write_to<T: Tree, O: Sink, E: Sink>(
     place: &To,
     bytes: &[u8],
     pipes: &mut Pipes,

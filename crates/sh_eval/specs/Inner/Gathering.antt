@@ -5,25 +5,23 @@ use Rattle.ps_world.specs.Files.{Files}
 use Rattle.ps_world.specs.Paths.{Components}
 use Rattle.ps_world.specs.TreeState.{TreeState}
 use Rattle.ut_args.specs.Built.{is_built_of}
-use Rattle.ut_args.specs.Inputs.{files_by, files_of, operands_by, operands_of}
+use Rattle.ut_args.specs.Inputs.{operands_by, operands_of}
 use Rattle.ut_args.specs.Invocations.{command_of, words_of}
 use Rattle.ut_args.specs.Reading.{invocation}
 use Rattle.ut_args.specs.declared.invocations.Inv.{Inv}
 use Rattle.fl_segments.specs.declared.chains.TheConstants.{MAX_STAGES}
 use Rattle.fl_commands.specs.Inner.Stages.{some_lacks}
-use Rattle.fl_commands.specs.Members.{AllCanRun, AllNamesStand}
+use Rattle.fl_commands.specs.Members.{AllCanRun, AllNamesStand, files_teed}
 use Rattle.fl_commands.specs.declared.members.Member.{Member}
 use Rattle.sh_arith.specs.Variables.{Variables}
 use Rattle.sh_tree.specs.Trees.{CommandTree, CommandTrees, WordTree, no_command, command}
 use Rattle.sh_expand.specs.Outcomes.{AreExpansions, Expansions, told_fields}
-use Rattle.sh_eval.specs.Asking.{does}
 use Rattle.sh_eval.specs.Expanding.{given_by}
 use Rattle.sh_eval.specs.declared.gathering.Segment.{Segment}
 use Rattle.sh_eval.specs.declared.shell.Shell.{Shell}
 use Rattle.sh_eval.specs.declared.streams.Held.{Held}
 use Rattle.sh_eval.specs.declared.streams.Streams.{Streams}
 use Rattle.sh_eval.specs.Inner.Inputs.{IsLooked, called_by}
-use Rattle.sh_eval.specs.Inner.Doing.{is_own}
 use Rattle.sh_eval.specs.Meaning.{command_means}
 use Rattle.sh_eval.specs.Segments.{is_plain_place, lines_for, member_means, no_pipe}
 use Rattle.sh_eval.specs.Shells.{inside}
@@ -33,9 +31,8 @@ use Rattle.sh_eval.specs.Simple.{most_operands}
 use Rattle.sh_eval.specs.Table.{pages, patterns_of}
 use Rattle.sh_eval.specs.Utilities.{Called, Pages, has_none, needs_all, read, read_use}
 
--- a utility that writes no file, and does something
+-- a utility that does something
 pub record IsPlain (state : State) (member : Called) : Type 0 where
-  pub no_files : files_by member.command ≡ []
   pub is_whole : (needs_all member.command && list_any (has_none state) (operands_by member.command)) ≡ false
 
 abbrev pub AllPlain : State → List Called → Type 0
@@ -81,6 +78,7 @@ AreTold members lines tree =
 -- members stand for stages, and these are their lines
 pub record AreGathered (trees : CommandTrees) (shell : Shell) (held : List Held) (tree : TreeState) (members : List Member) (lines : List ℕ) : Type 0 where
   pub ready : AllCanRun members
+  pub teeless : files_teed members ≡ []
   pub there : IfSome tree.held (λ files. AllNamesStand files members)
   pub looked : AllLooked tree members
   pub stand : StandFor trees members shell held tree
@@ -118,9 +116,7 @@ pub record IsAskedBy (words : List WordTree) (shell : Shell) (tree : TreeState) 
 
 -- a utility that runs, whatever its operands name
 pub record CanBeMember (inv : Inv) : Type 0 where
-  pub other : (name : List ℕ) (words : List (List ℕ)) → is_own (does name words (command_of inv)) ≡ false
   pub built : is_built_of inv ≡ true
-  pub none : files_of inv ≡ []
   pub few : length (operands_of inv) ≤ most_operands
   pub patterns : patterns_of (command_of inv) ≡ read
 
@@ -136,3 +132,4 @@ pub record IsFound (words : List WordTree) (shell : Shell) (held : List Held) (t
   pub looked : IsLooked tree (operands_of member.inv) member.operands.items
   pub whole : (needs_all (command_of member.inv) && some_lacks member.operands.items) ≡ false
   pub free : IsFree member.inv held tree
+  pub teeless : member.tees.items ≡ []

@@ -110,4 +110,4 @@ lines_by name inv operands = if is_silent (command_of inv) then [] else lines_of
 -- what a utility means behind the lines that were told: nothing but a status, or its output for what can be read
 abbrev pub runs_behind : Bool → List ℕ → Inv → Means
 runs_behind skips name inv state =
-    if skips then on (leaves (status_of (command_of inv) true false) state) else takes_inputs pages name (called_by inv) [] true state
+    if skips then on (leaves (status_of (command_of inv) true false) state) else takes_inputs pages name (called_by inv) state

@@ -13,7 +13,7 @@ use Rattle.fl_segments.specs.Stages.{is_shell_input}
 use Rattle.fl_segments.specs.declared.stages.First.{First}
 use Rattle.fl_segments.specs.declared.chains.TheConstants.{MAX_STAGES}
 use Rattle.fl_commands.specs.Inputs.{noted_over, output_for, selects_for, status_of}
-use Rattle.fl_commands.specs.Members.{AllCanRun, AllNamesStand}
+use Rattle.fl_commands.specs.Members.{AllCanRun, AllNamesStand, files_teed}
 use Rattle.fl_commands.specs.Operands.{AllStand, AreNamed}
 use Rattle.fl_commands.specs.Runs.{Asks, command_asks, pipeline_asks}
 use Rattle.fl_commands.specs.declared.members.Member.{Member}
@@ -61,7 +61,7 @@ AreMeant asks reads does tree =
 
 -- TASKS
 abbrev pub asks_of : Task → First → Asks
-asks_of (task.Utility inv operands) first = command_asks inv.now operands.now first
+asks_of (task.Utility inv operands) first = command_asks inv.now operands.now [] first
 asks_of (task.Pipeline members) first = pipeline_asks members.now first
 
 abbrev pub reads_head : List Member → Bool
@@ -84,6 +84,7 @@ pub record CanRunPipeline (members : List Member) (tree : TreeState) : Type 0 wh
   pub some : 1 ≤ length members
   pub most : length members ≤ MAX_STAGES
   pub ready : AllCanRun members
+  pub teeless : files_teed members ≡ []
   pub stand : IfSome tree.held (λ files. AllNamesStand files members)
 
 abbrev pub CanRun : Task → TreeState → Type 0

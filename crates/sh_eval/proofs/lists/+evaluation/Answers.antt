@@ -90,7 +90,7 @@ eval_pipeline-returns g t c = pipeline-followed c.args.pipeline.now _ _ _ _ c.as
 pub eval_subshell-returns : goal.eval_subshell-returns
 eval_subshell-returns g t c =
     within (λ expansions. list_means expansions pages (list_tree c.args.list.now)) (λ session. session) (λ old new. new) its_status _ _ _ _ _ _ _ _ _ _ _ _
-    c.in-Ok.ensures refl refl refl c.settled.ensures same-turns (λ old new. same-turns new) (λ old new same. same) c.eval_list-how.ensures
+    c.in-Ok.ensures refl c.take_status.ensures refl c.settled.ensures same-turns (λ old new. same-turns new) (λ old new same. same) c.eval_list-how.ensures
 
 pub eval_subshell-returns-in_default : goal.eval_subshell-returns-in_default
 eval_subshell-returns-in_default g t c =
@@ -138,7 +138,7 @@ eval_last_stage-returns-in_default g t c =
 pub eval_last_stage-returns : goal.eval_last_stage-returns
 eval_last_stage-returns g t c =
     within (λ expansions. command_means expansions pages (command_tree c.args.command.now)) reading_piped (λ old new. reading old.streams.from new) its_status _ _ _ _ _ _ _ _ _ _ _ _
-    c.in-Ok.ensures c.read_piped-from.ensures.session refl (c.read_from.ensures ∙ ap (λ (it : From). reading it c.eval_command-how.new.session) c.read_piped-from.ensures.from) c.settled.ensures same-turns (λ old new. same-turns new) (λ old new same. record { output = same.output; errors = same.errors }) c.eval_command-how.ensures
+    c.in-Ok.ensures c.read_piped-from.ensures.session c.take_status.ensures (c.read_from.ensures ∙ ap (λ (it : From). reading it c.eval_command-how.new.session) c.read_piped-from.ensures.from) c.settled.ensures same-turns (λ old new. same-turns new) (λ old new same. record { output = same.output; errors = same.errors }) c.eval_command-how.ensures
 
 pub eval_stages-run_segment-requires-clause-told : goal.eval_stages-run_segment-requires-clause-told
 eval_stages-run_segment-requires-clause-told g t c κs lent =

@@ -27,6 +27,10 @@ returns-in-WrongPatterns g c =
     c.in-Ok.ensures.ok _ _ (λ expansions given. own_means (asked_of c.args.doing)) _ _
     (runs-own c.args.doing _ _ _ c.requires.own (rw c.in-WrongPatterns.is (c.misuse-how-in-WrongPatterns.ensures _ _)))
 
+pub returns-in-Tee : goal.returns-in-Tee
+returns-in-Tee g c =
+    c.in-Ok.ensures.ok _ _ (λ expansions given. own_means (asked_of c.args.doing)) _ _ (runs-own c.args.doing _ _ _ c.requires.own (rw c.in-Tee.is (c.run_tee-how.ensures _)))
+
 pub returns-in-Utility : goal.returns-in-Utility
 returns-in-Utility g c =
     c.in-Ok.ensures.ok _ _ (λ expansions given. own_means (asked_of c.args.doing)) _ _ (runs-own c.args.doing _ _ _ c.requires.own (rw c.in-Utility.is c.run_utility.ensures))

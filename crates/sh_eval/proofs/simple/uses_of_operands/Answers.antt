@@ -4,7 +4,6 @@ use Rattle.ps_lines.specs.Texts.{texts_of}
 use Rattle.sh_eval.specs.Redirections.{Use}
 use Rattle.sh_eval.specs.Utilities.{read_use}
 use Rattle.sh_eval.proofs.OpeningLemmas.{looked-in-vain}
-use Rattle.sh_eval.proofs.SimpleSteps.{finds-operands}
 use Rattle.sh_eval.proofs.simple.uses_of_operands.Goals as goal
 
 pub returns-in-Err-clause-err : goal.returns-in-Err-clause-err
@@ -13,9 +12,7 @@ returns-in-Err-clause-err g c = λ means adds shell session seen input output er
     (looked-in-vain c.in-Err.error means adds shell session _ _ seen input output errors _ _ c.in-Err.ensures.state c.in-Err.ensures.cause.later (λ failed. c.in-Err.ensures.cause.failed (ap Err failed)))
 
 pub returns-in-Ok-clause-found : goal.returns-in-Ok-clause-found
-returns-in-Ok-clause-found g c =
-    finds-operands c.args.inv.now (g.T.Tree.state c.args.tree.now) _ c.requires.built
-    (λ state held home.
+returns-in-Ok-clause-found g c = λ state held home.
     c.in-Ok.ensures.ok state held home
     ∙ ap (λ (it : List Use). it ++ flat_map (read_use state) (texts_of c.operands.result.now)) c.new-uses.ensures.items
-    ∙ ap (flat_map (read_use state)) c.operands.ensures)
+    ∙ ap (flat_map (read_use state)) c.operands.ensures

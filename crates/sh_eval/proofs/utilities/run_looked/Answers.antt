@@ -4,7 +4,6 @@ use Rattle.sh_eval.specs.Inner.Inputs.{called_by, lines_by}
 use Rattle.sh_eval.specs.Table.{pages}
 use Rattle.sh_eval.specs.Utilities.{runs_utility}
 use Rattle.sh_eval.proofs.Growing.{adds-runs_utility}
-use Rattle.sh_eval.proofs.SimpleSteps.{writes-none}
 use Rattle.sh_eval.proofs.Steps.{goes-gone, sound-behind, wanted}
 use Rattle.sh_eval.proofs.UtilitySteps.{skips-so, untold, utility-followed, utility-stopped}
 use Rattle.sh_eval.proofs.utilities.run_looked.Goals as goal
@@ -27,12 +26,12 @@ returns-in_default g c =
 
 pub returns-then-not-goes_on : goal.returns-then-not-goes_on
 returns-then-not-goes_on g c =
-    utility-stopped c.args.name.now c.args.inv.now _ _ c.args.found.items _ (writes-none c.args.inv.now c.requires.built) c.requires.looked.named
+    utility-stopped c.args.name.now c.args.inv.now _ _ c.args.found.items _ c.requires.looked.named
     (c.as_slice-3.ensures.value ∙ c.in-Ok.ensures ∙ ap (lines_by c.args.name.now c.args.inv.now) c.as_slice.ensures.value) (skips-so c.args.inv.now _ _ c.args.found.items c.as_slice-2.ensures.value c.skips-skips.ensures) _ _
     (sym c.goes_on.ensures ∙ c.if-not-goes_on.true) (c.tell_some-how.ensures.evaluates _ _ _)
 
 pub returns : goal.returns
 returns g c =
-    utility-followed c.args.name.now c.args.inv.now _ _ c.args.found.items _ (writes-none c.args.inv.now c.requires.built) c.requires.looked.named
+    utility-followed c.args.name.now c.args.inv.now _ _ c.args.found.items _ c.requires.looked.named
     (c.as_slice-3.ensures.value ∙ c.in-Ok.ensures ∙ ap (lines_by c.args.name.now c.args.inv.now) c.as_slice.ensures.value) (skips-so c.args.inv.now _ _ c.args.found.items c.as_slice-2.ensures.value c.skips-skips.ensures) _ _ _ _
     (sym c.goes_on.ensures ∙ c.if-not-goes_on.false) (c.tell_some-how.ensures.evaluates _ _ _) (c.run_told.ensures c.args.name.now)

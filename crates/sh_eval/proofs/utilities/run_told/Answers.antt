@@ -17,7 +17,7 @@ returns-then-skips g c = λ name. behind-skips name c.args.inv.now [] c.args.ski
 pub returns-in-Ok : goal.returns-in-Ok
 returns-in-Ok g c = λ name.
     behind-runs name c.args.inv.now [] c.args.skips _ _ _ c.if-skips.false
-    (asked-before (λ expansions. takes_inputs pages name (called_by c.args.inv.now) [] true) _ _ _ _ _ _ _ _ _ _ _ _ c.in-Ok.ensures.state c.in-Ok.ensures.ok (c.take_inputs.ensures name))
+    (asked-before (λ expansions. takes_inputs pages name (called_by c.args.inv.now)) _ _ _ _ _ _ _ _ _ _ _ _ c.in-Ok.ensures.state c.in-Ok.ensures.ok (c.take_inputs.ensures name))
 
 pub returns-in-Err : goal.returns-in-Err
 returns-in-Err g c = λ name. c.in-Err.ensures.err (λ expansions. runs_behind c.args.skips name c.args.inv.now) (behind-adds name c.args.inv.now [] c.args.skips) _ _ _ _ _ _

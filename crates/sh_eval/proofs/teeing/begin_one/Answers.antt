@@ -1,0 +1,27 @@
+use Rattle.std.proofs.Common.{Err, ap, sym, subst, IfSome}
+use Rattle.ps_world.specs.TreeState.{Balanced, TreeState}
+use Rattle.ps_world.proofs.TreeStateLemmas.{balanced-none}
+use Rattle.sh_eval.specs.Inner.Teeing.{CanTakeAll, made_of}
+use Rattle.sh_eval.proofs.OpeningLemmas.{if_err}
+use Rattle.sh_eval.proofs.TeeingSteps.{begins-named, fails-behind, fails-by, on_ok}
+use Rattle.sh_eval.proofs.teeing.begin_one.Goals as goal
+
+pub returns-in-Ok-clause-begins : goal.returns-in-Ok-clause-begins
+returns-in-Ok-clause-begins g c =
+    on_ok c.begin_at.result (λ begins. begins-named c.args.anew c.args.name.now c.args.text.now c.in-Ok.place (made_of c.args.begun.now) _ (g.T.Tree.state c.args.tree.now) (g.T.Tree.state c.look.new.tree) (g.T.Tree.state c.begin_at.new.tree)
+    c.in-Ok.ensures.place c.in-Ok.ensures.state begins) c.begin_at.ensures.begins
+
+pub returns-in-Ok-clause-there : goal.returns-in-Ok-clause-there
+returns-in-Ok-clause-there g c =
+    on_ok c.begin_at.result (λ there takes. there (subst (λ (it : TreeState). IfSome it.held (CanTakeAll c.args.begun.now.places.items)) (sym c.in-Ok.ensures.state) takes)) c.begin_at.ensures.there
+
+pub returns-in-Ok-clause-err : goal.returns-in-Ok-clause-err
+returns-in-Ok-clause-err g c =
+    if_err c.begin_at.result (λ how fails. fails-behind how (g.T.Tree.state c.args.tree.now) (g.T.Tree.state c.look.new.tree) (g.T.Tree.state c.begin_at.new.tree) _ _ _
+    (subst (λ (it : TreeState). Balanced (g.T.Tree.state c.args.tree.now) it) (sym c.in-Ok.ensures.state) (balanced-none (g.T.Tree.state c.args.tree.now))) c.in-Ok.ensures.cause.ok fails) c.begin_at.ensures.err
+
+pub returns-in-Err-clause-err : goal.returns-in-Err-clause-err
+returns-in-Err-clause-err g c =
+    fails-by c.in-Err.error _ (g.T.Tree.state c.args.tree.now) (g.T.Tree.state c.look.new.tree) _ _ c.how_of.ensures
+    (subst (λ (it : TreeState). Balanced (g.T.Tree.state c.args.tree.now) it) (sym c.in-Err.ensures.state) (balanced-none (g.T.Tree.state c.args.tree.now))) c.in-Err.ensures.cause.later
+    (λ failed. c.in-Err.ensures.cause.failed (ap Err failed))

@@ -1,0 +1,17 @@
+use Rattle.std.proofs.Common.{ap, rules}
+use Rattle.sh_eval.specs.Inner.Teeing.{made_of}
+use Rattle.sh_eval.specs.Teeing.{Made}
+use Rattle.sh_eval.proofs.TeeingSteps.{begins-file, fails-by, on_ok, there-file}
+use Rattle.sh_eval.proofs.teeing.begin_path.Goals as goal
+
+pub returns-in-Ok-clause-begins : goal.returns-in-Ok-clause-begins
+returns-in-Ok-clause-begins g c =
+    on_ok c.add_place.result (λ added. begins-file c.args.anew c.args.path (made_of c.args.begun.now) _ (g.T.Tree.state c.args.tree.now) (g.T.Tree.state c.begin_file.new.tree) c.in-Ok.ensures.held c.in-Ok.ensures.lent added) c.add_place.ensures.added
+
+pub returns-in-Ok-clause-there : goal.returns-in-Ok-clause-there
+returns-in-Ok-clause-there g c =
+    on_ok c.add_place.result (λ added. there-file c.args.anew c.args.path c.args.begun.now.places.items _ (g.T.Tree.state c.args.tree.now).held (g.T.Tree.state c.begin_file.new.tree).held c.in-Ok.ensures.held (ap (λ (it : Made). it.places) added)) c.add_place.ensures.added
+
+pub returns-in-Err-clause-err : goal.returns-in-Err-clause-err
+returns-in-Err-clause-err g c =
+    fails-by c.in-Err.error _ (g.T.Tree.state c.args.tree.now) (g.T.Tree.state c.begin_file.new.tree) _ _ c.how_of.ensures c.begin_file.ensures.lent c.begin_file.ensures.later (λ failed. c.begin_file.ensures.failed (search rules))

@@ -38,7 +38,6 @@ refusal_text (refusal.PathBusy path) = codes "PathBusy " ++ path
 refusal_text refusal.TurnsOver = codes "TurnsOver"
 refusal_text refusal.ArgsTooMany = codes "ArgsTooMany"
 refusal_text (refusal.UnsupportedPattern pattern) = codes "UnsupportedPattern " ++ pattern
-refusal_text refusal.NotBuilt = codes "NotBuilt"
 
 -- the line that tells an answer; none where the script ran to its end, and none begins after a fault or want of memory
 abbrev pub line_of : Why → List ℕ

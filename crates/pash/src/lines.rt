@@ -76,7 +76,6 @@ fn add_refusal(line: &mut Vec<u8>, cause: &Refusal) -> Result<(), Memory>
         Refusal::UnsupportedPattern(pattern) => {
             add_both(line, b"UnsupportedPattern ", pattern.as_slice())
         }
-        Refusal::NotBuilt => add(line, b"NotBuilt"),
     }
 }
 

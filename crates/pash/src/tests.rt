@@ -2,6 +2,7 @@
 ghost use Rattle.std.specs.Prelude.{IfSome};
 ghost use Rattle.ps_world.specs.Files.{NoWriterOut};
 
+mod delays;
 mod faults;
 mod files;
 mod meeting;

@@ -1,9 +1,10 @@
 //! What is told where a call of an object fails.
 ghost use Rattle.std.specs.Prelude.{◌≤◌};
 
-use super::{Entry, Failing, finished, in_turn, repeated, run, run_on};
+use super::{Entry, Failing, Ran, Reply, finished, in_turn, repeated, run, run_on};
 use crate::answers::Why;
 use ps_fakes::MemTree;
+use ps_lines::Memory;
 use std::process::Abort;
 use std::sync::Wait;
 use std::test::Fail;
@@ -65,52 +66,109 @@ fn a_failed_read_is_no_end(rt: HostRuntime) -> Result<(), Fail> {
     Ok(())
 }
 
-/// Runs a script that reads its input and a file, and writes to output, errors and a file. Where the call that is to fail is made, the
-/// run ends with this fault, and else as if none were to fail; answers whether it was made.
+/// A script, with what it writes to output and errors where no call fails.
+type Script<'a> = (&'a str, &'a str, &'a str);
+
+/// The bytes of two files that scripts read, and don't write.
+const A: &[u8] = b"x1\n";
+
+const B: &[u8] = b"x2\n";
+
+/// Whether the two files are as they were.
+fn keeps_files(tree: &MemTree) -> Result<bool, Memory> {
+    Ok(tree.file(b"/w/a")? == Some(A) && tree.file(b"/w/b")? == Some(B))
+}
+
+/// Whether a run told all of this where no call failed, and else a part of it, and ended with this fault.
+fn told_fault_or_all(ran: &Ran, plain: &Reply, fault: &Why, status: u8) -> bool {
+    if ran.has_fault() {
+        return ran.ended_with(fault, status) && ran.has_part_of(plain);
+    }
+    ran.is(plain)
+}
+
+/// Runs a script over two files. Where the call that is to fail is made, the run ends with this fault, and else as if none were to fail;
+/// answers whether it was made.
 fn fails_or_tells_all<R: Abort + AllocGlobal + Threads + Wait + Sync>(
     rt: &R,
+    script: Script,
     failing: Failing,
     fault: &Why,
     status: u8,
 ) -> Result<bool, Fail> {
+    let (text, output, errors) = script;
     let entries: [Entry; 3] = [
-        (
-            b"/w/s",
-            Some(b"echo a; cat a missing - b; sort b > f; echo b"),
-        ),
-        (b"/w/a", Some(b"x1\n")),
-        (b"/w/b", Some(b"x2\n")),
+        (b"/w/s", Some(text.as_bytes())),
+        (b"/w/a", Some(A)),
+        (b"/w/b", Some(B)),
     ];
-    let plain = finished(
-        b"a\nx1\nin\nx2\nb\n",
-        b"cat: missing: No such file or directory\n",
-        0,
-    );
+    let plain = finished(output.as_bytes(), errors.as_bytes(), 0);
     let ran = run(rt, &["run", "2", "s"], &entries, failing)?;
-    let has_fault = ran.has_fault();
-    if has_fault {
-        assert!(rt;
-            ran.ended_with(fault, status),
-            "{:?} at {failing:?}",
-            ran.why
-        );
-        assert!(rt; ran.has_part_of(&plain), "at {failing:?}");
-    } else {
-        assert!(rt; ran.is(&plain), "{:?} at {failing:?}", ran.why);
-    }
-    assert_eq!(rt; ran.tree.lent(), ran.tree.back(), "at {failing:?}");
-    Ok(has_fault)
+    let is_right = told_fault_or_all(&ran, &plain, fault, status);
+    assert!(rt; is_right, "{text}: {:?} at {failing:?}", ran.why);
+    assert!(rt; keeps_files(&ran.tree)?, "{text} at {failing:?}");
+    assert_eq!(rt; ran.tree.lent(), ran.tree.back(), "{text} at {failing:?}");
+    Ok(ran.has_fault())
 }
 
-/// The first call of each object is one that the run makes.
+/// The first calls of each object fail in turn. The script makes the very first of each.
+fn fails_at_each_call<R: Abort + AllocGlobal + Threads + Wait + Sync>(
+    rt: &R,
+    script: Script,
+) -> Result<(), Fail> {
+    for call in 0..24 {
+        let of_tree = fails_or_tells_all(rt, script, Failing::Tree(call), &Why::TreeFault, 122)?;
+        assert!(rt; call > 0 || of_tree);
+    }
+    for call in 0..3 {
+        let of_input = fails_or_tells_all(rt, script, Failing::Input(call), &Why::ReadFault, 120)?;
+        let of_output = fails_or_tells_all(
+            rt,
+            script,
+            Failing::Output(call),
+            &Why::WriteFault,
+            121,
+        )?;
+        let of_errors = fails_or_tells_all(
+            rt,
+            script,
+            Failing::Errors(call),
+            &Why::WriteFault,
+            121,
+        )?;
+        assert!(rt; call > 0 || of_input && of_output && of_errors);
+    }
+    Ok(())
+}
+
+/// Each script reads its input and the tree, and writes to output and errors.
 #[test]
 fn a_failed_call_is_told(rt: HostRuntime) -> Result<(), Fail> {
-    for call in 0..12 {
-        let of_tree = fails_or_tells_all(&rt, Failing::Tree(call), &Why::TreeFault, 122)?;
-        let of_input = fails_or_tells_all(&rt, Failing::Input(call), &Why::ReadFault, 120)?;
-        let of_output = fails_or_tells_all(&rt, Failing::Output(call), &Why::WriteFault, 121)?;
-        let of_errors = fails_or_tells_all(&rt, Failing::Errors(call), &Why::WriteFault, 121)?;
-        assert!(rt; call > 0 || of_tree && of_input && of_output && of_errors);
+    let scripts: [Script; 5] = [
+        ("echo a; echo b; cat; echo c >&2", "a\nb\nin\n", "c\n"),
+        (
+            "echo a; cat a missing - b; sort b > f; echo b",
+            "a\nx1\nin\nx2\nb\n",
+            "cat: missing: No such file or directory\n",
+        ),
+        (
+            "{ echo a; echo b >&2; } > f 2>&1; cat f -; echo c >&2",
+            "a\nb\nin\n",
+            "c\n",
+        ),
+        (
+            "cat < missing || echo c > g; cat g b -",
+            "c\nx2\nin\n",
+            "pash: missing: No such file or directory\n",
+        ),
+        (
+            "for i in a b; do cat $i | tr x y; done >> f; read -r x; echo $(cat f) $x *; echo d >&2",
+            "y1 y2 in a b f s\n",
+            "d\n",
+        ),
+    ];
+    for script in scripts {
+        fails_at_each_call(&rt, script)?;
     }
     Ok(())
 }

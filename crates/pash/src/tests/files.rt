@@ -103,6 +103,7 @@ fn files_are_written(rt: HostRuntime) -> Result<(), Fail> {
                 "1\n2\n3\n",
             ),
             ("k\n", "{ echo a; echo b >&2; } > f 2>&1", "", "", "a\nb\n"),
+            ("b\na\n", "sort f | tee f", "a\nb\n", "", "a\nb\n"),
         ],
     )
 }

@@ -168,18 +168,17 @@ fn commands_are_refused_in_the_middle(rt: HostRuntime) -> Result<(), Fail> {
             b"pash: refused: UnsupportedPattern \\(a\\)\\1\n",
             Refusal::UnsupportedPattern(pattern),
         ),
-    )?;
-    tells_behind(
-        &rt,
-        b"echo a; cat f | tee g; echo b",
-        &refused(b"a\n", b"pash: refused: NotBuilt\n", Refusal::NotBuilt),
     )
 }
 
 /// A file that is written and read at once stays as it is, or as the redirection around has left it.
 #[test]
 fn a_busy_path_is_refused(rt: HostRuntime) -> Result<(), Fail> {
-    let rows: [(&[u8], &[u8]); 2] = [(b"cat f > f", b"k\n"), (b"{ cat f; } > f", b"")];
+    let rows: [(&[u8], &[u8]); 3] = [
+        (b"cat f > f", b"k\n"),
+        (b"{ cat f; } > f", b""),
+        (b"tee f f", b"k\n"),
+    ];
     for (script, left) in rows {
         let entries: [Entry; 2] = [(b"/w/s", Some(script)), (b"/w/f", Some(b"k\n"))];
         let ran = run(&rt, &["run", "2", "s"], &entries, Failing::Nothing)?;

@@ -67,6 +67,30 @@ fn tells_rows<R: Abort + AllocGlobal + Threads + Wait + Sync>(
     Ok(())
 }
 
+/// tee writes its files beside its output; those that can't be made are told, and it goes on.
+#[test]
+fn tee_writes_its_files(rt: HostRuntime) -> Result<(), Fail> {
+    tells_rows(
+        &rt,
+        &[
+            ("echo one | tee g | wc -l; cat g", "1\none\n", "", 0),
+            (
+                "echo a > g; echo b | tee -a g h; cat g h",
+                "b\na\nb\nb\n",
+                "",
+                0,
+            ),
+            (
+                "tee none/x g d; echo $?; cat g",
+                "in\n1\nin\n",
+                "tee: none/x: No such file or directory\ntee: d: Is a directory\n",
+                0,
+            ),
+            ("tee /dev/null /dev/null < a", "x1", "", 0),
+        ],
+    )
+}
+
 /// A last line without a newline stays so, and what can't be read is told.
 #[test]
 fn utilities_run(rt: HostRuntime) -> Result<(), Fail> {
@@ -108,6 +132,13 @@ fn utilities_run(rt: HostRuntime) -> Result<(), Fail> {
             ),
             ("cat words | grep -F a | wc -l\n", "3\n", "", 0),
             ("cat words | \n grep -F a | wc -l\n", "3\n", "", 0),
+            (
+                "cat b | cat | cat | cat | cat | cat | cat | cat | cat | cat | cat | cat | cat | cat | cat | cat | wc -l",
+                "2\n",
+                "",
+                0,
+            ),
+            ("cat one > m1 | cat m*", "1\n", "", 0),
             (
                 "cat none | grep -F a | wc -l",
                 "0\n",

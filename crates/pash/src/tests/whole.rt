@@ -3,13 +3,12 @@ ghost use Rattle.std.specs.Prelude.{◌≡◌, ◌⊎◌, IfOk, IfSome};
 ghost use Rattle.ps_world.specs.Files.{NoWriterOut};
 ghost use Rattle.pash.specs.Answers.{IsAnswer};
 
-use super::{Entry, Reply, finished, in_turn, owned_words, refused};
+use super::{Entry, Reply, finished, in_turn, owned_words};
 use crate::answers::Why;
 use crate::top::pash;
 use fl_engines::Engine;
 use ps_fakes::{NoFailSink, NoFailSource, NoFailTree, OpenGate};
 use ps_world::Tree;
-use sh_eval::Refusal;
 use std::alloc::{AllocError, Global};
 use std::process::Abort;
 use std::sync::Wait;
@@ -105,7 +104,7 @@ fn a_script_runs_over_objects_that_never_fail(rt: HostRuntime) -> Result<(), Fai
     )?;
     tells(
         &rt,
-        &[(b"/w/s", Some(b"echo a; tee f"))],
-        &refused(b"a\n", b"pash: refused: NotBuilt\n", Refusal::NotBuilt),
+        &[(b"/w/s", Some(b"echo a; tee f; cat f"))],
+        &finished(b"a\nin\nin\n", b"", 0),
     )
 }

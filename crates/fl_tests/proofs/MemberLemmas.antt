@@ -1,7 +1,9 @@
 -- Members of a pipeline, one behind others.
-use Rattle.std.proofs.Common.{List, [], ◌∷◌, ◌++◌}
+use Rattle.std.proofs.Common.{◌≡◌, List, [], ◌∷◌, ◌++◌, ap, ◌∙◌}
+use Rattle.std.proofs.lemmas.Grind.{flat_map-append}
 use Rattle.ps_world.specs.Files.{Files}
-use Rattle.fl_commands.specs.Members.{AllCanRun, AllNamesStand, CanRun}
+use Rattle.ps_world.specs.Paths.{Components}
+use Rattle.fl_commands.specs.Members.{AllCanRun, AllNamesStand, CanRun, files_teed}
 use Rattle.fl_commands.specs.Operands.{AllStand}
 use Rattle.fl_commands.specs.declared.members.Member.{Member}
 
@@ -16,4 +18,10 @@ pub all-names-stand : (files : Files) (before : List Member) (last : Member) →
 all-names-stand files [] last all one = (one, tt)
 all-names-stand files (first ∷ before) last all one = (all.0, all-names-stand files before last all.1 one)
 
-pub ruleset member_steps = (all-run, all-names-stand)
+-- one more that writes no file beside its output
+pub none-teed : (before : List Member) (last : Member) → files_teed before ≡ [] → last.tees.items ≡ [] → files_teed (before ++ last ∷ []) ≡ []
+none-teed before last none one =
+    flat_map-append (λ (member : Member). member.tees.items) before (last ∷ [])
+    ∙ ap (λ (it : List Components). it ++ files_teed (last ∷ [])) none ∙ ap (λ (it : List Components). it ++ []) one
+
+pub ruleset member_steps = (all-run, all-names-stand, none-teed)

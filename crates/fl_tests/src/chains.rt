@@ -205,7 +205,7 @@ fn stages_have_their_nodes_in_order(rt: HostRuntime) -> Result<(), Fail> {
 }
 
 /// A width, a pipeline, and its graph at the width.
-static SPREAD: [(u32, &str, &str); 13] = [
+static SPREAD: [(u32, &str, &str); 18] = [
     // Parts that are closed go on to the next stage as they are.
     (
         2,
@@ -264,6 +264,32 @@ static SPREAD: [(u32, &str, &str); 13] = [
         2,
         "tr -d '\\n' | tr a b",
         "0 Source [] [0]; 0 Split [0] [1, 2]; 0 Map tr -d '\\n' [1] [3]; 0 Map tr -d '\\n' [2] [4]; 1 Map tr a b [3] [5]; 1 Map tr a b [4] [6]; 1 Cat [5, 6] [7]; 1 Sink [7] []; status 0",
+    ),
+    // The files of a cat go in groups where all before the last group are closed.
+    (
+        2,
+        "cat f f g f | grep x",
+        "0 Source /w/f [] [0]; 0 Source /w/f [] [1]; 0 Source /w/g [] [2]; 0 Source /w/f [] [3]; 0 Cat [0, 1] [4]; 0 Cat [2, 3] [5]; 1 Map grep x [4] [6]; 1 Map grep x [5] [7]; 1 Cat [6, 7] [8]; 1 Sink [8] []; status of [6, 7] 0 1",
+    ),
+    (
+        3,
+        "cat f f f f g | wc -l",
+        "0 Source /w/f [] [0]; 0 Source /w/f [] [1]; 0 Source /w/f [] [2]; 0 Source /w/f [] [3]; 0 Source /w/g [] [4]; 0 Cat [0] [5]; 0 Cat [1, 2] [6]; 0 Cat [3, 4] [7]; 1 Map wc -l [5] [8]; 1 Map wc -l [6] [9]; 1 Map wc -l [7] [10]; 1 Agg wc -l [8, 9] [11]; 1 Agg wc -l [11, 10] [12]; 1 Sink [12] []; status 0",
+    ),
+    (
+        2,
+        "cat f g f f | grep x",
+        "0 Source /w/f [] [0]; 0 Source /w/g [] [1]; 0 Source /w/f [] [2]; 0 Source /w/f [] [3]; 0 Cat [0, 1, 2, 3] [4]; 1 Split [4] [5, 6]; 1 Map grep x [5] [7]; 1 Map grep x [6] [8]; 1 Cat [7, 8] [9]; 1 Sink [9] []; status of [6, 7] 0 1",
+    ),
+    (
+        2,
+        "cat f - f | grep x",
+        "0 Source /w/f [] [0]; 0 Source [] [1]; 0 Source /w/f [] [2]; 0 Cat [0, 1, 2] [3]; 1 Split [3] [4, 5]; 1 Map grep x [4] [6]; 1 Map grep x [5] [7]; 1 Cat [6, 7] [8]; 1 Sink [8] []; status of [5, 6] 0 1",
+    ),
+    (
+        3,
+        "cat f f | sort",
+        "0 Source /w/f [] [0]; 0 Source /w/f [] [1]; 0 Cat [0, 1] [2]; 1 Split [2] [3, 4, 5]; 1 Map sort [3] [6]; 1 Map sort [4] [7]; 1 Map sort [5] [8]; 1 Agg sort [6, 7] [9]; 1 Agg sort [9, 8] [10]; 1 Sink [10] []; status 0",
     ),
     // Several inputs are not cut.
     (

@@ -1,12 +1,18 @@
 //! Commands over a tree in memory: what each writes, the status that it leaves, what it leaves of the input, and what is noted of it.
 //!
 //! What is written and the status are those of GNU coreutils and grep under `LC_ALL=C`.
-use fl_commands::{Commanded, Ended, look_at, run_command};
+ghost use Rattle.std.specs.Prelude.{IfSome};
+ghost use Rattle.fl_commands.specs.Operands.{AllStand, AreNamed};
+ghost use Rattle.ps_world.specs.Files.{NoWriterOut};
+ghost use Rattle.ut_args.specs.Inputs.{operands_of};
+
+use crate::pipelines::tree;
+use fl_commands::{Commanded, Ended, Operand, look_at, run_command};
 use fl_engines::InTurn;
 use fl_segments::First;
 use ps_fakes::{MemSink, MemSource, MemTree, OpenGate};
 use ps_lines::{Memory, Text};
-use ps_world::{Source, WorldErr};
+use ps_world::{Source, Tree, WorldErr};
 use std::alloc::{AllocError, Global};
 use std::process::Abort;
 use std::sync::Wait;
@@ -59,50 +65,93 @@ pub(crate) fn left_of(alloc: Global, input: &mut MemSource) -> Result<Vec<u8>, W
 
 /// Runs an invocation over an input of two lines, in a tree where `f` and `g` are files, `d` a directory, and `no` missing.
 fn run<H: Threads + Wait + Sync>(
-    _rt: &H,
+    rt: &H,
     alloc: Global,
     inv: &Inv,
     from: &First,
 ) -> Result<Option<Ran>, WorldErr> {
-    let Some(mut tree) = MemTree::of_table(
-        alloc,
-        b"/w",
-        &[
-            (b"/w/f", Some(b"a\nb\n")),
-            (b"/w/g", Some(b"b\nc")),
-            (b"/w/d", None),
-        ],
-        Vec::new(alloc),
-    )?
-    else {
-        return Ok(None);
-    };
-    let operands = look_at(alloc, inv.operands(), &mut tree)?;
+    match tree(alloc)? {
+        Some(mut tree) => {
+            // What is large is let go by calls, past which there is no way out: going out of scope is proved a part at a time.
+            let ran = run_in(rt, alloc, inv, from, &mut tree);
+            drop(tree);
+            ran
+        }
+        None => Ok(None),
+    }
+}
+
+/// Runs an invocation over what its operands name in a tree.
+fn run_in<H: Threads + Wait + Sync>(
+    rt: &H,
+    alloc: Global,
+    inv: &Inv,
+    from: &First,
+    tree: &mut MemTree,
+) -> Result<Option<Ran>, WorldErr>
+    requires whole { IfSome (⟦<MemTree as Tree>⟧.state tree.old).held NoWriterOut }
+{
+    let operands = look_at(alloc, inv.operands(), tree)?;
+    let ran = run_over(rt, alloc, inv, operands.as_slice(), from, tree);
+    drop(operands);
+    ran
+}
+
+/// Runs an invocation over these operands.
+fn run_over<H: Threads + Wait + Sync>(
+    _rt: &H,
+    alloc: Global,
+    inv: &Inv,
+    operands: &[Operand],
+    from: &First,
+    tree: &mut MemTree,
+) -> Result<Option<Ran>, WorldErr>
+    requires named { AreNamed (operands_of inv.now) operands.now }
+    requires stand { IfSome (⟦<MemTree as Tree>⟧.state tree.old).held (λ files. AllStand files operands.now) }
+    requires whole { IfSome (⟦<MemTree as Tree>⟧.state tree.old).held NoWriterOut }
+{
     if operands.len() > 8 || !is_built(inv) {
         return Ok(None);
     }
     let input = Vec::from_slice(alloc, b"in\nb\n")?;
     let mut engine = InTurn::<H>::new(alloc);
-    let Commanded {
-        ended,
-        mut input,
-        out,
-    } = run_command(
+    let commanded = run_command(
         alloc,
         inv,
-        operands.as_slice(),
+        operands,
+        &[],
         from,
-        &mut tree,
+        tree,
         MemSource::new(input, Vec::new(alloc)),
         MemSink::new(alloc, Vec::new(alloc)),
         &OpenGate,
         &mut engine,
     );
+    let noted = noted_words(alloc, engine.used());
+    drop(engine);
+    what_came(alloc, commanded, noted)
+}
+
+/// What came of a run, with the words that were noted of it.
+fn what_came(
+    alloc: Global,
+    commanded: Commanded<MemSource, MemSink>,
+    noted: Result<Vec<u8>, AllocError>,
+) -> Result<Option<Ran>, WorldErr> {
+    let Commanded {
+        ended,
+        mut input,
+        out,
+    } = commanded;
+    let output = Vec::from_slice(alloc, out.taken());
+    let left = left_of(alloc, &mut input);
+    drop(out);
+    drop(input);
     Ok(Some(Ran {
         ended,
-        output: Vec::from_slice(alloc, out.taken())?,
-        left: left_of(alloc, &mut input)?,
-        noted: noted_words(alloc, engine.used())?,
+        output: output?,
+        left: left?,
+        noted: noted?,
     }))
 }
 

@@ -2,7 +2,7 @@
 ghost use Rattle.std.specs.Prelude.{◌≡◌, true, false, is_some};
 
 use fl_graph::laws::{a_run_begins, a_stop_ends_a_run};
-use fl_graph::{Act, Bytes, Machine, Piece, break_machine, put_piece, take_piece};
+use fl_graph::{Act, Bytes, Machine, Piece, break_machine, first_piece, put_piece, take_piece};
 use ps_lines::Memory;
 use std::alloc::Global;
 use std::test::Fail;
@@ -164,43 +164,43 @@ fn put_for(alloc: Global, input: Vec<Piece>, whole_for: u32) -> Result<Vec<u8>, 
     Ok(text)
 }
 
+/// The piece that a word stands for: `.` is an end, `!` a break, and any other its bytes.
+fn piece_of(alloc: Global, word: &[u8]) -> Result<Piece, Memory> {
+    match word {
+        [] | [b'.'] => Ok(Piece::End),
+        [b'!'] => Ok(Piece::Broken),
+        bytes => Ok(Piece::Bytes(first_piece(alloc, bytes)?)),
+    }
+}
+
+/// The pieces that words stand for.
+fn pieces_of(alloc: Global, words: &str) -> Result<Vec<Piece>, Memory> {
+    let mut pieces = Vec::new(alloc);
+    for word in words.as_bytes().split(|byte| *byte == b' ') {
+        pieces.push(piece_of(alloc, word)?)?;
+    }
+    Ok(pieces)
+}
+
+/// Whether a machine puts this for these pieces.
+fn puts_so(alloc: Global, words: &str, whole_for: u32, wanted: &str) -> Result<bool, Memory> {
+    let put = put_for(alloc, pieces_of(alloc, words)?, whole_for)?;
+    Ok(put.as_slice() == wanted.as_bytes())
+}
+
+/// The pieces that a machine takes, the last of them first, the acts behind which it is broken off, and what it puts.
+static ROWS: [(&str, u32, &str); 4] = [
+    (". c ab", 12, "abc.#"),
+    ("! a", 12, "a!#"),
+    ("a", 12, "a"),
+    (". c ab", 3, "ab!#"),
+];
+
 #[test]
 fn a_text_is_handed_on_to_its_end(rt: HostRuntime) -> Result<(), Fail> {
-    let alloc = rt.alloc();
-    let whole = vec![in alloc;
-        Piece::End,
-        Piece::Bytes(Bytes::new(vec![in alloc; b'c']?)),
-        Piece::Bytes(Bytes::new(vec![in alloc; b'a', b'b']?)),
-    ]?;
-    assert_eq!(rt;
-        put_for(alloc, whole, 12)?.as_slice(),
-        b"abc.#".as_slice(),
-        "whole"
-    );
-    let broken = vec![in alloc;
-        Piece::Broken,
-        Piece::Bytes(Bytes::new(vec![in alloc; b'a']?)),
-    ]?;
-    assert_eq!(rt;
-        put_for(alloc, broken, 12)?.as_slice(),
-        b"a!#".as_slice(),
-        "broken"
-    );
-    let waiting = vec![in alloc; Piece::Bytes(Bytes::new(vec![in alloc; b'a']?))]?;
-    assert_eq!(rt;
-        put_for(alloc, waiting, 12)?.as_slice(),
-        b"a".as_slice(),
-        "waiting"
-    );
-    let broken_off = vec![in alloc;
-        Piece::End,
-        Piece::Bytes(Bytes::new(vec![in alloc; b'c']?)),
-        Piece::Bytes(Bytes::new(vec![in alloc; b'a', b'b']?)),
-    ]?;
-    assert_eq!(rt;
-        put_for(alloc, broken_off, 3)?.as_slice(),
-        b"ab!#".as_slice(),
-        "broken off"
-    );
+    for &(words, whole_for, wanted) in ROWS.iter() {
+        let is_right = puts_so(rt.alloc(), words, whole_for, wanted)?;
+        assert!(rt; is_right, "{words}, broken off behind {whole_for} acts");
+    }
     Ok(())
 }

@@ -1,6 +1,6 @@
 //! Machines of nodes, from their first piece to their end.
 
-use fl_graph::{Act, Bytes, Machine, NodeKind, Piece};
+use fl_graph::{Act, Bytes, Machine, NodeKind, Piece, first_piece};
 use fl_machines::{UtilMachine, is_utility_node, util_machine};
 use ps_lines::Memory;
 use std::alloc::Global;
@@ -97,11 +97,12 @@ fn expect_put(
 }
 
 /// The words, what a node of them puts, and whether it selects a line.
-static RUNS: [(&[&str], &str, bool); 7] = [
+static RUNS: [(&[&str], &str, bool); 8] = [
     (&["grep", "-F", "a"], "b a\nab\nxa\n.", true),
     (&["grep", "-F", "q"], ".", false),
     (&["wc", "-l"], "3\n.", false),
     (&["cat", "f"], "b a\nab\nc\nxa.", false),
+    (&["sort", "-r"], "xa\nc\nb a\nab\n.", false),
     (&["paste"], "b a\nab\nc\nxa\n.", false),
     (&["paste", "-", "-"], "b a\tab\nc\txa\n.", false),
     (&["paste", "-s", "-d", ",;"], "b a,ab;c,xa\n.", false),
@@ -139,5 +140,70 @@ fn a_whole_of_no_input_puts_nothing_and_ends(rt: HostRuntime) -> Result<(), Fail
     drop(kind);
     let out = told?.ok_or("another piece")?;
     assert_eq!(rt; out.as_slice(), b".".as_slice());
+    Ok(())
+}
+
+/// A line of 40,000 of this letter.
+fn long_line(alloc: Global, letter: u8) -> Result<Bytes, Memory> {
+    let mut line = Vec::new(alloc);
+    for _ in 0..40_000 {
+        line.push(letter)?;
+    }
+    line.push(b'\n')?;
+    first_piece(alloc, line.as_slice())
+}
+
+/// How many bytes each piece has that a machine puts which takes long lines of these letters and then this end; None where it doesn't put the
+/// same end.
+fn sizes_put(
+    alloc: Global,
+    machine: &mut UtilMachine,
+    letters: &[u8],
+    is_whole: bool,
+) -> Result<Option<Vec<usize>>, Memory> {
+    let mut sizes = Vec::new(alloc);
+    let mut left = letters;
+    for _ in 0..1000 {
+        match machine.next() {
+            Act::Stop => return Ok(None),
+            Act::Take(_) => match left {
+                [letter, rest @ ..] => {
+                    machine.take(Piece::Bytes(long_line(alloc, *letter)?))?;
+                    left = rest;
+                }
+                [] => machine.take(if is_whole { Piece::End } else { Piece::Broken })?,
+            },
+            Act::Put(_) => match machine.put()? {
+                Piece::Bytes(bytes) => sizes.push(bytes.as_slice().len())?,
+                Piece::End if is_whole => return Ok(Some(sizes)),
+                Piece::Broken if !is_whole => return Ok(Some(sizes)),
+                _ => return Ok(None),
+            },
+        }
+    }
+    Ok(None)
+}
+
+/// The sizes of the pieces that the whole of `sort` puts for long lines of these letters.
+fn sizes_sorted(alloc: Global, letters: &[u8], is_whole: bool) -> Result<Option<Vec<usize>>, Fail> {
+    let kind = node_of(alloc, &["sort"], false)?;
+    if !is_utility_node(&kind, 1, 1) {
+        drop(kind);
+        return Ok(None);
+    }
+    let machine = util_machine(alloc, &kind, 1, 1);
+    drop(kind);
+    let mut machine = machine?;
+    let sizes = sizes_put(alloc, &mut machine, letters, is_whole);
+    drop(machine);
+    Ok(sizes?)
+}
+
+#[test]
+fn sorted_lines_are_put_in_pieces_once_all_have_come(rt: HostRuntime) -> Result<(), Fail> {
+    let sizes = sizes_sorted(rt.alloc(), b"cab", true)?.ok_or("another end")?;
+    assert_eq!(rt; sizes.as_slice(), [65_536, 14_466, 40_001].as_slice());
+    let sizes = sizes_sorted(rt.alloc(), b"cab", false)?.ok_or("another end")?;
+    assert_eq!(rt; sizes.is_empty(), true);
     Ok(())
 }

@@ -1,12 +1,13 @@
 //! The network of a small graph.
 ghost use Rattle.std.specs.Prelude.{◌≡◌, ◌<◌, ◌^◌, true, length, IfOk};
 ghost use Rattle.fl_graph.specs.Valid.{Valid};
-ghost use Rattle.fl_core.specs.Inputs.{CanStep};
+ghost use Rattle.fl_net.specs.Inputs.{CanStep};
 ghost use Rattle.fl_classes.specs.Kinds.{are_run as are_run_lem};
 
 use crate::graph::graph;
-use fl_core::{Net, NodeMachine, Wire, are_run, net_of};
+use fl_core::{NodeMachine, are_run, net_of, net_over_texts};
 use fl_graph::{Graph, Machine, Piece, validate};
+use fl_net::{Net, Wire};
 use ps_lines::Memory;
 use std::alloc::Global;
 use std::test::Fail;
@@ -52,7 +53,7 @@ fn run_over(alloc: Global, graph: &Graph, text: &[u8]) -> Result<Net<NodeMachine
 {
     let mut inputs = Vec::new(alloc);
     inputs.push((0, Vec::from_slice(alloc, text)?))?;
-    let mut net = Net::new(alloc, graph, inputs, Some(1))?;
+    let mut net = net_over_texts(alloc, graph, inputs, Some(1))?;
     for _ in 0..100 {
         match step_each(&mut net) {
             Ok(true) => {}

@@ -2,8 +2,8 @@
 //!
 //! A pipeline stands in its row as a shell reads it. What is written and left is that of dash with GNU coreutils and grep under `LC_ALL=C`, over
 //! the same files and the same input.
-ghost use Rattle.std.specs.Prelude.{◌≡◌, IfOk, IfSome};
-ghost use Rattle.fl_commands.specs.Members.{AllCanRun, AllNamesStand, CanRun};
+ghost use Rattle.std.specs.Prelude.{◌≡◌, [], IfOk, IfSome};
+ghost use Rattle.fl_commands.specs.Members.{AllCanRun, AllNamesStand, CanRun, files_teed};
 ghost use Rattle.fl_commands.specs.Operands.{AllStand};
 ghost use Rattle.ps_world.specs.Files.{NoWriterOut};
 
@@ -36,6 +36,7 @@ pub(crate) fn parts(alloc: Global, text: &[u8], between: u8) -> Result<Vec<Vec<u
 fn member<T: Tree>(rt: &impl Abort, alloc: Global, text: &[u8], tree: &mut T) -> Member
     ensures ready { CanRun result }
     ensures stand { IfSome (T.state tree.old).held (λ files. AllStand files result.operands.items) }
+    ensures teeless { result.tees.items ≡ [] }
     ensures state { T.state tree.new ≡ T.state tree.old }
 {
     let words = parts(alloc, text, b' ').expect(rt, "words");
@@ -43,7 +44,11 @@ fn member<T: Tree>(rt: &impl Abort, alloc: Global, text: &[u8], tree: &mut T) ->
     let inv = read_inv(alloc, words.as_slice()).expect(rt, "an invocation");
     let operands = look_at(alloc, inv.operands(), tree).expect(rt, "operands");
     assert!(rt; operands.len() < 9 && is_built(&inv));
-    Member { inv, operands }
+    Member {
+        inv,
+        operands,
+        tees: Vec::new(alloc),
+    }
 }
 
 /// The members of a pipeline with bars between them.
@@ -56,6 +61,7 @@ fn members<T: Tree>(
 ) -> Result<Vec<Member>, AllocError>
     ensures ready { IfOk result (λ members. AllCanRun members.items) }
     ensures stand { IfOk result (λ members. IfSome (T.state tree.old).held (λ files. AllNamesStand files members.items)) }
+    ensures teeless { IfOk result (λ members. files_teed members.items ≡ []) }
     ensures state { T.state tree.new ≡ T.state tree.old }
 {
     let texts = parts(alloc, pipeline, b'|')?;
@@ -71,7 +77,7 @@ fn members<T: Tree>(
 }
 
 /// The tree of the rows: `f` and `g` are files, `d` is a directory, and `no` is missing.
-fn tree(alloc: Global) -> Result<Option<MemTree>, Memory>
+pub(crate) fn tree(alloc: Global) -> Result<Option<MemTree>, Memory>
     ensures { IfOk result (λ tree. IfSome tree (λ tree. IfSome (⟦<MemTree as Tree>⟧.state tree).held NoWriterOut)) }
 {
     MemTree::of_table(
@@ -104,20 +110,37 @@ pub(crate) fn run<X: Engine>(
 ) -> Result<Ran, WorldErr> {
     let mut tree = tree(alloc)?.expect(rt, "a tree");
     let members = members(rt, alloc, pipeline.as_bytes(), &mut tree).expect(rt, "members");
+    let ran = run_members(rt, alloc, members.as_slice(), &mut tree, engine);
+    drop(members);
+    drop(tree);
+    ran
+}
+
+/// Runs the members of a pipeline so.
+fn run_members<X: Engine>(
+    rt: &impl Abort,
+    alloc: Global,
+    members: &[Member],
+    tree: &mut MemTree,
+    engine: &mut X,
+) -> Result<Ran, WorldErr>
+    requires ready { AllCanRun members.now }
+    requires stand { IfSome (⟦<MemTree as Tree>⟧.state tree.old).held (λ files. AllNamesStand files members.now) }
+    requires whole { IfSome (⟦<MemTree as Tree>⟧.state tree.old).held NoWriterOut }
+    requires teeless { files_teed members.now ≡ [] }
+{
     assert!(rt; !members.is_empty() && members.len() <= MAX_STAGES);
-    let input = Vec::from_slice(alloc, b"in\nb\n").expect(rt, "an input");
+    let input = Vec::from_slice(alloc, b"in\nb\n")?;
     let commanded = run_pipeline(
         alloc,
-        members.as_slice(),
+        members,
         &First::Input,
-        &mut tree,
+        tree,
         MemSource::new(input, Vec::new(alloc)),
         MemSink::new(alloc, Vec::new(alloc)),
         &OpenGate,
         engine,
     );
-    drop(members);
-    drop(tree);
     what_came(alloc, commanded)
 }
 
@@ -179,7 +202,7 @@ fn runs_on_threads<H: Abort + Threads + Wait + Sync>(
 }
 
 /// A pipeline, what it writes, the status that it leaves, and what it leaves of the input.
-static PIPELINES: [(&str, &str, u8, &str); 24] = [
+static PIPELINES: [(&str, &str, u8, &str); 26] = [
     ("grep -F b", "b\n", 0, ""),
     ("cat f - | wc -l", "4\n", 0, ""),
     ("tail -n 1 f | wc -c", "2\n", 0, "in\nb\n"),
@@ -218,6 +241,9 @@ static PIPELINES: [(&str, &str, u8, &str); 24] = [
         0,
         "in\nb\n",
     ),
+    // Files that go in groups, and files that don't since one ends within a line.
+    ("cat f f g f | grep -F c", "ca\n", 0, "in\nb\n"),
+    ("cat f g f f | grep -F c", "ca\n", 0, "in\nb\n"),
     // As many members as there may be.
     (
         "cat - f g | tr a x | tr b y | tr c z | sort | uniq | grep -F -v q | cut -c 1 | head -n 9 | tail -n 3 | cat | tr x a | tr y b | tr z c | sort -r | tr -s b",

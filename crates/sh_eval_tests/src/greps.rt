@@ -1,7 +1,11 @@
 //! `grep` with its options, over the standard input and one operand: what is written and told, and the status.
 use crate::scripts::{expect, run};
 use sh_eval::{Flow, How, Refusal};
+use std::alloc::Global;
+use std::process::Abort;
+use std::sync::Wait;
 use std::test::Fail;
+use std::thread::Threads;
 
 /// Script, input, output, errors, status. The file `g` has the lines 1 and 2.
 type Row = (&'static str, &'static str, &'static str, &'static str, u8);
@@ -131,17 +135,33 @@ static REFUSED: [(&str, &str); 5] = [
     ("grep '\\(a\\)\\1' g > g", "\\(a\\)\\1"),
 ];
 
+/// Whether the pattern is told.
+fn tells(how: &How, wanted: &str) -> bool {
+    match how {
+        How::Gone(Flow::Refused(Refusal::UnsupportedPattern(pattern))) => {
+            pattern.as_slice() == wanted.as_bytes()
+        }
+        _ => false,
+    }
+}
+
+/// A script is refused, and this pattern is told.
+fn expect_refused<H: Abort + Threads + Wait + Sync>(
+    rt: &H,
+    alloc: Global,
+    text: &str,
+    wanted: &str,
+) -> Result<(), Fail> {
+    let ran = run(rt, alloc, text, "")?.expect(rt, text);
+    assert!(rt; tells(&ran.how, wanted), "{text}: {:?}", ran.how);
+    drop(ran);
+    Ok(())
+}
+
 #[test]
 fn back_references_are_refused(rt: HostRuntime) -> Result<(), Fail> {
     for &(text, wanted) in REFUSED.iter() {
-        let ran = run(&rt, rt.alloc(), text, "")?.expect(&rt, text);
-        let is_told = match &ran.how {
-            How::Gone(Flow::Refused(Refusal::UnsupportedPattern(pattern))) => {
-                pattern.as_slice() == wanted.as_bytes()
-            }
-            _ => false,
-        };
-        assert!(rt; is_told, "{text}: {:?}", ran.how);
+        expect_refused(&rt, rt.alloc(), text, wanted)?;
     }
     Ok(())
 }

@@ -1,9 +1,9 @@
 use Rattle.std.proofs.Common.{ap, sym, ◌∙◌, [], if◌then◌else◌, suc, Some, length}
 use Rattle.std.specs.Global.{Vec}
-use Rattle.fl_core.specs.Steps.{has_moved}
-use Rattle.fl_core.specs.declared.nets.Ports.{Ports}
-use Rattle.fl_core.proofs.GraphNetLemmas.{state_of}
-use Rattle.fl_core.proofs.NetLemmas.{goes_plain, goes_fits}
+use Rattle.fl_net.specs.Steps.{has_moved}
+use Rattle.fl_net.specs.declared.nets.Ports.{Ports}
+use Rattle.fl_core.proofs.MachineLemmas.{state_of}
+use Rattle.fl_net.proofs.NetLemmas.{goes_plain, goes_fits}
 use Rattle.fl_tests.proofs.nets.step_each.Goals as goal
 
 pub step-requires-clause-plain : goal.step-requires-clause-plain

@@ -1,6 +1,6 @@
 use Rattle.std.proofs.Common.{◌≡◌, length}
-use Rattle.fl_core.specs.Inputs.{CanStep}
-use Rattle.fl_core.proofs.GraphNetLemmas.{state_of}
+use Rattle.fl_net.specs.Inputs.{CanStep}
+use Rattle.fl_core.proofs.MachineLemmas.{state_of}
 use Rattle.fl_tests.proofs.nets.step_each.Given as goal
 
 abbrev pub invariant-loop-node : goal.invariant-loop-node

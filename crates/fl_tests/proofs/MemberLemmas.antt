@@ -1,10 +1,11 @@
 -- Members of a pipeline, one behind others.
-use Rattle.std.proofs.Common.{◌≡◌, List, [], ◌∷◌, ◌++◌, ap, ◌∙◌}
+use Rattle.std.proofs.Common.{◌≡◌, List, [], ◌∷◌, ◌++◌, Option, ap, sym, subst, ◌∙◌}
 use Rattle.std.proofs.lemmas.Grind.{flat_map-append}
 use Rattle.ps_world.specs.Files.{Files}
 use Rattle.ps_world.specs.Paths.{Components}
 use Rattle.fl_commands.specs.Members.{AllCanRun, AllNamesStand, CanRun, files_teed}
 use Rattle.fl_commands.specs.Operands.{AllStand}
+use Rattle.fl_commands.specs.Writers.{AreBegun, AreWrittenApart}
 use Rattle.fl_commands.specs.declared.members.Member.{Member}
 
 -- one more can be run
@@ -25,3 +26,10 @@ none-teed before last none one =
     ∙ ap (λ (it : List Components). it ++ files_teed (last ∷ [])) none ∙ ap (λ (it : List Components). it ++ []) one
 
 pub ruleset member_steps = (all-run, all-names-stand, none-teed)
+
+-- where no file is written, nothing is owed of those that are
+pub none-begun : (held : Option Files) (written : List Components) → written ≡ [] → AreBegun held written
+none-begun held written none = subst (AreBegun held) (sym none) tt
+
+pub none-apart : (read written : List Components) → written ≡ [] → AreWrittenApart read written
+none-apart read written none = subst (AreWrittenApart read) (sym none) tt

@@ -125,10 +125,10 @@ fn expect_row<R: Abort + AllocGlobal + Threads + Wait + Sync>(
     Ok(())
 }
 
-/// A thousand runs.
+/// Two hundred runs. A delay gives the processor up to 15 times, which takes long beside other work: `tests/random/delays` has a thousand.
 #[test]
 fn a_run_with_delays_leaves_the_same(rt: HostRuntime) -> Result<(), Fail> {
-    for seed in 0..200 {
+    for seed in 0..40 {
         let width = WIDTHS[seed as usize % 3];
         for &row in ROWS.iter() {
             expect_row(&rt, row, width, seed)?;

@@ -104,7 +104,7 @@ fn a_script_runs_over_objects_that_never_fail(rt: HostRuntime) -> Result<(), Fai
     )?;
     tells(
         &rt,
-        &[(b"/w/s", Some(b"echo a; tee f; cat f"))],
-        &finished(b"a\nin\nin\n", b"", 0),
+        &[(b"/w/s", Some(b"echo a | tee f; cat f"))],
+        &finished(b"a\na\n", b"", 0),
     )
 }

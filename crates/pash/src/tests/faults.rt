@@ -120,7 +120,7 @@ fn fails_at_each_call<R: Abort + AllocGlobal + Threads + Wait + Sync>(
         let of_tree = fails_or_tells_all(rt, script, Failing::Tree(call), &Why::TreeFault, 122)?;
         assert!(rt; call > 0 || of_tree);
     }
-    for call in 0..3 {
+    for call in 0..12 {
         let of_input = fails_or_tells_all(rt, script, Failing::Input(call), &Why::ReadFault, 120)?;
         let of_output = fails_or_tells_all(
             rt,

@@ -5,7 +5,7 @@ use Rattle.std.specs.List.{flat_map, list_all}
 use Rattle.std.proofs.lemmas.Bool.{and_from, and_parts, true_from_ne_false}
 use Rattle.std.proofs.lemmas.List.{length-map, map-append}
 use Rattle.fl_graph.specs.Net.{count, gives, has, takes}
-use Rattle.fl_graph.specs.Runs.{are_closed}
+use Rattle.fl_graph.specs.Runs.{are_closed, is_clean}
 use Rattle.fl_graph.specs.Valid.{Valid}
 use Rattle.fl_graph.specs.declared.graphs.Cell.{Cell}
 use Rattle.fl_graph.specs.declared.graphs.StatusRule.{StatusRule}
@@ -18,7 +18,6 @@ use Rattle.fl_nodes.proofs.DealLemmas.{counted-each, has_each-append}
 use Rattle.fl_relay.specs.declared.edges.EdgeGiver.{EdgeGiver}
 use Rattle.fl_relay.specs.declared.edges.EdgeTaker.{EdgeTaker}
 use Rattle.fl_relay.specs.Edges.{EdgeId, gives_over, takes_over, put_on, taken_from}
-use Rattle.fl_relay.specs.Rule.{is_clean}
 use Rattle.fl_threads.specs.Threads.{EachOf}
 use Rattle.fl_edges.specs.Settled.{AreAtEnds, AreBack, AreSettled, CanSettleEach, IsBare, all_of, put_all}
 use Rattle.fl_edges.proofs.EachLemmas.{each-first, each-map, each-none, each-rest, parts-first}

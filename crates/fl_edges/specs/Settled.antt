@@ -4,7 +4,7 @@ use Rattle.std.specs.Global.{Vec}
 use Rattle.std.specs.List.{list_all}
 use Rattle.std.specs.Option.{option_map_or}
 use Rattle.fl_graph.specs.Net.{gives, has, takes}
-use Rattle.fl_graph.specs.Runs.{are_closed}
+use Rattle.fl_graph.specs.Runs.{are_closed, is_clean}
 use Rattle.fl_graph.specs.declared.graphs.Cell.{Cell}
 use Rattle.fl_graph.specs.declared.kinds.NodeKind.{NodeKind}
 use Rattle.fl_graph.specs.declared.pieces.Piece.{Piece}
@@ -12,7 +12,6 @@ use Rattle.fl_nodes.specs.Stashes.{Lie, half_of, has_each}
 use Rattle.fl_relay.specs.declared.edges.EdgeGiver.{EdgeGiver}
 use Rattle.fl_relay.specs.declared.edges.EdgeTaker.{EdgeTaker}
 use Rattle.fl_relay.specs.Edges.{EdgeId, gives_over, takes_over, put_on, taken_from}
-use Rattle.fl_relay.specs.Rule.{is_clean}
 use Rattle.fl_threads.specs.Threads.{EachOf}
 
 -- what lies there where these halves are put at the numbers of these edges, one behind the other

@@ -4,10 +4,10 @@ ghost use Rattle.std.specs.List.{list_all};
 ghost use Rattle.fl_edges.specs.Settled.{AreAtEnds, AreBack, AreSettled, CanSettleEach, IsBare};
 ghost use Rattle.fl_graph.specs.Net.{gives, takes};
 ghost use Rattle.fl_graph.specs.Valid.{Valid};
+ghost use Rattle.fl_graph.specs.Runs.{is_clean};
 ghost use Rattle.fl_graph.specs.declared.pieces.Piece.{Piece as Pieces};
 ghost use Rattle.fl_nodes.specs.Stashes.{has_each, Lie};
 ghost use Rattle.fl_relay.specs.Edges.{EdgeId, gives_over, put_on, taken_from};
-ghost use Rattle.fl_relay.specs.Rule.{is_clean};
 ghost use Rattle.fl_threads.specs.Threads.{EachOf};
 
 use crate::returning::put_back_all;

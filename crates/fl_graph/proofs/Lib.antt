@@ -3,5 +3,6 @@ pub mod PlaceLemmas
 pub mod NetLemmas
 pub mod EdgeLemmas
 pub mod CheckLemmas
+pub mod PieceLemmas
 pub mod RunLemmas
 pub mod StateLemmas

@@ -55,6 +55,12 @@ abbrev pub are_closed : List Piece → Bool
 are_closed [] = false
 are_closed (piece ∷ pieces) = closes piece || are_closed pieces
 
+-- nothing stands behind what closes
+abbrev pub is_clean : List Piece → Bool
+is_clean [] = true
+is_clean (piece ∷ []) = true
+is_clean (piece ∷ next ∷ pieces) = not (closes piece) && is_clean (next ∷ pieces)
+
 -- a Broken is among them
 abbrev pub has_broken : List Piece → Bool
 has_broken [] = false

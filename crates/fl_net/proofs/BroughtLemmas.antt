@@ -20,14 +20,6 @@ use Rattle.fl_net.specs.declared.steps.Progress.TheVariants as progress
 use Rattle.fl_net.proofs.NetLemmas.{replaced_by}
 use Rattle.fl_net.proofs.PortLemmas.{stands-has}
 
--- an end closes
-pub closed_by_end : (pieces : List Piece) → has_end pieces ≡ true → are_closed pieces ≡ true
-closed_by_end [] ended = absurd (true≢false (sym ended))
-closed_by_end (piece.Bytes bytes ∷ pieces) ended = closed_by_end pieces ended
-closed_by_end (piece.Mark ∷ pieces) ended = closed_by_end pieces ended
-closed_by_end (piece.End ∷ pieces) ended = refl
-closed_by_end (piece.Broken ∷ pieces) ended = refl
-
 -- an in that is open behind a piece was open before it, and the piece doesn't close it
 open_behind : (now start closing : Bool) → now ≡ (start && not (closing || false)) → now ≡ true → (start ≡ true) × (closing ≡ false)
 open_behind now true false is opened = (refl, refl)

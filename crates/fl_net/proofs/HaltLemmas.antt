@@ -11,7 +11,7 @@ use Rattle.fl_net.specs.Laws.{at_ports, Keeps}
 use Rattle.fl_net.specs.Steps.{waiting_on}
 use Rattle.fl_graph.proofs.StateLemmas.{closed_ends}
 use Rattle.fl_net.specs.Runs.{Plan, IsUnbroken, Reached, Halted}
-use Rattle.fl_net.proofs.PieceLemmas.{text_of-append}
+use Rattle.fl_graph.proofs.PieceLemmas.{text_of-append}
 
 -- a break in front is there
 unbroken-front : (front back : List Piece) → has_broken (front ++ back) ≡ false → has_broken front ≡ false

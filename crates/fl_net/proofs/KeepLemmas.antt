@@ -7,7 +7,7 @@ use Rattle.std.proofs.lemmas.Option.{slice_get_within}
 use Rattle.ps_world.specs.Told.{bytes_then, IsEnded}
 use Rattle.fl_graph.specs.declared.graphs.Cell.{Cell}
 use Rattle.ps_lines.specs.Texts.{BeginsWith}
-use Rattle.fl_graph.specs.Runs.{text_of, has_end, completion}
+use Rattle.fl_graph.specs.Runs.{text_of, has_end, completion, is_clean}
 use Rattle.fl_graph.specs.Valid.{Valid}
 use Rattle.fl_graph.specs.declared.graphs.StatusRule.{StatusRule}
 use Rattle.fl_graph.specs.declared.kinds.NodeKind.{NodeKind}
@@ -16,7 +16,7 @@ use Rattle.fl_graph.specs.declared.pieces.Piece.{Piece}
 use Rattle.fl_classes.specs.Flow.{Placed, placed, placed_from, is_source, texts_given}
 use Rattle.fl_classes.specs.Nodes.{given_on}
 use Rattle.fl_classes.specs.Kinds.{is_sink, is_writer, run_kind, run_ins, run_outs}
-use Rattle.fl_net.specs.Laws.{Carries, is_clean, at_ports, given, Keeps, NodesKeep, NetKeeps}
+use Rattle.fl_net.specs.Laws.{Carries, at_ports, given, Keeps, NodesKeep, NetKeeps}
 use Rattle.fl_net.specs.Runs.{Plan, Halted}
 use Rattle.fl_net.specs.Plans.{outer_edge, IsPlanOf, AreTold}
 use Rattle.fl_net.proofs.PieceLemmas.{taken_completes}

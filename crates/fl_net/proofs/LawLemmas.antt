@@ -9,7 +9,7 @@ use Rattle.fl_graph.specs.Net.{has, count, gives, store, step, after, run}
 use Rattle.fl_graph.specs.declared.graphs.Cell.{Cell}
 use Rattle.fl_graph.specs.Checks.{takes_given, each_after}
 use Rattle.ps_lines.specs.Texts.{BeginsWith}
-use Rattle.fl_graph.specs.Runs.{text_of, has_end, completed, completion}
+use Rattle.fl_graph.specs.Runs.{text_of, has_end, completed, completion, is_clean}
 use Rattle.fl_graph.specs.Valid.{Valid}
 use Rattle.fl_graph.specs.declared.graphs.StatusRule.{StatusRule}
 use Rattle.fl_graph.specs.declared.kinds.NodeKind.{NodeKind}
@@ -20,7 +20,7 @@ use Rattle.fl_graph.proofs.EdgeLemmas.{leads_on-each}
 use Rattle.fl_graph.proofs.CheckLemmas.{each_number}
 use Rattle.fl_classes.specs.Flow.{Placed, placed, texts_given, equation, no_texts, flow, writes_of, writes, selects, selections}
 use Rattle.fl_classes.specs.Nodes.{texts_at}
-use Rattle.fl_net.specs.Laws.{Carries, is_clean, at_ports, given, Keeps, NodesKeep, NetKeeps}
+use Rattle.fl_net.specs.Laws.{Carries, at_ports, given, Keeps, NodesKeep, NetKeeps}
 use Rattle.fl_net.proofs.PortLemmas.{stands-has, port_of, at_ports-stands, first_other, once_behind, uncounted}
 use Rattle.fl_net.proofs.PieceLemmas.{taken_begins, taken_whole, taken_closed, taken_completes}
 use Rattle.fl_net.proofs.PlacedLemmas.{gives-placed, order-placed, told-placed}

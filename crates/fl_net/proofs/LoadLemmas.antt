@@ -10,15 +10,14 @@ use Rattle.fl_graph.specs.declared.graphs.Cell.{Cell}
 use Rattle.fl_graph.specs.declared.kinds.NodeKind.{NodeKind}
 use Rattle.fl_classes.specs.Flow.{is_source}
 use Rattle.fl_graph.specs.Machines.{closes}
-use Rattle.fl_graph.specs.Runs.{text_of, has_end, is_end, are_closed}
+use Rattle.fl_graph.specs.Runs.{text_of, has_end, is_end, are_closed, is_clean}
 use Rattle.fl_graph.specs.declared.pieces.Piece.{Piece}
 use Rattle.fl_graph.specs.declared.pieces.Piece.TheVariants as piece
 use Rattle.fl_net.specs.Inputs.{AreWhole, IsLoaded}
-use Rattle.fl_net.specs.Laws.{is_clean}
 use Rattle.fl_net.specs.Plans.{outer_edge}
 use Rattle.fl_net.specs.Steps.{has_bytes, is_plain, waiting_on}
-use Rattle.fl_net.proofs.PieceLemmas.{text_of-append}
-use Rattle.fl_net.proofs.ReachLemmas.{all-more, clean-more}
+use Rattle.fl_graph.proofs.PieceLemmas.{is_clean-add, text_of-append}
+use Rattle.fl_net.proofs.ReachLemmas.{all-more}
 use Rattle.fl_net.proofs.TurnLemmas.{wire_at}
 
 -- the pieces, which nothing closes, and what is left are the text
@@ -74,7 +73,7 @@ pub front_ended : (pieces now : List Piece) (left text : List ℕ) → now ≡ p
 front_ended pieces now left text now_is none front = record {
   carries = ap text_of now_is ∙ text_of-append pieces (piece.End ∷ []) ∙ ap (λ (it : List ℕ). text_of pieces ++ it) (sym (empty left none)) ∙ front.0;
   ended = ap has_end now_is ∙ has_end-last pieces;
-  clean = ap is_clean now_is ∙ clean-more pieces piece.End front.1;
+  clean = ap is_clean now_is ∙ is_clean-add pieces piece.End front.1;
   plain = ap (list_all is_plain) now_is ∙ all-more is_plain pieces piece.End front.2 refl;
   sized = ap (list_all has_bytes) now_is ∙ all-more has_bytes pieces piece.End front.3 refl;
 }

@@ -8,7 +8,7 @@ use Rattle.fl_graph.specs.Net.{gives, takes}
 use Rattle.fl_graph.specs.declared.graphs.Cell.{Cell}
 use Rattle.ps_lines.specs.Texts.{BeginsWith}
 use Rattle.fl_graph.specs.Machines.{State}
-use Rattle.fl_graph.specs.Runs.{text_of}
+use Rattle.fl_graph.specs.Runs.{text_of, is_clean}
 use Rattle.fl_graph.specs.Valid.{Valid}
 use Rattle.fl_graph.specs.declared.graphs.StatusRule.{StatusRule}
 use Rattle.fl_graph.specs.declared.kinds.NodeKind.{NodeKind}
@@ -18,7 +18,7 @@ use Rattle.fl_graph.proofs.ListLemmas.{count-has}
 use Rattle.fl_classes.specs.Flow.{Placed, flow, is_source, only, placed}
 use Rattle.fl_net.specs.Inputs.{RunsOver}
 use Rattle.fl_classes.specs.Kinds.{is_writer}
-use Rattle.fl_net.specs.Laws.{is_clean, NetKeeps}
+use Rattle.fl_net.specs.Laws.{NetKeeps}
 use Rattle.fl_net.specs.Moves.{edges_of, moves_at, moves_over, most_moves, most_over_edges, most_pieces, outer_texts}
 use Rattle.fl_net.specs.Plans.{outer_edge, AreTold}
 use Rattle.fl_net.specs.Runs.{Plan, Reached}

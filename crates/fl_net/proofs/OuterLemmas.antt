@@ -25,7 +25,7 @@ use Rattle.fl_net.specs.declared.steps.Progress.{Progress}
 use Rattle.fl_net.proofs.FinishLemmas.{writer_carries, writer_ended}
 use Rattle.fl_net.proofs.HaltLemmas.{reached_halts}
 use Rattle.fl_net.proofs.NetLemmas.{FailsBy, LeadsBy}
-use Rattle.fl_net.proofs.PieceLemmas.{text_of-append}
+use Rattle.fl_graph.proofs.PieceLemmas.{text_of-append}
 use Rattle.fl_net.proofs.PlanLemmas.{writer_edge}
 
 some_is : {X : Type 0} (one other : X) → Some one ≡ Some other → one ≡ other

@@ -10,7 +10,7 @@ use Rattle.fl_graph.specs.declared.pieces.Piece.{Piece}
 use Rattle.fl_net.specs.Laws.{at_ports, Keeps}
 use Rattle.fl_net.specs.Steps.{waiting_on, SameBut}
 use Rattle.fl_net.specs.Runs.{Plan, IsWired, Reached, Halted}
-use Rattle.fl_net.proofs.PieceLemmas.{text_of-append}
+use Rattle.fl_graph.proofs.PieceLemmas.{text_of-append}
 use Rattle.fl_net.proofs.PortLemmas.{at_ports-elsewhere, stands-has}
 
 -- below the length something stands

@@ -4,51 +4,10 @@ use Rattle.std.proofs.lemmas.Bool.{true≢false}
 use Rattle.std.proofs.lemmas.List.{take-append-drop}
 use Rattle.std.proofs.Math.Seq.{take-append_seam}
 use Rattle.ps_lines.specs.Texts.{BeginsWith}
-use Rattle.fl_graph.specs.Machines.{mark}
-use Rattle.fl_graph.specs.Runs.{text_of, has_end, completed}
+use Rattle.fl_graph.specs.Runs.{text_of, has_end, completed, is_clean}
 use Rattle.fl_graph.specs.declared.pieces.Piece.{Piece}
-use Rattle.fl_graph.specs.declared.pieces.Piece.TheVariants as piece
-use Rattle.fl_net.specs.Laws.{Carries, is_clean}
-
-pub text_of-append : (front back : List Piece) → text_of (front ++ back) ≡ text_of front ++ text_of back
-text_of-append [] back = refl
-text_of-append (piece.Bytes bytes ∷ front) back = ap (λ (text : List ℕ). bytes ++ text) (text_of-append front back) ∙ sym (append_assoc bytes (text_of front) (text_of back))
-text_of-append (piece.Mark ∷ front) back = ap (λ (text : List ℕ). mark ∷ text) (text_of-append front back)
-text_of-append (piece.End ∷ front) back = text_of-append front back
-text_of-append (piece.Broken ∷ front) back = text_of-append front back
-
--- where no end has come, all of the rest follows
-completed-open : (pieces : List Piece) (rest : List ℕ) → has_end pieces ≡ false → completed pieces rest ≡ text_of pieces ++ rest
-completed-open [] rest none = refl
-completed-open (piece.Bytes bytes ∷ pieces) rest none = ap (λ (text : List ℕ). bytes ++ text) (completed-open pieces rest none) ∙ sym (append_assoc bytes (text_of pieces) rest)
-completed-open (piece.Mark ∷ pieces) rest none = ap (λ (text : List ℕ). mark ∷ text) (completed-open pieces rest none)
-completed-open (piece.End ∷ pieces) rest none = absurd (true≢false none)
-completed-open (piece.Broken ∷ pieces) rest none = completed-open pieces rest none
-
--- behind an end nothing follows
-pub completed-ended : (pieces : List Piece) (rest : List ℕ) → is_clean pieces ≡ true → has_end pieces ≡ true → completed pieces rest ≡ text_of pieces
-completed-ended [] rest clean ended = absurd (true≢false (sym ended))
-completed-ended (piece.Bytes bytes ∷ []) rest clean ended = absurd (true≢false (sym ended))
-completed-ended (piece.Mark ∷ []) rest clean ended = absurd (true≢false (sym ended))
-completed-ended (piece.End ∷ []) rest clean ended = refl
-completed-ended (piece.Broken ∷ []) rest clean ended = absurd (true≢false (sym ended))
-completed-ended (piece.Bytes bytes ∷ next ∷ pieces) rest clean ended = ap (λ (text : List ℕ). bytes ++ text) (completed-ended (next ∷ pieces) rest clean ended)
-completed-ended (piece.Mark ∷ next ∷ pieces) rest clean ended = ap (λ (text : List ℕ). mark ∷ text) (completed-ended (next ∷ pieces) rest clean ended)
-completed-ended (piece.End ∷ next ∷ pieces) rest clean ended = absurd (true≢false (sym clean))
-completed-ended (piece.Broken ∷ next ∷ pieces) rest clean ended = absurd (true≢false (sym clean))
-
--- nor is a piece behind it
-none_behind : (pieces waiting : List Piece) → is_clean (pieces ++ waiting) ≡ true → has_end pieces ≡ true → waiting ≡ []
-none_behind [] waiting clean ended = absurd (true≢false (sym ended))
-none_behind (first ∷ pieces) [] clean ended = refl
-none_behind (piece.Bytes bytes ∷ []) (last ∷ waiting) clean ended = absurd (true≢false (sym ended))
-none_behind (piece.Mark ∷ []) (last ∷ waiting) clean ended = absurd (true≢false (sym ended))
-none_behind (piece.End ∷ []) (last ∷ waiting) clean ended = absurd (true≢false (sym clean))
-none_behind (piece.Broken ∷ []) (last ∷ waiting) clean ended = absurd (true≢false (sym ended))
-none_behind (piece.Bytes bytes ∷ next ∷ pieces) (last ∷ waiting) clean ended = none_behind (next ∷ pieces) (last ∷ waiting) clean ended
-none_behind (piece.Mark ∷ next ∷ pieces) (last ∷ waiting) clean ended = none_behind (next ∷ pieces) (last ∷ waiting) clean ended
-none_behind (piece.End ∷ next ∷ pieces) (last ∷ waiting) clean ended = absurd (true≢false (sym clean))
-none_behind (piece.Broken ∷ next ∷ pieces) (last ∷ waiting) clean ended = absurd (true≢false (sym clean))
+use Rattle.fl_graph.proofs.PieceLemmas.{closed_by_end, completed-ended, completed-open, nothing-behind, text_of-append}
+use Rattle.fl_net.specs.Laws.{Carries}
 
 -- a text that begins with the one of two begins with the first
 BeginsWith-front : (text front back : List ℕ) → BeginsWith text (front ++ back) → BeginsWith text front
@@ -62,7 +21,7 @@ BeginsWith-front text front back begins =
 module _ (put taken waiting : List Piece) (text : List ℕ) (queued : put ≡ taken ++ waiting) (clean : is_clean put ≡ true) (carries : Carries put text) where
   all_taken : has_end taken ≡ true → put ≡ taken
   all_taken ended =
-      queued ∙ ap (λ (rest : List Piece). taken ++ rest) (none_behind taken waiting (ap is_clean (sym queued) ∙ clean) ended) ∙ append-nil taken
+      queued ∙ ap (λ (rest : List Piece). taken ++ rest) (nothing-behind taken waiting (ap is_clean (sym queued) ∙ clean) (closed_by_end taken ended)) ∙ append-nil taken
 
   pub taken_begins : BeginsWith text (text_of taken)
   taken_begins = BeginsWith-front text (text_of taken) (text_of waiting) (subst (λ (front : List ℕ). BeginsWith text front) (ap text_of queued ∙ text_of-append taken waiting) carries.front)

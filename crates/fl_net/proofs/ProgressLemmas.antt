@@ -8,7 +8,7 @@ use Rattle.fl_graph.specs.Checks.{each_after, takes_given}
 use Rattle.fl_graph.specs.Machines.{MayDo, State, closes}
 use Rattle.fl_graph.specs.Net.{has, gives}
 use Rattle.fl_graph.specs.declared.graphs.Cell.{Cell}
-use Rattle.fl_graph.specs.Runs.{are_closed}
+use Rattle.fl_graph.specs.Runs.{are_closed, is_clean}
 use Rattle.fl_graph.specs.Valid.{Valid}
 use Rattle.fl_graph.specs.declared.graphs.StatusRule.{StatusRule}
 use Rattle.fl_graph.specs.declared.kinds.NodeKind.{NodeKind}
@@ -20,7 +20,8 @@ use Rattle.fl_graph.proofs.ListLemmas.{holds-has}
 use Rattle.fl_classes.specs.Flow.{is_source}
 use Rattle.fl_net.specs.Inputs.{RunsOver}
 use Rattle.fl_classes.specs.Kinds.{is_writer}
-use Rattle.fl_net.specs.Laws.{is_clean, at_ports}
+use Rattle.fl_graph.proofs.PieceLemmas.{nothing-behind}
+use Rattle.fl_net.specs.Laws.{at_ports}
 use Rattle.fl_net.specs.Plans.{outer_edge, HasRooms, IsPlanOf, is_sole}
 use Rattle.fl_net.specs.Runs.{Plan, IsWired, Follows, Reached}
 use Rattle.fl_net.specs.Steps.{has_moved, is_empty, is_full, room_on, waiting_on, progress_at}
@@ -106,23 +107,6 @@ sole_taker (cell ∷ cells) edge there = by_first (is_sole edge cell.ins) refl t
     by_first true is behind rest = record { node = zero; cell = cell; at_node = refl; alone = sole_in edge cell.ins is }
     by_first false is behind rest =
         let found = rest behind in record { node = suc found.node; cell = found.cell; at_node = found.at_node; alone = found.alone }
-
--- nothing waits behind a piece that closes an edge
-closed_behind : (pieces waiting : List Piece) → is_clean (pieces ++ waiting) ≡ true → are_closed pieces ≡ true → waiting ≡ []
-closed_behind [] waiting clean closed = absurd (true≢false (sym closed))
-closed_behind (first ∷ pieces) [] clean closed = refl
-closed_behind (first ∷ []) (last ∷ waiting) clean closed = by_test (closes first) (and_parts (not (closes first)) (is_clean (last ∷ waiting)) clean).0 closed
-  where
-    by_test : (test : Bool) → not test ≡ true → (test || false) ≡ true → last ∷ waiting ≡ []
-    by_test true unclosed is = absurd (true≢false (sym unclosed))
-    by_test false unclosed is = absurd (true≢false (sym is))
-closed_behind (first ∷ next ∷ pieces) (last ∷ waiting) clean closed =
-    let parts = and_parts (not (closes first)) (is_clean (next ∷ pieces ++ last ∷ waiting)) clean in
-    closed_behind (next ∷ pieces) (last ∷ waiting) parts.1 (by_test (closes first) parts.0 closed)
-  where
-    by_test : (test : Bool) → not test ≡ true → (test || are_closed (next ∷ pieces)) ≡ true → are_closed (next ∷ pieces) ≡ true
-    by_test true unclosed is = absurd (true≢false (sym unclosed))
-    by_test false unclosed is = is
 
 -- what an edge that is full tells of its room and of what waits there
 full_some : (room : Option ℕ) (pieces : List Piece) → IfSome room (λ count. 1 ≤ count) → is_full room pieces ≡ true → is_empty pieces ≡ false
@@ -337,7 +321,7 @@ module _ {Machine : Type 0} (state : Machine → State) (cells : List (Cell Node
           by_act (doing.Put port') is' = go_on taker.node taker.cell next port' (omega (arith, later, enough)) is'
           by_act doing.Stop is' =
               let closed = took_all next 0 edge (ap (λ (edges : List ℕ). slice_get edges 0) sole) starts ((may_do next doing.Stop is').0 0) in
-              let none = closed_behind (reached.took edge) (waiting_on wires edge) (ap is_clean (sym (reached.queued edge)) ∙ reached.clean edge) closed in
+              let none = nothing-behind (reached.took edge) (waiting_on wires edge) (ap is_clean (sym (reached.queued edge)) ∙ reached.clean edge) closed in
               true≢false (sym (ap is_empty none) ∙ some)
 
   -- no node starves: the one that gives it the edge would have to starve too, and so on to the first

@@ -7,29 +7,17 @@ use Rattle.ps_world.specs.Told.{then_bytes, bytes_then, IsEnded}
 use Rattle.ps_world.proofs.ToldLemmas.{bytes_then-append}
 use Rattle.fl_graph.specs.Machines.{State, closes, is_broken}
 use Rattle.fl_graph.specs.Net.{has}
-use Rattle.fl_graph.specs.Runs.{text_of, is_end, has_broken, has_end, are_closed, add, Run}
+use Rattle.fl_graph.specs.Runs.{text_of, is_end, has_broken, has_end, are_closed, add, Run, is_clean}
 use Rattle.fl_graph.specs.declared.pieces.Piece.{Piece}
 use Rattle.fl_graph.specs.declared.pieces.Piece.TheVariants as piece
 use Rattle.fl_graph.proofs.StateLemmas.{none_broken}
-use Rattle.fl_net.specs.Laws.{is_clean, at_ports}
+use Rattle.fl_net.specs.Laws.{at_ports}
 use Rattle.fl_net.specs.Moves.{moves_of}
 use Rattle.fl_net.specs.Steps.{has_bytes, is_plain, waiting_on, SameBut, Took, Gave, Broke, Starves}
 use Rattle.fl_net.specs.Runs.{Plan, IsUnbroken, IsWired, Reached}
-use Rattle.fl_net.proofs.PieceLemmas.{text_of-append}
+use Rattle.fl_graph.proofs.PieceLemmas.{is_clean-add, text_of-append}
 use Rattle.fl_net.proofs.PortLemmas.{stands-has, at_ports-stands, at_ports-add, at_ports-elsewhere}
 use Rattle.fl_net.proofs.SumLemmas.{moves-took, moves-put}
-
--- a piece behind pieces that aren't closed closes them at their end at most
-pub clean-more : (pieces : List Piece) (last : Piece) → are_closed pieces ≡ false → is_clean (pieces ++ last ∷ []) ≡ true
-clean-more [] last unclosed = refl
-clean-more (first ∷ []) last unclosed = by_test (closes first) (or_parts (closes first) false unclosed).0
-  where
-    by_test : (test : Bool) → test ≡ false → (not test && true) ≡ true
-    by_test true is = absurd (true≢false is)
-    by_test false is = refl
-clean-more (first ∷ next ∷ pieces) last unclosed =
-    let parts = or_parts (closes first) (are_closed (next ∷ pieces)) unclosed in
-    ap (λ (test : Bool). not test && is_clean (next ∷ pieces ++ last ∷ [])) parts.0 ∙ clean-more (next ∷ pieces) last parts.1
 
 -- a test that holds of pieces and of one more holds of all
 pub all-more : (test : Piece → Bool) (pieces : List Piece) (last : Piece) → list_all test pieces ≡ true → test last ≡ true → list_all test (pieces ++ last ∷ []) ≡ true
@@ -238,7 +226,7 @@ module _ {Machine : Type 0} (state : Machine → State) (plan : Plan) (wired : I
       queue other false is = reached.queued other ∙ ap (λ (pieces : List Piece). reached.took other ++ pieces) (sym (gave.others other is))
 
       tidy : (other : ℕ) (here : Bool) → (other == edge) ≡ here → is_clean (if here then reached.put other ++ last ∷ [] else reached.put other) ≡ true
-      tidy other true is = clean-more (reached.put other) last (ap (λ (it : ℕ). are_closed (reached.put it)) (eqb-true other edge is) ∙ unclosed)
+      tidy other true is = is_clean-add (reached.put other) last (ap (λ (it : ℕ). are_closed (reached.put it)) (eqb-true other edge is) ∙ unclosed)
       tidy other false is = reached.clean other
 
       even : (other : ℕ) (here : Bool) → (other == edge) ≡ here → list_all is_plain (if here then reached.put other ++ last ∷ [] else reached.put other) ≡ true
@@ -412,7 +400,7 @@ module _ {Machine : Type 0} (state : Machine → State) (plan : Plan) (wired : I
       queue other false same = reached.queued other ∙ ap (λ (pieces : List Piece). reached.took other ++ pieces) (sym (came.others other same))
 
       tidy : (other : ℕ) (here : Bool) → (other == edge) ≡ here → is_clean (if here then reached.put other ++ last ∷ [] else reached.put other) ≡ true
-      tidy other true same = clean-more (reached.put other) last (ap (λ (it : ℕ). are_closed (reached.put it)) (eqb-true other edge same) ∙ unclosed)
+      tidy other true same = is_clean-add (reached.put other) last (ap (λ (it : ℕ). are_closed (reached.put it)) (eqb-true other edge same) ∙ unclosed)
       tidy other false same = reached.clean other
 
       even : (other : ℕ) (here : Bool) → (other == edge) ≡ here → list_all is_plain (if here then reached.put other ++ last ∷ [] else reached.put other) ≡ true

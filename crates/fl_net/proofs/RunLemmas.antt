@@ -6,7 +6,7 @@ use Rattle.std.proofs.lemmas.Bool.{cases_lt, true≢false}
 use Rattle.fl_graph.specs.Net.{has, gives}
 use Rattle.fl_graph.specs.declared.graphs.Cell.{Cell}
 use Rattle.fl_graph.specs.Machines.{State}
-use Rattle.fl_graph.specs.Runs.{text_of, has_broken, has_end, Run}
+use Rattle.fl_graph.specs.Runs.{text_of, has_broken, has_end, Run, is_clean}
 use Rattle.fl_graph.specs.Valid.{Valid}
 use Rattle.fl_graph.specs.declared.graphs.StatusRule.{StatusRule}
 use Rattle.fl_graph.specs.declared.kinds.NodeKind.{NodeKind}
@@ -14,13 +14,13 @@ use Rattle.fl_graph.specs.declared.pieces.Piece.{Piece}
 use Rattle.fl_graph.specs.declared.pieces.Piece.TheVariants as piece
 use Rattle.fl_classes.specs.Flow.{is_source}
 use Rattle.fl_net.specs.Inputs.{AreWhole, IsLoaded, BeginsOver, RunsOver}
-use Rattle.fl_net.specs.Laws.{is_clean, at_ports}
+use Rattle.fl_net.specs.Laws.{at_ports}
 use Rattle.fl_net.specs.Moves.{moves_at, moves_of}
 use Rattle.fl_net.specs.Plans.{outer_edge, IsNetOf, IsPlanOf}
 use Rattle.fl_net.specs.Runs.{Plan, Follows, IsWired, Reached}
 use Rattle.fl_net.specs.Steps.{has_bytes, is_plain, waiting_on}
 use Rattle.fl_net.specs.declared.nets.Ports.{Ports}
-use Rattle.fl_net.proofs.BroughtLemmas.{closed_by_end}
+use Rattle.fl_graph.proofs.PieceLemmas.{closed_by_end}
 use Rattle.fl_net.proofs.PlanLemmas.{source_at, source_edge}
 use Rattle.fl_net.proofs.StartLemmas.{start_plan, start_is_planned, start_is_wired, start_follows, start_runs, start_whole}
 use Rattle.fl_net.proofs.SumLemmas.{sum-none}

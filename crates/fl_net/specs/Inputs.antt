@@ -4,11 +4,10 @@ use Rattle.std.specs.Global.{Vec}
 use Rattle.std.specs.List.{list_all}
 use Rattle.fl_graph.specs.declared.graphs.Cell.{Cell}
 use Rattle.fl_graph.specs.Machines.{State}
-use Rattle.fl_graph.specs.Runs.{are_closed, text_of, has_end}
+use Rattle.fl_graph.specs.Runs.{are_closed, text_of, has_end, is_clean}
 use Rattle.fl_graph.specs.declared.kinds.NodeKind.{NodeKind}
 use Rattle.fl_graph.specs.declared.pieces.Piece.{Piece}
 use Rattle.fl_classes.specs.Flow.{is_source}
-use Rattle.fl_net.specs.Laws.{is_clean}
 use Rattle.fl_net.specs.Moves.{moves_of}
 use Rattle.fl_net.specs.Plans.{outer_edge, IsNetOf, IsPlanOf}
 use Rattle.fl_net.specs.Runs.{Goes}

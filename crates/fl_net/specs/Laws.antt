@@ -3,7 +3,7 @@ use Rattle.std.specs.Prelude.{◌≡◌, ℕ, zero, suc, ◌+◌, ◌<◌, List,
 use Rattle.fl_graph.specs.Machines.{closes}
 use Rattle.fl_graph.specs.declared.graphs.Cell.{Cell}
 use Rattle.ps_lines.specs.Texts.{BeginsWith}
-use Rattle.fl_graph.specs.Runs.{text_of, are_closed, has_broken, has_end, completion}
+use Rattle.fl_graph.specs.Runs.{text_of, are_closed, is_clean, has_broken, has_end, completion}
 use Rattle.fl_graph.specs.declared.kinds.NodeKind.{NodeKind}
 use Rattle.fl_graph.specs.declared.pieces.Piece.{Piece}
 use Rattle.fl_classes.specs.Flow.{Placed, placed, texts_given}
@@ -13,12 +13,6 @@ use Rattle.fl_classes.specs.Nodes.{texts_at}
 pub record Carries (pieces : List Piece) (text : List ℕ) : Type 0 where
   pub front : BeginsWith text (text_of pieces)
   pub whole : has_end pieces ≡ true → text ≡ text_of pieces
-
--- nothing stands behind what closes
-abbrev pub is_clean : List Piece → Bool
-is_clean [] = true
-is_clean (piece ∷ []) = true
-is_clean (piece ∷ next ∷ pieces) = not (closes piece) && is_clean (next ∷ pieces)
 
 -- the pieces at the ports of a node that has these edges
 abbrev pub at_ports : List ℕ → (ℕ → List Piece) → ℕ → List Piece

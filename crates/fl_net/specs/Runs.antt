@@ -4,9 +4,9 @@ use Rattle.std.specs.List.{list_all}
 use Rattle.ps_world.specs.Told.{then_bytes, bytes_then, GrewByPrefix, IsEnded}
 use Rattle.fl_graph.specs.Net.{has, count}
 use Rattle.fl_graph.specs.Machines.{State}
-use Rattle.fl_graph.specs.Runs.{text_of, has_broken, has_end, Run}
+use Rattle.fl_graph.specs.Runs.{text_of, has_broken, has_end, Run, is_clean}
 use Rattle.fl_graph.specs.declared.pieces.Piece.{Piece}
-use Rattle.fl_net.specs.Laws.{is_clean, at_ports, Keeps}
+use Rattle.fl_net.specs.Laws.{at_ports, Keeps}
 use Rattle.fl_net.specs.Steps.{has_bytes, is_plain, waiting_on}
 use Rattle.fl_net.specs.declared.nets.Ports.{Ports}
 

@@ -7,7 +7,7 @@ ghost use Rattle.fl_graph.specs.Net.{gives};
 ghost use Rattle.fl_graph.specs.declared.graphs.Cell.{Cell};
 ghost use Rattle.ps_lines.specs.Texts.{BeginsWith};
 ghost use Rattle.fl_graph.specs.Machines.{State};
-ghost use Rattle.fl_graph.specs.Runs.{text_of, has_broken, has_end, completed, Run, Stopped};
+ghost use Rattle.fl_graph.specs.Runs.{text_of, has_broken, has_end, completed, Run, Stopped, is_clean};
 ghost use Rattle.fl_graph.specs.Valid.{Valid};
 ghost use Rattle.fl_graph.specs.declared.kinds.NodeKind.{NodeKind};
 ghost use Rattle.fl_graph.specs.declared.pieces.Piece.{Piece};
@@ -15,7 +15,7 @@ ghost use Rattle.fl_classes.specs.Flow.{flow, is_source, only, writes, writes_of
 ghost use Rattle.fl_classes.specs.Nodes.{Begins};
 ghost use Rattle.fl_net.specs.Inputs.{RunsOver};
 ghost use Rattle.fl_classes.specs.Kinds.{is_writer};
-ghost use Rattle.fl_net.specs.Laws.{given, is_clean, Carries, NetKeeps, NetRan, NodeRan};
+ghost use Rattle.fl_net.specs.Laws.{given, Carries, NetKeeps, NetRan, NodeRan};
 ghost use Rattle.fl_net.specs.Moves.{edges_of, moves_over, most_moves, most_over_edges};
 ghost use Rattle.fl_net.specs.Plans.{outer_edge, AreTold, HasRooms, IsPlanOf};
 ghost use Rattle.fl_net.specs.Runs.{Goes};

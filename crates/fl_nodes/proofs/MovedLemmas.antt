@@ -6,7 +6,7 @@ use Rattle.fl_graph.specs.Runs.{are_closed, has_broken, has_end, is_end, text_of
 use Rattle.fl_graph.specs.declared.pieces.Piece.{Piece}
 use Rattle.fl_graph.specs.declared.pieces.Piece.TheVariants as piece
 use Rattle.fl_graph.proofs.RunLemmas.{has_end-more}
-use Rattle.fl_relay.proofs.PieceLemmas.{is_clean-add}
+use Rattle.fl_graph.proofs.PieceLemmas.{is_clean-add}
 use Rattle.fl_nodes.specs.Ends.{EndState, SameEnd}
 use Rattle.fl_nodes.specs.Work.{Fails, Moved, Received, is_fault, wanted}
 use Rattle.fl_nodes.proofs.MachineLemmas.{end_closes, text_of-more}

@@ -1,35 +1,13 @@
 -- What came from the outside of a node that reads, where its end tells its text: with the rest of that it completes to all of it.
 use Rattle.std.proofs.Common.{◌≡◌, ℕ, List, [], ◌∷◌, ◌++◌, Bool, true, false, Option, Some, None, refl, ap, sym, ◌∙◌, append_assoc, append-nil}
 use Rattle.std.proofs.lemmas.Bool.{true≢false}
-use Rattle.fl_graph.specs.Machines.{mark}
 use Rattle.fl_graph.specs.Runs.{completed, has_end, text_of}
 use Rattle.fl_graph.specs.declared.pieces.Piece.{Piece}
-use Rattle.fl_graph.specs.declared.pieces.Piece.TheVariants as piece
-use Rattle.fl_relay.specs.Rule.{is_clean}
+use Rattle.fl_graph.proofs.PieceLemmas.{completed-open, completed-ended}
 use Rattle.fl_nodes.specs.Ends.{EndState}
 use Rattle.fl_nodes.specs.Work.{Moved}
 use Rattle.ps_world.specs.Told.{bytes_then, IsEnded}
 use Rattle.ps_world.specs.declared.error.WorldErr.{WorldErr}
-
--- where no end has come, all of the rest follows
-completed-open : (pieces : List Piece) (rest : List ℕ) → has_end pieces ≡ false → completed pieces rest ≡ text_of pieces ++ rest
-completed-open [] rest none = refl
-completed-open (piece.Bytes bytes ∷ pieces) rest none = ap (λ (text : List ℕ). bytes ++ text) (completed-open pieces rest none) ∙ sym (append_assoc bytes (text_of pieces) rest)
-completed-open (piece.Mark ∷ pieces) rest none = ap (λ (text : List ℕ). mark ∷ text) (completed-open pieces rest none)
-completed-open (piece.End ∷ pieces) rest none = absurd (true≢false none)
-completed-open (piece.Broken ∷ pieces) rest none = completed-open pieces rest none
-
--- behind an end nothing follows
-completed-ended : (pieces : List Piece) (rest : List ℕ) → is_clean pieces ≡ true → has_end pieces ≡ true → completed pieces rest ≡ text_of pieces
-completed-ended [] rest clean ended = absurd (true≢false (sym ended))
-completed-ended (piece.Bytes bytes ∷ []) rest clean ended = absurd (true≢false (sym ended))
-completed-ended (piece.Mark ∷ []) rest clean ended = absurd (true≢false (sym ended))
-completed-ended (piece.End ∷ []) rest clean ended = refl
-completed-ended (piece.Broken ∷ []) rest clean ended = absurd (true≢false (sym ended))
-completed-ended (piece.Bytes bytes ∷ next ∷ pieces) rest clean ended = ap (λ (text : List ℕ). bytes ++ text) (completed-ended (next ∷ pieces) rest clean ended)
-completed-ended (piece.Mark ∷ next ∷ pieces) rest clean ended = ap (λ (text : List ℕ). mark ∷ text) (completed-ended (next ∷ pieces) rest clean ended)
-completed-ended (piece.End ∷ next ∷ pieces) rest clean ended = absurd (true≢false (sym clean))
-completed-ended (piece.Broken ∷ next ∷ pieces) rest clean ended = absurd (true≢false (sym clean))
 
 -- the text that an end tells begins with what came
 told_rest : (text front : List ℕ) (rest : Option (List ℕ)) → Some text ≡ bytes_then front rest → (back : List ℕ) × ((rest ≡ Some back) × (text ≡ front ++ back))

@@ -1,13 +1,12 @@
 -- How far a node on a thread has come (own): the pieces that it has taken and put, held against its machine's beginning and what its end held.
 use Rattle.std.specs.Prelude.{◌≡◌, ℕ, zero, suc, ◌<◌, ◌≤◌, List, [], ◌∷◌, Bool, true, false, map, length, get_or, Option, Some, None, is_some}
 use Rattle.fl_graph.specs.Machines.{State, closes, is_broken, is_mark}
-use Rattle.fl_graph.specs.Runs.{add, are_closed, text_of, has_broken, has_end, is_end, Run}
+use Rattle.fl_graph.specs.Runs.{add, are_closed, text_of, has_broken, has_end, is_end, Run, is_clean}
 use Rattle.fl_graph.specs.declared.pieces.Piece.{Piece}
 use Rattle.fl_graph.specs.declared.pieces.Piece.TheVariants as variant
 use Rattle.fl_nodes.specs.Ends.{EndState, SameEnd}
 use Rattle.fl_relay.specs.declared.edges.EdgeGiver.{EdgeGiver}
 use Rattle.fl_relay.specs.declared.edges.EdgeTaker.{EdgeTaker}
-use Rattle.fl_relay.specs.Rule.{is_clean}
 use Rattle.fl_relay.specs.Edges.{EdgeId, gives_over, takes_over, put_on, taken_from}
 use Rattle.ps_world.specs.Counts.{Rose}
 use Rattle.ps_world.specs.Told.{bytes_then, then_bytes, GrewByPrefix, IsEnded}

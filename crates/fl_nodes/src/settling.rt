@@ -1,11 +1,10 @@
 //! The halves of edges together again, behind a run.
 ghost use Rattle.std.specs.Prelude.{◌≡◌, ℕ, List, map, true, is_some};
 ghost use Rattle.std.specs.List.{list_all};
-ghost use Rattle.fl_graph.specs.Runs.{are_closed};
+ghost use Rattle.fl_graph.specs.Runs.{are_closed, is_clean};
 ghost use Rattle.fl_graph.specs.declared.pieces.Piece.{Piece as Pieces};
 ghost use Rattle.fl_nodes.specs.Stashes.{half_of, has_each, without, without_all, CanSettle, CanSettleAll, LayBefore, Lie};
 ghost use Rattle.fl_relay.specs.Edges.{EdgeId, gives_over, takes_over, put_on, taken_from};
-ghost use Rattle.fl_relay.specs.Rule.{is_clean};
 
 use crate::stashes::half_at;
 use fl_relay::laws::settle_edge;

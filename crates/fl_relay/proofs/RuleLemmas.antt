@@ -4,11 +4,11 @@ use mathlib.Core.Option.{some, some-ne-none}
 use lib.ListN.{get_elem?}
 use Rattle.atomic_table.proofs.Lists.{at_set, at_snoc}
 use Rattle.crossbeam_channel.specs.Fifo.{Pushes, Pops, Forks, Merges, Learns}
-use Rattle.fl_graph.specs.Runs.{are_closed}
+use Rattle.fl_graph.specs.Runs.{are_closed, is_clean}
 use Rattle.fl_graph.specs.declared.pieces.Piece.{Piece}
 use Rattle.fl_relay.specs.declared.rule.View.{View}
-use Rattle.fl_relay.specs.Rule.{Balances, Fits, Relayed, TakenIsFront, is_clean, giving, taking, whole, spent, sent, received}
-use Rattle.fl_relay.proofs.PieceLemmas.{is_clean-add}
+use Rattle.fl_relay.specs.Rule.{Balances, Fits, Relayed, TakenIsFront, giving, taking, whole, spent, sent, received}
+use Rattle.fl_graph.proofs.PieceLemmas.{is_clean-add}
 
 -- a view that stands behind a list, and not in it, stands at its end
 at_end : (views : List View) (last view : View) (pass : ℕ) → get_elem? views pass ≢ some view → get_elem? (views ++ last ∷ []) pass ≡ some view → pass ≡ length views

@@ -17,14 +17,9 @@ use Rattle.std.specs.Prelude.{◌≡◌, ℕ, Bool, true, false, not, ◌&&◌, 
 use mathlib.Core.Option.{some}
 use lib.ListN.{get_elem?}
 use Rattle.fl_graph.specs.Machines.{closes}
+use Rattle.fl_graph.specs.Runs.{is_clean}
 use Rattle.fl_graph.specs.declared.pieces.Piece.{Piece}
 use Rattle.fl_relay.specs.declared.rule.View.{View}
-
--- nothing stands behind what closes
-abbrev pub is_clean : List Piece → Bool
-is_clean [] = true
-is_clean (piece ∷ []) = true
-is_clean (piece ∷ next ∷ pieces) = not (closes piece) && is_clean (next ∷ pieces)
 
 -- the views of the giver, of the taker, of one that is both, and of one that was joined into another
 abbrev pub giving : List Piece → View

@@ -49,7 +49,7 @@ impl EagerGiver {
     ghost use Rattle.fl_relay.specs.Eager.{eager_gives_on, eager_given};
 
     /// Puts a piece, and doesn't wait. Where memory is refused it gives the piece back, and nothing is put.
-    #[tactic(auto, using(crate::proofs::PieceLemmas::closed_by))]
+    #[tactic(auto, using(fl_graph::proofs::PieceLemmas::closed_by))]
     pub fn put<R: Wait>(&mut self, rt: &R, piece: Piece) -> Result<(), Piece>
         requires { are_closed (eager_given self.old) ≡ false }
         ensures same { eager_gives_on self.new ≡ eager_gives_on self.old }
@@ -65,7 +65,7 @@ impl EagerGiver {
     }
 
     /// Puts a piece, and tries again where memory is refused, until there is some; it yields between two tries and doesn't sleep.
-    #[tactic(auto, using(crate::proofs::PieceLemmas::closed_by))]
+    #[tactic(auto, using(fl_graph::proofs::PieceLemmas::closed_by))]
     pub fn put_at_last<R: Wait>(&mut self, rt: &R, piece: Piece)
         requires { are_closed (eager_given self.old) ≡ false }
         ensures same { eager_gives_on self.new ≡ eager_gives_on self.old }
@@ -91,7 +91,7 @@ impl EagerTaker {
     ghost use Rattle.fl_relay.specs.Eager.{eager_takes_on, eager_taken};
 
     /// Takes a piece. While the relay is empty it sleeps.
-    #[tactic(auto, using(crate::proofs::PieceLemmas::closed_by))]
+    #[tactic(auto, using(fl_graph::proofs::PieceLemmas::closed_by))]
     pub fn take<R: Wait>(&mut self, rt: &R) -> Piece
         requires { are_closed (eager_taken self.old) ≡ false }
         ensures same { eager_takes_on self.new ≡ eager_takes_on self.old }

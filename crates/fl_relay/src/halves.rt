@@ -34,7 +34,7 @@ impl Giver {
     ghost use Rattle.fl_relay.specs.Relays.{gives_on, room_of, given};
 
     /// Puts a piece. While the relay is full it sleeps.
-    #[tactic(auto, using(crate::proofs::PieceLemmas::closed_by))]
+    #[tactic(auto, using(fl_graph::proofs::PieceLemmas::closed_by))]
     pub fn put<R: Wait>(&mut self, rt: &R, piece: Piece)
         requires { are_closed (given self.old) ≡ false }
         ensures same { gives_on self.new ≡ gives_on self.old }
@@ -56,7 +56,7 @@ impl Taker {
     ghost use Rattle.fl_relay.specs.Relays.{takes_on, taken};
 
     /// Takes a piece. While the relay is empty it sleeps.
-    #[tactic(auto, using(crate::proofs::PieceLemmas::closed_by))]
+    #[tactic(auto, using(fl_graph::proofs::PieceLemmas::closed_by))]
     pub fn take<R: Wait>(&mut self, rt: &R) -> Piece
         requires { are_closed (taken self.old) ≡ false }
         ensures same { takes_on self.new ≡ takes_on self.old }

@@ -1,11 +1,11 @@
 //! What holds of a relay as a whole.
 ghost use Rattle.std.specs.Prelude.{◌≡◌, ◌++◌, List, true};
-ghost use Rattle.fl_graph.specs.Runs.{are_closed};
+ghost use Rattle.fl_graph.specs.Runs.{are_closed, is_clean};
 ghost use Rattle.fl_graph.specs.declared.pieces.Piece.{Piece as Pieces};
 ghost use Rattle.fl_relay.specs.Eager.{eager_gives_on, eager_takes_on, eager_given, eager_taken};
 ghost use Rattle.fl_relay.specs.Edges.{gives_over, takes_over, put_on, taken_from};
 ghost use Rattle.fl_relay.specs.Relays.{gives_on, takes_on, given, taken};
-ghost use Rattle.fl_relay.specs.Rule.{TakenIsFront, is_clean};
+ghost use Rattle.fl_relay.specs.Rule.{TakenIsFront};
 
 use crate::eager::{EagerGiver, EagerTaker};
 use crate::edges::{EdgeGiver, EdgeTaker};

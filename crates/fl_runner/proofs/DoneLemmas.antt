@@ -9,6 +9,7 @@ use Rattle.ps_world.specs.declared.error.WorldErr.{WorldErr}
 use Rattle.ps_world.proofs.ToldLemmas.{grew_by_nothing, then_bytes-nil}
 use Rattle.fl_graph.specs.Net.{gives}
 use Rattle.fl_graph.specs.Valid.{Valid}
+use Rattle.fl_graph.specs.Runs.{is_clean}
 use Rattle.fl_graph.specs.declared.graphs.Cell.{Cell}
 use Rattle.fl_graph.specs.declared.graphs.Graph.{Graph}
 use Rattle.fl_graph.specs.declared.kinds.NodeKind.{NodeKind}
@@ -25,7 +26,6 @@ use Rattle.fl_core.proofs.OutputLemmas.{output_grows}
 use Rattle.fl_net.proofs.OutsideLemmas.{some_at}
 use Rattle.fl_nodes.specs.Ends.{EndState}
 use Rattle.fl_nodes.specs.Work.{is_fault}
-use Rattle.fl_relay.specs.Rule.{is_clean as is_clean_put}
 use Rattle.fl_threads.specs.Threads.{EachOf}
 use Rattle.fl_runner.specs.Lent.{end_state}
 use Rattle.fl_runner.proofs.RunLemmas.{NodeRun, RanAt, each-from, ran_fronts, ran_read, ran_selects, ran_written}
@@ -57,7 +57,7 @@ module _ {R W I O : Type 0} (of_reader : R → Option (List ℕ)) (of_input : I 
   faults-state (Some (Output it)) = refl
 
   module _ (graph : Graph) (valid : Valid graph.nodes graph.status) (ends ends' : Ends R W I O) (keeps : KeepsOthers graph.nodes ends ends')
-      (runs : List NodeRun) (over : ℕ → List Piece) (clean : (edge : ℕ) → edge < length (gives graph.nodes) → is_clean_put (over edge) ≡ true)
+      (runs : List NodeRun) (over : ℕ → List Piece) (clean : (edge : ℕ) → edge < length (gives graph.nodes) → is_clean (over edge) ≡ true)
       (each : EachOf (RanAt over) graph.nodes runs)
       (was : (node : ℕ) (run : NodeRun) → slice_get runs node ≡ Some run → run.was ≡ state_of (end_at graph.nodes ends node))
       (is : (node : ℕ) (run : NodeRun) → slice_get runs node ≡ Some run → run.is ≡ state_of (end_at graph.nodes ends' node)) where

@@ -11,7 +11,7 @@ use Rattle.ps_world.specs.declared.error.WorldErr.{WorldErr}
 use Rattle.fl_graph.specs.Checks.{each_after, takes_given}
 use Rattle.fl_graph.specs.Machines.{State, closes}
 use Rattle.fl_graph.specs.Net.{gives, has}
-use Rattle.fl_graph.specs.Runs.{are_closed, completed, completion, has_broken, has_end, text_of, Run, Stopped}
+use Rattle.fl_graph.specs.Runs.{are_closed, completed, completion, has_broken, has_end, text_of, Run, Stopped, is_clean}
 use Rattle.fl_graph.specs.Valid.{Valid}
 use Rattle.fl_graph.specs.declared.graphs.Cell.{Cell}
 use Rattle.fl_graph.specs.declared.graphs.StatusRule.{StatusRule}
@@ -26,7 +26,7 @@ use Rattle.fl_classes.specs.Flow.{flow, is_source, only, selections, selects}
 use Rattle.fl_classes.specs.Kinds.{is_sink, is_writer, run_ins, run_kind, run_outs}
 use Rattle.fl_classes.specs.Nodes.{Begins, texts_at}
 use Rattle.fl_net.specs.Ends.{HasRead, HasWritten, HasWrittenFronts, IsReadOff}
-use Rattle.fl_net.specs.Laws.{at_ports, is_clean, Keeps}
+use Rattle.fl_net.specs.Laws.{at_ports, Keeps}
 use Rattle.fl_net.specs.Plans.{AreTold, IsPlanOf, edges_in, edges_out, outer_edge}
 use Rattle.fl_net.specs.Runs.{Halted, Plan}
 use Rattle.fl_net.specs.Starts.{BeginsAs}
@@ -38,7 +38,6 @@ use Rattle.fl_net.proofs.PortLemmas.{port_of, stands-has}
 use Rattle.fl_net.proofs.StartLemmas.{no_state}
 use Rattle.fl_nodes.specs.Ends.{EndState}
 use Rattle.fl_nodes.specs.Work.{Moved, at, side}
-use Rattle.fl_relay.specs.Rule.{is_clean as is_clean_put}
 use Rattle.fl_threads.specs.Threads.{EachOf}
 
 some_is : {X : Type 0} (one other : X) → Some one ≡ Some other → one ≡ other
@@ -101,11 +100,6 @@ pub record RanAt (over : ℕ → List Piece) (cell : Cell NodeKind) (run : NodeR
   pub put : run.put ≡ map over cell.outs
   pub reads : run.was.reads ≡ is_source cell.kind
   pub writes : run.was.writes ≡ is_writer cell.kind
-
-same_clean : (pieces : List Piece) → is_clean pieces ≡ is_clean_put pieces
-same_clean [] = refl
-same_clean (piece ∷ []) = refl
-same_clean (piece ∷ next ∷ pieces) = ap (λ (test : Bool). not (closes piece) && test) (same_clean (next ∷ pieces))
 
 at-map : (over : ℕ → List Piece) (edges : List ℕ) (port edge : ℕ) → slice_get edges port ≡ Some edge → at (map over edges) port ≡ over edge
 at-map over [] port edge is = absurd (cc)
@@ -201,7 +195,7 @@ read_off text before None is ended = ap (λ (told : Option (List ℕ)). option_m
 read_off text before (Some left) is ended = ended ∙ ap (λ (told : Option (List ℕ)). option_map (λ (bytes : List ℕ). []) told) (sym is)
 
 module _ (cells : List (Cell NodeKind)) (status : StatusRule) (valid : Valid cells status) (runs : List NodeRun) (over : ℕ → List Piece)
-    (clean : (edge : ℕ) → edge < length (gives cells) → is_clean_put (over edge) ≡ true) (each : EachOf (RanAt over) cells runs)
+    (clean : (edge : ℕ) → edge < length (gives cells) → is_clean (over edge) ≡ true) (each : EachOf (RanAt over) cells runs)
     (left left' taken taken' : ℕ → Option (List ℕ))
     (left_is : (node : ℕ) (run : NodeRun) → slice_get runs node ≡ Some run → run.was.left ≡ left node)
     (left_is' : (node : ℕ) (run : NodeRun) → slice_get runs node ≡ Some run → run.is.left ≡ left' node)
@@ -306,11 +300,11 @@ module _ (cells : List (Cell NodeKind)) (status : StatusRule) (valid : Valid cel
       by_run None is = refl
       by_run (Some run) is =
           let its = each-from (RanAt over) cells runs each (edge - length (gives cells)) run is in
-          same_clean run.outside ∙ its.1.1.moved.clean
+          its.1.1.moved.clean
 
       by_test : (test : Bool) → nat_lt edge (length (gives cells)) ≡ test
           → is_clean (if test then over edge else outside_of (slice_get runs (edge - length (gives cells)))) ≡ true
-      by_test true is = same_clean (over edge) ∙ clean edge (ltb-true edge (length (gives cells)) is)
+      by_test true is = clean edge (ltb-true edge (length (gives cells)) is)
       by_test false is = by_run (slice_get runs (edge - length (gives cells))) refl
 
   -- a node that reads, and one that writes, with what came of it

@@ -4,12 +4,12 @@ use Rattle.std.specs.Global.{Vec}
 use Rattle.std.specs.List.{list_all}
 use Rattle.std.specs.Vec.Iter.{into_iter_items}
 use Rattle.fl_graph.specs.Net.{takes}
+use Rattle.fl_graph.specs.Runs.{is_clean}
 use Rattle.fl_graph.specs.declared.graphs.Cell.{Cell}
 use Rattle.fl_graph.specs.declared.kinds.NodeKind.{NodeKind}
 use Rattle.fl_nodes.specs.Stashes.{CanSettleAll, has_each, without_all}
 use Rattle.fl_relay.specs.declared.edges.EdgeTaker.{EdgeTaker}
 use Rattle.fl_relay.specs.Edges.{taken_from}
-use Rattle.fl_relay.specs.Rule.{is_clean}
 use Rattle.fl_threads.specs.Threads.{EachOf}
 use Rattle.fl_edges.proofs.EachLemmas.{each-back, each-none, each-within}
 use Rattle.fl_edges.proofs.SettledLemmas.{can-first, can-rest, clean-first, ends-first, there-first, there-rest, none-taken, none-clean}

@@ -3,13 +3,13 @@ use Rattle.std.specs.Global.{Vec}
 use Rattle.std.specs.List.{list_all}
 use Rattle.std.specs.Vec.Iter.{into_iter_items}
 use Rattle.fl_graph.specs.Net.{takes}
+use Rattle.fl_graph.specs.Runs.{is_clean}
 use Rattle.fl_graph.specs.declared.graphs.Cell.{Cell}
 use Rattle.fl_graph.specs.declared.kinds.NodeKind.{NodeKind}
 use Rattle.fl_graph.specs.declared.pieces.Piece.{Piece}
 use Rattle.fl_nodes.specs.Stashes.{LayBefore, Lie, has_each}
 use Rattle.fl_relay.specs.declared.edges.EdgeTaker.{EdgeTaker}
 use Rattle.fl_relay.specs.Edges.{EdgeId, gives_over, put_on, taken_from}
-use Rattle.fl_relay.specs.Rule.{is_clean}
 use Rattle.fl_threads.specs.Threads.{EachOf}
 use Rattle.fl_edges.specs.Settled.{AreAtEnds, CanSettleEach}
 use Rattle.fl_edges.proofs.settling.settle_each.Given as goal

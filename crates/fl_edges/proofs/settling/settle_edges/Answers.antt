@@ -2,13 +2,13 @@ use Rattle.std.proofs.Common.{◌≡◌, ◌<◌, ℕ, List, Option, length, map
 use Rattle.std.specs.Global.{Vec}
 use Rattle.std.specs.List.{list_all}
 use Rattle.fl_graph.specs.Net.{gives, has, takes}
+use Rattle.fl_graph.specs.Runs.{is_clean}
 use Rattle.fl_graph.specs.declared.graphs.Cell.{Cell}
 use Rattle.fl_graph.specs.declared.kinds.NodeKind.{NodeKind}
 use Rattle.fl_nodes.specs.Stashes.{Lie, has_each}
 use Rattle.fl_relay.specs.declared.edges.EdgeGiver.{EdgeGiver}
 use Rattle.fl_relay.specs.declared.edges.EdgeTaker.{EdgeTaker}
 use Rattle.fl_relay.specs.Edges.{gives_over, put_on, taken_from}
-use Rattle.fl_relay.specs.Rule.{is_clean}
 use Rattle.fl_threads.specs.Threads.{EachOf}
 use Rattle.fl_edges.specs.Settled.{CanSettleEach, all_of, put_all}
 use Rattle.fl_edges.proofs.SettledLemmas.{all_there, are_settled, can, counted}

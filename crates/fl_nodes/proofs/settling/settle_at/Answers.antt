@@ -1,5 +1,5 @@
 use Rattle.std.proofs.Common.{◌≡◌, Some, ap, sym, ◌∙◌, rules}
-use Rattle.fl_relay.specs.Rule.{is_clean}
+use Rattle.fl_graph.specs.Runs.{is_clean}
 use Rattle.fl_nodes.specs.Stashes.{half_of}
 use Rattle.fl_nodes.proofs.settling.settle_at.Goals as goal
 

@@ -3,9 +3,8 @@ use Rattle.std.proofs.lemmas.Bool.{and_parts}
 use Rattle.std.proofs.lemmas.List.{nil_from_length}
 use Rattle.std.specs.List.{list_all}
 use Rattle.std.specs.Vec.Iter.{into_iter_items}
-use Rattle.fl_graph.specs.Runs.{are_closed}
+use Rattle.fl_graph.specs.Runs.{are_closed, is_clean}
 use Rattle.fl_relay.specs.Edges.{taken_from}
-use Rattle.fl_relay.specs.Rule.{is_clean}
 use Rattle.fl_nodes.proofs.StashLemmas.{all-from, gone-more, has_each-rest, lay-behind, lay-gone, left-first, left-rest, left-within, none-left, taken-first}
 use Rattle.fl_nodes.proofs.settling.settle_ins.Goals as goal
 

@@ -1,10 +1,9 @@
 use Rattle.std.proofs.Common.{◌≡◌, ℕ, List, map, take, drop, true}
 use Rattle.std.specs.List.{list_all}
 use Rattle.std.specs.Vec.Iter.{into_iter_items}
-use Rattle.fl_graph.specs.Runs.{are_closed}
+use Rattle.fl_graph.specs.Runs.{are_closed, is_clean}
 use Rattle.fl_graph.specs.declared.pieces.Piece.{Piece}
 use Rattle.fl_relay.specs.Edges.{EdgeId, gives_over, put_on, taken_from}
-use Rattle.fl_relay.specs.Rule.{is_clean}
 use Rattle.fl_nodes.specs.Stashes.{has_each, without_all, Lie}
 use Rattle.fl_nodes.proofs.StashLemmas.{Left}
 use Rattle.fl_nodes.proofs.settling.settle_ins.Given as goal

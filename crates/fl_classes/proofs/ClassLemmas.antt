@@ -257,6 +257,7 @@ is-of-class (inv.Wc wc) = of-one (inv.Wc wc) wc.args.operands class.P (wc-parall
 is-of-class (inv.Uniq uniq) = uniq-parallel uniq
 is-of-class (inv.Sort sort) = sort-parallel sort
 is-of-class (inv.Paste paste) = tt
+is-of-class (inv.Tee tee) = tt
 is-of-class other = unbuilt other refl (class_of other)
 
 pub keeps-closed : (inv : Inv) → keeps_closed_of inv ≡ true → KeepsClosed inv
@@ -270,6 +271,7 @@ keeps-closed (inv.Wc wc) keeps_it = absurd (true≢false (sym keeps_it))
 keeps-closed (inv.Uniq uniq) keeps_it = absurd (true≢false (sym keeps_it))
 keeps-closed (inv.Sort sort) keeps_it = absurd (true≢false (sym keeps_it))
 keeps-closed (inv.Paste paste) keeps_it = absurd (true≢false (sym keeps_it))
+keeps-closed (inv.Tee tee) keeps_it = absurd (true≢false (sym keeps_it))
 keeps-closed other keeps_it = unbuilt-closed other refl
 
 -- what those that are built make of a part

@@ -36,6 +36,7 @@ utility_by (command.Wc args) = wc args
 utility_by (command.Uniq args) = uniq args
 utility_by (command.Sort args) = sort args
 utility_by (command.Paste args) = paste args
+utility_by (command.Tee args) = cat
 utility_by other = silent
 
 -- that of an invocation; one that isn't built writes nothing

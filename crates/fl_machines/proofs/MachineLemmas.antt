@@ -61,6 +61,7 @@ built-few (inv.Wc wc) built single = absurd (true≢false single)
 built-few (inv.Uniq uniq) built single = separate-few uniq.args.operands built
 built-few (inv.Sort sort) built single = joined-few sort.args.operands
 built-few (inv.Paste paste) built single = absurd (true≢false single)
+built-few (inv.Tee tee) built single = omega arith
 built-few other built single = absurd (true≢false (sym built))
 
 -- the output for one input is the map but of uniq, whose map keeps counts, and of those that read their inputs in order
@@ -87,6 +88,7 @@ whole-is-map command text one = by_built command (λ utility. utility.part text 
     by_command (inv.Uniq uniq) one = absurd (true≢false (sym one))
     by_command (inv.Sort sort) one = sym (append-nil (sorted_text sort.args text))
     by_command (inv.Paste paste) one = absurd (true≢false (sym one))
+    by_command (inv.Tee tee) one = sym (append-nil text)
     by_command other one = refl
 
 pub ruleset wholes = (whole-is-map)

@@ -85,6 +85,7 @@ impl AnyStream {
                 Ok(sorter) => Ok(AnyStream::Sort(sorter)),
                 Err(memory) => Err(memory),
             },
+            Inv::Tee(_) => Ok(AnyStream::Copy(Copy::new())),
             Inv::Paste(_) => unreachable!(),
             _ => unreachable!(),
         }

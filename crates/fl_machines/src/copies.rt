@@ -4,7 +4,7 @@ ghost use Rattle.std.specs.Prelude.{◌≡◌, false};
 use ps_lines::Memory;
 use ut_streams::{Stream, put};
 
-/// `cat` of one input, and every finish that changes nothing.
+/// `cat` of one input, `tee`, whose files are nodes of their own, and every finish that changes nothing.
 #[derive(Drop)]
 pub struct Copy {
     spent: bool,

@@ -27,6 +27,7 @@ is_built_by (command.Wc args) = true
 is_built_by (command.Uniq args) = is_built_uniq args
 is_built_by (command.Sort args) = true
 is_built_by (command.Paste args) = true
+is_built_by (command.Tee args) = true
 is_built_by other = false
 
 abbrev pub is_built_of : Inv → Bool

@@ -6,7 +6,7 @@ use crate::invocations::Inv;
 use crate::utilities::has_at_most_one;
 
 /// Whether an invocation is built: whether its utility has a stream so far, as `cat`, `grep`, `tr`, `cut`, `head`, `tail`, `wc`, `uniq`,
-/// `sort` and `paste` have. The patterns of `grep` may be none that can be read.
+/// `sort`, `paste` and `tee` have. The patterns of `grep` may be none that can be read.
 pub fn is_built(inv: &Inv) -> bool
     ensures { result ≡ is_built_of inv.now }
 {
@@ -21,6 +21,7 @@ pub fn is_built(inv: &Inv) -> bool
         Inv::Uniq(uniq) => has_at_most_one(&uniq.args.operands),
         Inv::Sort(_) => true,
         Inv::Paste(_) => true,
+        Inv::Tee(_) => true,
         _ => false,
     }
 }

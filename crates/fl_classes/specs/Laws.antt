@@ -1,13 +1,15 @@
 -- What the classes of commands say of texts that are cut (PaSh's classes, made exact).
-use Rattle.std.specs.Prelude.{◌≡◌, List, ℕ, [], ◌∷◌, ◌++◌, ◌||◌, true}
+use Rattle.std.specs.Prelude.{◌≡◌, List, ℕ, [], ◌∷◌, ◌++◌, ◌||◌, Bool, true, false, not}
 use Rattle.ps_lines.specs.Lines.{is_cutlist, is_closed}
 use Rattle.ut_args.specs.declared.classes.Class.{Class}
 use Rattle.ut_args.specs.declared.classes.Class.TheVariants as class
 use Rattle.ut_args.specs.declared.classes.Seam.{Seam}
 use Rattle.ut_args.specs.declared.classes.Seam.TheVariants as seam
 use Rattle.ut_args.specs.declared.invocations.Inv.{Inv}
+use Rattle.ut_args.specs.declared.invocations.Inv.TheVariants as inv
 use Rattle.fl_classes.specs.Utilities.{output_of, selects_of}
 use Rattle.fl_classes.specs.Aggregates.{map_of, joined_maps, finish_of}
+use Rattle.fl_classes.specs.Kinds.{is_count}
 
 -- a text may be cut so: anywhere, or at an end of lines
 abbrev pub MayBeCut : Seam → List ℕ → List ℕ → Type 0
@@ -43,3 +45,21 @@ pub record KeepsClosed (inv : Inv) : Type 0 where
   pub whole : (text : List ℕ) → output_of inv (text ∷ []) ≡ map_of inv text
   pub closed : (text : List ℕ) → is_closed text ≡ true → is_closed (map_of inv text) ≡ true
   pub none : map_of inv [] ≡ []
+
+-- what an aggregator joins: maps, and what it has made of such
+pub data IsGathered (inv : Inv) : List ℕ → Type 0 where
+  from_map : (text : List ℕ) → IsGathered inv (map_of inv text)
+  from_two : {one other : List ℕ} → IsGathered inv one → IsGathered inv other → IsGathered inv (joined_maps inv one other)
+
+-- the aggregator is commutative and associative on these
+pub record IsCommutative (inv : Inv) : Type 0 where
+  pub commutes : (one other : List ℕ) → IsGathered inv one → IsGathered inv other → joined_maps inv one other ≡ joined_maps inv other one
+  pub associates : (one two three : List ℕ) → IsGathered inv one → IsGathered inv two → IsGathered inv three
+      → joined_maps inv (joined_maps inv one two) three ≡ joined_maps inv one (joined_maps inv two three)
+
+-- the invocations whose aggregator is so: counts are added up, and a merge without -u keeps every line
+abbrev pub is_commutative : Inv → Bool
+is_commutative (inv.Wc wc) = true
+is_commutative (inv.Grep grep) = is_count grep.args.report
+is_commutative (inv.Sort sort) = not sort.args.unique
+is_commutative other = false

@@ -1,8 +1,9 @@
 //! What each class says of its commands, in laws: each is the contract of a function that does nothing.
 #![tactic(auto, using(crate::proofs::ClassLemmas::class_laws, crate::proofs::PartLemmas::part_laws, crate::proofs::FlowLemmas::flow_laws, crate::proofs::CutLemmas::cut_laws, crate::proofs::OperandLemmas::operand_laws))]
 
-ghost use Rattle.std.specs.Prelude.{◌≡◌, ◌<◌, ◌∷◌, ℕ, Bool, List, length, map, true};
+ghost use Rattle.std.specs.Prelude.{◌≡◌, ◌<◌, ◌∷◌, ◌++◌, ℕ, Bool, List, length, map, true};
 ghost use Rattle.std.specs.List.{concat, filter};
+ghost use Rattle.std.specs.List.Sorted.{IsPermutation};
 ghost use Rattle.ps_lines.specs.Lines.{is_cutlist};
 ghost use Rattle.ut_args.specs.Classes.{class_of, keeps_closed_of};
 ghost use Rattle.ut_args.specs.Inputs.{deals, emptied, is_named, operands_by, operands_of, remaining, with_operands};
@@ -16,11 +17,11 @@ ghost use Rattle.fl_graph.specs.Net.{gives};
 ghost use Rattle.fl_graph.specs.Valid.{Valid};
 ghost use Rattle.fl_graph.specs.declared.kinds.NodeKind.{NodeKind};
 ghost use Rattle.fl_classes.specs.Flow.{flow, placed, Solves};
-ghost use Rattle.fl_classes.specs.Aggregates.{aggregate_of, map_of};
+ghost use Rattle.fl_classes.specs.Aggregates.{aggregate_of, joined_maps, map_of};
 ghost use Rattle.fl_classes.specs.Kinds.{is_run};
 ghost use Rattle.fl_classes.specs.Parts.{parts_of};
 ghost use Rattle.fl_classes.specs.Utilities.{names_of, utility_by, utility_of};
-ghost use Rattle.fl_classes.specs.Laws.{IsOfClass, IsParallel, IsStateless, KeepsClosed};
+ghost use Rattle.fl_classes.specs.Laws.{IsCommutative, IsOfClass, IsParallel, IsStateless, KeepsClosed, is_commutative};
 
 use fl_graph::Graph;
 
@@ -42,6 +43,22 @@ pub fn classes_go_over_cut_lists()
     ensures parts { (inv : Inv) → IsParallel inv → (first : List ℕ) (texts : List (List ℕ)) → is_cutlist (first ∷ texts) ≡ true →
         aggregate_of inv (map (map_of inv) (first ∷ texts)) ≡ map_of inv (concat (first ∷ texts)) }
     ensures closed { (inv : Inv) → KeepsClosed inv → (texts : List (List ℕ)) → is_cutlist texts ≡ true → is_cutlist (map (map_of inv) texts) ≡ true }
+{}
+
+/// The aggregators of `wc`, of `grep -c`, and of `sort` without `-u` are commutative and associative.
+#[tactic(auto, using(crate::proofs::OrderLemmas::order_laws))]
+pub fn counts_and_sorted_lines_are_joined_in_any_order()
+    ensures { (inv : Inv) → is_commutative inv ≡ true → IsCommutative inv }
+{}
+
+/// Where an aggregator is commutative and associative, the maps of several texts may come in any order, and be joined in groups.
+#[tactic(auto, using(crate::proofs::OrderLemmas::order_laws))]
+pub fn a_commutative_aggregate_has_no_order()
+    ensures order { (inv : Inv) → IsCommutative inv → (texts others : List (List ℕ)) → IsPermutation texts others →
+        aggregate_of inv (map (map_of inv) texts) ≡ aggregate_of inv (map (map_of inv) others) }
+    ensures groups { (inv : Inv) → IsCommutative inv → (first second : List ℕ) (texts others : List (List ℕ)) →
+        aggregate_of inv (map (map_of inv) ((first ∷ texts) ++ (second ∷ others))) ≡
+        joined_maps inv (aggregate_of inv (map (map_of inv) (first ∷ texts))) (aggregate_of inv (map (map_of inv) (second ∷ others))) }
 {}
 
 /// An operand that lacks an input changes which inputs there are, and nothing else: with the empty text in its place an invocation

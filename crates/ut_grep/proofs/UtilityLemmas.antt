@@ -71,6 +71,18 @@ counts-added first second =
     ap (λ (count : ℕ). decimal count ++ 10 ∷ []) (let same : saturated (first + second) ≡ saturated (saturated first + saturated second) = omega arith in same)
     ∙ ap₂ (λ (one other : ℕ). count_shown [] (one + other)) (sym (read-count first)) (sym (read-count second))
 
+-- they may be added up in any order
+pub counts-commute : (one other : List ℕ) → joined_by report.Count one other ≡ joined_by report.Count other one
+counts-commute one other = let swapped : count_on one + count_on other ≡ count_on other + count_on one = omega arith in ap (count_shown []) swapped
+
+pub counts-associate : (one two three : List ℕ)
+    → joined_by report.Count (joined_by report.Count one two) three ≡ joined_by report.Count one (joined_by report.Count two three)
+counts-associate one two three =
+    let same : saturated (saturated (count_on one + count_on two) + count_on three) ≡ saturated (count_on one + saturated (count_on two + count_on three)) = omega arith in
+    ap (λ (count : ℕ). count_shown [] (count + count_on three)) (read-count (count_on one + count_on two))
+    ∙ ap (λ (count : ℕ). decimal count ++ 10 ∷ []) same
+    ∙ ap (λ (count : ℕ). count_shown [] (count_on one + count)) (sym (read-count (count_on two + count_on three)))
+
 module _ (args : GrepArgs) (label : List ℕ) where
   abbrev test : List ℕ → Bool
   test = is_selected args

@@ -160,6 +160,40 @@ wc-joins columns front back cut =
     ∙ ap (λ counts. counts_line columns counts [])
     (λ i. added (sym (counts_on-line columns (counts_of front)) i) (sym (counts_on-line columns (counts_of back)) i))
 
+-- lines of counts may be added up in any order
+sum-regrouped : (is_asked : Bool) (one two three : ℕ) → is_asked ≡ true
+    → saturated (if_asked is_asked (one + two) + three) ≡ saturated (one + if_asked is_asked (two + three))
+sum-regrouped true one two three is = omega arith
+sum-regrouped false one two three is = absurd (true≢false (sym is))
+
+module _ (columns : Columns) where
+  abbrev sum_line : List ℕ → List ℕ → List ℕ
+  sum_line one other = counts_line columns (added (counts_on columns one) (counts_on columns other)) []
+
+  pub sums-commute : (one other : List ℕ) → sum_line one other ≡ sum_line other one
+  sums-commute one other = ap (λ counts. counts_line columns counts []) (swapped (counts_on columns one) (counts_on columns other))
+    where
+      swapped : (one other : Counts) → added one other ≡ added other one
+      swapped one other =
+          let lines : one.lines + other.lines ≡ other.lines + one.lines = omega arith in
+          let words : one.words + other.words ≡ other.words + one.words = omega arith in
+          let bytes : one.bytes + other.bytes ≡ other.bytes + one.bytes = omega arith in
+          λ i. record { lines = lines i; words = words i; bytes = bytes i }
+
+  pub sums-associate : (one two three : List ℕ) → sum_line (sum_line one two) three ≡ sum_line one (sum_line two three)
+  sums-associate one two three = of_counts (counts_on columns one) (counts_on columns two) (counts_on columns three)
+    where
+      of_counts : (one two three : Counts)
+          → counts_line columns (added (counts_on columns (counts_line columns (added one two) [])) three) []
+          ≡ counts_line columns (added one (counts_on columns (counts_line columns (added two three) []))) []
+      of_counts one two three =
+          ap (λ counts. counts_line columns (added counts three) []) (counts_on-line columns (added one two))
+          ∙ line-alike columns (added (seen_of columns (added one two)) three) (added one (seen_of columns (added two three))) []
+          (sum-regrouped columns.lines one.lines two.lines three.lines)
+          (sum-regrouped columns.words one.words two.words three.words)
+          (sum-regrouped columns.bytes one.bytes two.bytes three.bytes)
+          ∙ ap (λ counts. counts_line columns (added one counts) []) (sym (counts_on-line columns (added two three)))
+
 -- with at most one operand there is no line of sums
 pub total-none : (args : WcArgs) (inputs : List Input) → has_at_most_one args.operands ≡ true → total args inputs ≡ []
 total-none args inputs one = cond-true (has_at_most_one args.operands) [] _ one

@@ -30,6 +30,24 @@ make_text() {
     }'
 }
 
+# This many megabytes of lines of 1 to 12 words of a vocabulary of 5,000, some capitalized; the same in each run.
+make_words() {
+    awk -v megabytes="$1" 'BEGIN {
+        srand(1)
+        for (count = 0; count < 5000; count++) {
+            word = ""
+            for (size = 2 + int(rand() * 9); size > 0; size--) word = word sprintf("%c", 97 + int(rand() * 26))
+            words[count] = word
+        }
+        for (made = 0; made < megabytes * 1000000; made += length(line) + 1) {
+            line = words[int(rand() * 5000)]
+            if (rand() < 0.3) line = toupper(substr(line, 1, 1)) substr(line, 2)
+            for (more = int(rand() * 12); more > 0; more--) line = line " " words[int(rand() * 5000)]
+            print line
+        }
+    }'
+}
+
 # A web server's log in the combined format (host, time, request, status, size, referrer, agent), of this many megabytes; the same in each run.
 make_log() {
     awk -v megabytes="$1" '
@@ -124,4 +142,43 @@ timed() {
         [ -n "$best_clock" ] && [ "$best_clock" -le "$clock" ] || best_clock=$clock
     done
     printf '%-36s %8d %8d %8d\n' "$label" "$best_spent" "$best_clock" "$(awk '{ print $4 }' "$texts/spent")"
+}
+
+# The milliseconds of the processor that a command takes on the text, with its output in a file: spent_on_text OUTPUT COMMAND..
+spent_on_text() {
+    local output=$1
+    shift
+    /usr/bin/time -o "$texts/spent" -f '%U %S' "$@" <"$text" >"$output" 2>"$texts/log" || true
+    tail -1 "$texts/spent" | awk '{ printf "%d", ($1 + $2) * 1000 }'
+}
+
+# What a tool pads its output with is dropped where bytes are counted.
+without_padding() {
+    cat
+}
+
+print_stream_head() {
+    echo "$(nproc) cores, $(wc --version | head -1)"
+    printf '%-26s %10s %10s %8s %8s\n' call call-ms GNU-ms ratio peak-MB
+}
+
+# A row: a utility as a stream over the pieces of the text, beside GNU's that reads it from its standard input and writes to /dev/null:
+# compare_stream UTILITY WORD.. The outputs have to have as many bytes.
+compare_stream() {
+    local best=0 other=0 time round bytes peak
+    bytes=$("$@" <"$text" | without_padding | wc -c)
+    for ((round = 0; round < 5; round++)); do
+        time=$(spent_on_text "$texts/found" "$crate/out/pash_bench" stream "$text" "$@")
+        ((best == 0 || time < best)) && best=$time
+        [ "$(cat "$texts/found")" = "$bytes" ] || {
+            echo "$*: $(cat "$texts/found") bytes in place of $bytes" >&2
+            exit 1
+        }
+        time=$(spent_on_text /dev/null "$@")
+        ((other == 0 || time < other)) && other=$time
+    done
+    peak=$(/usr/bin/time -f %M "$crate/out/pash_bench" stream "$text" "$@" 2>&1 >"$texts/found" | tail -1)
+    awk -v label="${*//$'\n'/newline}" -v best="$best" -v other="$other" -v peak="$peak" 'BEGIN {
+        printf "%-26s %10d %10d %8.2f %8d\n", label, best, other, other ? best / other : 0, peak / 1024
+    }'
 }

@@ -1,5 +1,5 @@
--- Every invocation that was read is one of the shell's own commands, or tee, or built: tail and uniq are read with one operand at most.
-use Rattle.std.proofs.Common.{◌≡◌, ℕ, Bool, true, false, List, [], ◌∷◌, Option, Some, None, option_map, Result, Ok, Err, length, refl, subst, codes, if◌then◌else◌, ◌||◌, ◌&&◌, ◌==◌, not}
+-- Every invocation that was read is one of the shell's own commands, or built: tail and uniq are read with one operand at most.
+use Rattle.std.proofs.Common.{◌≡◌, ℕ, Bool, true, false, List, [], ◌∷◌, Option, Some, None, option_map, Result, Ok, Err, length, refl, codes, if◌then◌else◌, ◌||◌, ◌&&◌, ◌==◌, not}
 use Rattle.std.proofs.lemmas.Bool.{true≢false}
 use Rattle.std.proofs.lemmas.Result.{IfOk-at_ok}
 use Rattle.std.specs.Option.{IfSome}
@@ -33,7 +33,7 @@ use Rattle.ut_args.specs.declared.invocations.Inv.TheVariants as inv
 use Rattle.ut_args.specs.declared.names.Name.{Name}
 use Rattle.ut_args.specs.declared.names.Name.TheVariants as name
 use Rattle.sh_eval.specs.Asking.{does}
-use Rattle.sh_eval.specs.Inner.Doing.{is_own, tee_of}
+use Rattle.sh_eval.specs.Inner.Doing.{is_own}
 
 -- its operands are so few
 abbrev fits : Command → Bool
@@ -196,40 +196,29 @@ fits-invocation (name ∷ words) = fits-known (name_of name) name words
 fits-asked : (words : List (List ℕ)) (asked : Command) → invocation words ≡ Ok asked → Fits asked
 fits-asked words asked read = IfOk-at_ok Fits read (fits-invocation words)
 
--- no tee
-is_tee-so : {X : Type 0} (it : X) → Some it ≡ None → ⊥
-is_tee-so {X} it is = subst_some is
-  where
-    some : Option X → Type 0
-    some None = ⊥
-    some (Some value) = Unit {0}
-
-    subst_some : Some it ≡ None → ⊥
-    subst_some is = subst some is tt
-
 -- an invocation
-pub built-so : (it : Inv) → is_own (does [] [] (command_of it)) ≡ false → tee_of (command_of it) ≡ None → is_built_of it ≡ true
-built-so (inv.Cat it) other none = refl
-built-so (inv.Grep it) other none = refl
-built-so (inv.Tr it) other none = refl
-built-so (inv.Cut it) other none = refl
-built-so (inv.Head it) other none = refl
-built-so (inv.Tail it) other none = fits-asked it.words (command.Tail it.args) it.read
-built-so (inv.Wc it) other none = refl
-built-so (inv.Uniq it) other none = fits-asked it.words (command.Uniq it.args) it.read
-built-so (inv.Sort it) other none = refl
-built-so (inv.Paste it) other none = refl
-built-so (inv.Tee it) other none = absurd (is_tee-so it.args none)
-built-so (inv.True it) other none = absurd (true≢false other)
-built-so (inv.False it) other none = absurd (true≢false other)
-built-so (inv.Colon it) other none = absurd (true≢false other)
-built-so (inv.Break it) other none = absurd (true≢false other)
-built-so (inv.Continue it) other none = absurd (true≢false other)
-built-so (inv.Exit it) other none = absurd (true≢false other)
-built-so (inv.Set it) other none = absurd (true≢false other)
-built-so (inv.Shift it) other none = absurd (true≢false other)
-built-so (inv.Unset it) other none = absurd (true≢false other)
-built-so (inv.Read it) other none = absurd (true≢false other)
-built-so (inv.Test it) other none = absurd (true≢false other)
-built-so (inv.Bracket it) other none = absurd (true≢false other)
-built-so (inv.Echo it) other none = absurd (true≢false other)
+pub built-so : (it : Inv) → is_own (does [] [] (command_of it)) ≡ false → is_built_of it ≡ true
+built-so (inv.Cat it) other = refl
+built-so (inv.Grep it) other = refl
+built-so (inv.Tr it) other = refl
+built-so (inv.Cut it) other = refl
+built-so (inv.Head it) other = refl
+built-so (inv.Tail it) other = fits-asked it.words (command.Tail it.args) it.read
+built-so (inv.Wc it) other = refl
+built-so (inv.Uniq it) other = fits-asked it.words (command.Uniq it.args) it.read
+built-so (inv.Sort it) other = refl
+built-so (inv.Paste it) other = refl
+built-so (inv.Tee it) other = refl
+built-so (inv.True it) other = absurd (true≢false other)
+built-so (inv.False it) other = absurd (true≢false other)
+built-so (inv.Colon it) other = absurd (true≢false other)
+built-so (inv.Break it) other = absurd (true≢false other)
+built-so (inv.Continue it) other = absurd (true≢false other)
+built-so (inv.Exit it) other = absurd (true≢false other)
+built-so (inv.Set it) other = absurd (true≢false other)
+built-so (inv.Shift it) other = absurd (true≢false other)
+built-so (inv.Unset it) other = absurd (true≢false other)
+built-so (inv.Read it) other = absurd (true≢false other)
+built-so (inv.Test it) other = absurd (true≢false other)
+built-so (inv.Bracket it) other = absurd (true≢false other)
+built-so (inv.Echo it) other = absurd (true≢false other)

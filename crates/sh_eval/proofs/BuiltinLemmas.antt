@@ -44,7 +44,7 @@ means_of none no_name = none
 means_of none (unknown name) = none
 means_of none (unlisted name letter) = none
 means_of none (unusable is_special name) = none
-means_of none (tee name args) = none
+means_of none (tee name called) = none
 means_of none (utility name called) = none
 means_of none (builtin is_special means) = means
 
@@ -84,7 +84,7 @@ AddsIfAsked no_name = Unit {0}
 AddsIfAsked (unknown name) = Unit {0}
 AddsIfAsked (unlisted name letter) = Unit {0}
 AddsIfAsked (unusable is_special name) = Unit {0}
-AddsIfAsked (tee name args) = Unit {0}
+AddsIfAsked (tee name called) = Unit {0}
 AddsIfAsked (utility name called) = Unit {0}
 AddsIfAsked (builtin is_special means) = Adds means
 

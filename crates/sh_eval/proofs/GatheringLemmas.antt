@@ -82,7 +82,7 @@ module _ (inv : Inv) (can : CanBeMember inv) where
   checked-so : (expansions : Expansions) (state : State) → first_busy state.session.streams.held (flat_map (read_use state) (operands_of inv)) ≡ None
       → checked expansions pages [] [] (does (name_of called) (words_of inv) (command_of inv)) state ≡ runs state
   checked-so expansions state free =
-      ap (λ (it : Asked). checked expansions pages [] [] it state) (utility-so (name_of called) (words_of inv) (command_of inv) can.built)
+      ap (λ (it : Asked). checked expansions pages [] [] it state) (utility-so (name_of called) inv can.built can.no_tee)
       ∙ ap (λ (it : Patterns). by_patterns expansions pages (name_of called) called [] [] it state) can.patterns
       ∙ ap (λ (it : Bool). if it then refused refusal.ArgsTooMany state else done expansions false [] (uses_by_operands pages called) [] runs state)
       (not-more (length (operands_of inv)) can.few)

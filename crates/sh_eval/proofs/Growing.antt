@@ -34,18 +34,17 @@ use Rattle.sh_eval.specs.Targets.{Target}
 use Rattle.sh_eval.specs.Redirections.{Use, file_begun, named_by, unless_busy, where_free, first_busy, Redirected, led, stopped, reading_at, writing_at, redirected, leads_to, goes_on_in, redirecting, in_redirections, uses_of, holding}
 use Rattle.fl_segments.specs.Noted.{Noted}
 use Rattle.fl_commands.specs.Inputs.{noted_over, status_of}
-use Rattle.sh_eval.specs.Inner.Runs.{Does, takes}
+use Rattle.sh_eval.specs.Inner.Runs.{Does, takes, tee_does}
 use Rattle.sh_eval.specs.Utilities.{Called, deals, needs_all, notes, words_without, Pages, Patterns, read, wrong, refers_back, given_to, inputs_in, has_none, reads_standard, taken_in, takes_inputs, tells_some, lines_told, writes_out, does_nothing, runs_utility, uses_by_operands}
-use Rattle.sh_eval.specs.Teeing.{Made, copies, making, making_at, none_made, spreads, tees, tells_and_copies, uses_by_files, with_place, without, writes}
+use Rattle.sh_eval.specs.Teeing.{Made, begins_anew, copies, making, making_at, none_made, status_by, tees, tells_and_copies, uses_by_files, with_file, without, writes}
 use Rattle.sh_eval.specs.Builtins.{misused, answers, sets, shifts, set_all, line_in, behind_line, reads}
 use Rattle.sh_eval.specs.Asking.{Asked, no_name, unknown, unlisted, unusable, tee, utility, builtin, at_fault, does, asked_as, asked_by}
 use Rattle.sh_eval.specs.Simple.{assigned_for, done, where_few, by_patterns, checked, runs_simple, most_operands}
 use Rattle.sh_eval.specs.Meaning.{held_in, has_item, list_means, and_or_means, joined_means, pipeline_means, stages_means, later_stages_mean, command_means, branches_mean, else_means, simple_means, in_means, words_mean, tail_means, subs_mean, script_means}
-use Rattle.ut_args.specs.Inputs.{operands_by}
+use Rattle.ut_args.specs.Inputs.{files_by, operands_by}
 use Rattle.ut_args.specs.Reading.{invocation}
 use Rattle.ut_args.specs.declared.commands.Command.{Command}
 use Rattle.ut_args.specs.declared.commands.Command.TheVariants as command
-use Rattle.ut_args.specs.declared.commands.TeeArgs.{TeeArgs}
 use Rattle.ut_args.specs.declared.faults.ArgFault.{ArgFault}
 use Rattle.ut_args.specs.declared.faults.ArgFault.TheVariants as arg
 use Rattle.ut_test.specs.declared.outcomes.Tested.{Tested}
@@ -338,13 +337,19 @@ grows-tells_some start (byte ∷ bytes) state grows = grows-tells start (byte �
 grows-notes : (start : State) (ran : List Noted) (state : State) → Grows start state → Grows start (in_world (notes ran) state)
 grows-notes start ran state grows = record { output = grows.output; errors = grows.errors; turns = grows.turns }
 
-pub adds-takes : (does : Does) → Adds (takes does)
-adds-takes does state =
+pub grows-writes : (start : State) (files : List Components) (bytes : List ℕ) (state : State) → Grows start state → Grows start (writes files bytes state)
+grows-writes start [] bytes state grows = grows
+grows-writes start (path ∷ files) bytes state grows =
+    grows-writes start files bytes (write (to.File path) bytes state) (grows-trans start state (write (to.File path) bytes state) grows (grows-write (to.File path) bytes state))
+
+pub adds-takes : (files : List Components) (does : Does) → Adds (takes files does)
+adds-takes files does state =
     let taken = taken_in does.reads state in
     let taken_grows = grows-if state does.reads (reads_to [] state) state (grows-reads_to state [] state (grows-self state)) (grows-self state) in
     let noted = in_world (notes (does.ran state)) taken in
     let noted_grows = grows-notes state (does.ran state) taken taken_grows in
-    grows-puts state (does.written state) (leaves (does.status state) noted) (record { output = noted_grows.output; errors = noted_grows.errors; turns = noted_grows.turns })
+    grows-writes state files (does.written state) (puts (does.written state) (leaves (does.status state) noted))
+    (grows-puts state (does.written state) (leaves (does.status state) noted) (record { output = noted_grows.output; errors = noted_grows.errors; turns = noted_grows.turns }))
 
 module _ (pages : Pages) where
   pub adds-takes_inputs : (name : List ℕ) (called : Called) → Adds (takes_inputs pages name called)
@@ -380,40 +385,27 @@ module _ (pages : Pages) where
 adds-making_at : (anew : Bool) (name text : List ℕ) (at : Place) (made : Made) (next : Made → Means) → ((made : Made) → Adds (next made)) → Adds (making_at anew name text at made next)
 adds-making_at anew name text place.Missing made next adds state = adds (without (diagnostic name text no_such_file) made) state
 adds-making_at anew name text (place.Makeable path) made next adds state =
-    grows-trans state (in_world (file_begun anew path) state) (next (with_place (to.File path) made) (in_world (file_begun anew path) state)).state (grows-self state) (adds (with_place (to.File path) made) (in_world (file_begun anew path) state))
+    grows-trans state (in_world (file_begun anew path) state) (next (with_file path made) (in_world (file_begun anew path) state)).state (grows-self state) (adds (with_file path made) (in_world (file_begun anew path) state))
 adds-making_at anew name text (place.Dir path) made next adds state = adds (without (diagnostic name text is_a_directory) made) state
 adds-making_at anew name text (place.File path) made next adds state =
-    grows-trans state (in_world (file_begun anew path) state) (next (with_place (to.File path) made) (in_world (file_begun anew path) state)).state (grows-self state) (adds (with_place (to.File path) made) (in_world (file_begun anew path) state))
-adds-making_at anew name text place.Null made next adds state = adds (with_place to.Null made) state
+    grows-trans state (in_world (file_begun anew path) state) (next (with_file path made) (in_world (file_begun anew path) state)).state (grows-self state) (adds (with_file path made) (in_world (file_begun anew path) state))
+adds-making_at anew name text place.Null made next adds state = adds made state
 
 adds-making : (anew : Bool) (name : List ℕ) (texts : List (List ℕ)) (made : Made) (next : Made → Means) → ((made : Made) → Adds (next made)) → Adds (making anew name texts made next)
 adds-making anew name [] made next adds state = adds made state
 adds-making anew name (text ∷ texts) made next adds state =
     adds-making_at anew name text (named_by state text) made (λ behind. making anew name texts behind next) (λ behind. adds-making anew name texts behind next adds) state
 
-pub grows-writes : (start : State) (places : List To) (bytes : List ℕ) (state : State) → Grows start state → Grows start (writes places bytes state)
-grows-writes start [] bytes state grows = grows
-grows-writes start (place ∷ places) bytes state grows =
-    grows-writes start places bytes (write place bytes state) (grows-trans start state (write place bytes state) grows (grows-write place bytes state))
+pub adds-copies : (called : Called) (files : List Components) (is_whole : Bool) → Adds (copies called files is_whole)
+adds-copies called files is_whole state = adds-takes files (tee_does called (status_by is_whole)) state
 
-pub adds-spreads : (places : List To) (text : List ℕ) → Adds (spreads places text)
-adds-spreads places text state = grows-writes state places text (puts text state) (grows-puts state text state (grows-self state))
+adds-tells_and_copies : (called : Called) (made : Made) → Adds (tells_and_copies called made)
+adds-tells_and_copies called made state =
+    grows-trans state (tells_some made.lines state) (copies called made.files made.is_whole (tells_some made.lines state)).state
+    (grows-tells_some state made.lines state (grows-self state)) (adds-copies called made.files made.is_whole (tells_some made.lines state))
 
-pub adds-copies : (places : List To) (is_whole : Bool) → Adds (copies places is_whole)
-adds-copies places is_whole state =
-    let taken : State = reads_to [] state in
-    let taken_grows = grows-reads_to state [] state (grows-self state) in
-    let left : State = leaves (if is_whole then 0 else 1) taken in
-    grows-writes state places (to_read state) (puts (to_read state) left)
-    (grows-puts state (to_read state) left (record { output = taken_grows.output; errors = taken_grows.errors; turns = taken_grows.turns }))
-
-adds-tells_and_copies : (made : Made) → Adds (tells_and_copies made)
-adds-tells_and_copies made state =
-    grows-trans state (tells_some made.lines state) (copies made.places made.is_whole (tells_some made.lines state)).state
-    (grows-tells_some state made.lines state (grows-self state)) (adds-copies made.places made.is_whole (tells_some made.lines state))
-
-pub adds-tees : (name : List ℕ) (args : TeeArgs) → Adds (tees name args)
-adds-tees name args state = adds-making (not args.appends) name args.files none_made tells_and_copies adds-tells_and_copies state
+pub adds-tees : (name : List ℕ) (called : Called) → Adds (tees name called)
+adds-tees name called state = adds-making (begins_anew called.command) name (files_by called.command) none_made (tells_and_copies called) (adds-tells_and_copies called) state
 
 -- BUILT-INS
 pub adds-misused : (how : Flow) (name : List ℕ) → Adds (misused how name)
@@ -447,7 +439,7 @@ AddsAsked no_name = Unit {0}
 AddsAsked (unknown name) = Unit {0}
 AddsAsked (unlisted name letter) = Unit {0}
 AddsAsked (unusable is_special name) = Unit {0}
-AddsAsked (tee name args) = Unit {0}
+AddsAsked (tee name called) = Unit {0}
 AddsAsked (utility name called) = Unit {0}
 AddsAsked (builtin is_special means) = Adds means
 
@@ -519,8 +511,8 @@ module _ (expansions : Expansions) where
     adds-checked assigns targets (unlisted name letter) adds state = grows-self state
     adds-checked assigns targets (unusable is_special name) adds state =
         adds-done is_special assigns (λ state. []) targets (misused (at_fault is_special) name) (adds-misused (at_fault is_special) name) state
-    adds-checked assigns targets (tee name args) adds state =
-        adds-where_few args.files (done expansions false assigns (uses_by_files args) targets (tees name args)) (adds-done false assigns (uses_by_files args) targets (tees name args) (adds-tees name args)) state
+    adds-checked assigns targets (tee name called) adds state =
+        adds-where_few (files_by called.command) (done expansions false assigns (uses_by_files called) targets (tees name called)) (adds-done false assigns (uses_by_files called) targets (tees name called) (adds-tees name called)) state
     adds-checked assigns targets (utility name called) adds state = adds-by_patterns name called assigns targets (pages.patterns called.command) state
     adds-checked assigns targets (builtin is_special means) adds state = adds-done is_special assigns (λ state. []) targets means adds state
 

@@ -3,15 +3,18 @@ use Rattle.std.proofs.Common.{◌≡◌, ◌≤◌, ℕ, List, [], ◌∷◌, �
 use Rattle.std.proofs.lemmas.Bool.{true≢false}
 use Rattle.std.specs.Option.{option_map, unwrap_or}
 use Rattle.ps_world.specs.Files.{Files, NoWriterOut}
+use Rattle.ps_world.specs.Paths.{Components}
 use Rattle.ps_world.specs.Told.{then_bytes, GrewByPrefix}
 use Rattle.ps_world.specs.TreeState.{TreeState}
 use Rattle.ps_world.proofs.ToldLemmas.{then_bytes-append, grew_by_more, grew_by_whole}
+use Rattle.ps_world.proofs.WritingLemmas.{no_writer_out-filled}
 use Rattle.fl_engines.specs.Logs.{Log, log_of}
 use Rattle.fl_segments.specs.Noted.{Noted, used_at}
 use Rattle.fl_segments.specs.declared.stages.First.{First}
 use Rattle.fl_segments.proofs.NotedLemmas.{used-append}
 use Rattle.fl_commands.specs.Runs as runs
 use Rattle.fl_commands.specs.Runs.{Asks, Runs, counts_of, left_behind}
+use Rattle.fl_commands.specs.Writers.{AreFilesAt, AreFilled, filled}
 use Rattle.fl_commands.specs.declared.runs.Ended.{Ended}
 use Rattle.fl_commands.specs.declared.runs.Ended.TheVariants as ended
 use Rattle.sh_eval.specs.declared.flows.Flow.TheVariants as flow
@@ -25,14 +28,17 @@ use Rattle.sh_eval.specs.declared.streams.To.{To}
 use Rattle.sh_eval.specs.declared.streams.To.TheVariants as to
 use Rattle.sh_eval.specs.declared.utilities.Task.{Task}
 use Rattle.sh_eval.specs.declared.utilities.Task.TheVariants as task
-use Rattle.sh_eval.specs.Contract.{Seen, drawn_of, Faults, faults_of, Point, point_of, seen_of, Base, then_ran, Has, HasEnd, IsBehind, Comes, NoFewer, HasCause, IsSound, HeldStays, Keeps, Meaning, Evaluates, goes_on}
+use Rattle.sh_eval.specs.Contract.{Seen, drawn_of, Faults, faults_of, Point, point_of, seen_of, Base, then_ran, Has, HasEnd, IsBehind, Comes, NoFewer, HasCause, IsGone, IsSound, HeldStays, Keeps, Meaning, Evaluates, Stay, goes_on}
 use Rattle.sh_eval.specs.Inner.Inputs.{TakesStream, how_ended, is_own_input, shell_ended, taken_from, text_from}
-use Rattle.sh_eval.specs.Inner.Runs.{AreMeant, Begins, CanRun, Does, IsMeant, asks_of, takes, takes_in}
+use Rattle.sh_eval.specs.Inner.Runs.{AreMeant, Begins, CanRun, Does, IsMeant, asks_of, ended_with, given_all, takes, takes_in}
 use Rattle.sh_eval.specs.Shells.{with_status}
 use Rattle.sh_eval.specs.States.{State, in_world, leaves, leaving, left_in, on, puts, reading, write}
+use Rattle.sh_eval.specs.Teeing.{spreads, writes}
 use Rattle.sh_eval.specs.Utilities.{notes, taken_in}
+use Rattle.sh_eval.specs.Writing.{added_to}
 use Rattle.sh_eval.proofs.Growing.{adds-takes}
 use Rattle.sh_eval.proofs.Steps.{behind-told, followed, held-none, meant-at, sound-behind}
+use Rattle.sh_eval.proofs.WritingLemmas.{stay-filled}
 
 then-more : (base : Option Log) (first second : List Noted) → then_ran (then_ran base first) second ≡ then_ran base (first ++ second)
 then-more None first second = refl
@@ -144,8 +150,8 @@ module _ (does : Does) where
   pub nothing-written : (state : State) → ((takes_in does state).world.output ≡ state.world.output) × ((takes_in does state).world.errors ≡ state.world.errors)
   nothing-written state = written-same does.reads state.session.streams.from state
 
-  abbrev pub meant_by : Meaning
-  meant_by expansions state = takes does state
+  abbrev pub meant_by : List Components → Meaning
+  meant_by files expansions state = takes files does state
 
 -- what a run begins with
 text-is : (place : From) (state : State) → left_in place state.world ≡ text_from place state.world.input
@@ -219,15 +225,125 @@ cause-so ended.Memory old new of_errors cause = tt
 held-same : (old new : Option Files) → new ≡ old → HeldStays old new
 held-same old new is = subst (λ (it : Option Files). HeldStays old it) (sym is) (held-none old)
 
--- no task writes files beside its output
-pub no-files : (it : Task) (tree : TreeState) → CanRun it tree → (first : First) → (asks_of it first).paths ≡ []
-no-files (task.Utility inv operands) tree can first = refl
-no-files (task.Pipeline members) tree can first = can.teeless
+-- FILES that a task writes beside its output: those that it is handed
+pub own-files : (it : Task) (files : List Components) (tree : TreeState) → CanRun it files tree → (first : First) → (asks_of it files first).paths ≡ files
+own-files (task.Utility inv operands) files tree can first = sym can.fileless
+own-files (task.Tee inv status) files tree can first = refl
+own-files (task.Pipeline members) files tree can first = can.teeless ∙ sym can.fileless
+
+-- it runs without them too
+none-there : (held : Option Files) → IfSome held (λ files. AreFilesAt files [])
+none-there None = tt
+none-there (Some files) = tt
+
+pub runs-alone : (it : Task) (files : List Components) (tree : TreeState) → CanRun it files tree → CanRun it [] tree
+runs-alone (task.Utility inv operands) files tree can = record { fileless = refl; built = can.built; named = can.named; few = can.few; stand = can.stand }
+runs-alone (task.Tee inv status) files tree can = record { tee = can.tee; there = none-there tree.held }
+runs-alone (task.Pipeline members) files tree can = record { fileless = refl; some = can.some; most = can.most; ready = can.ready; teeless = can.teeless; stand = can.stand }
+
+pub files-there : (it : Task) (files : List Components) (tree : TreeState) → CanRun it files tree → IfSome tree.held (λ held. AreFilesAt held files)
+files-there (task.Utility inv operands) files tree can = subst (λ (it : List Components). IfSome tree.held (λ held. AreFilesAt held it)) (sym can.fileless) (none-there tree.held)
+files-there (task.Tee inv status) files tree can = can.there
+files-there (task.Pipeline members) files tree can = subst (λ (it : List Components). IfSome tree.held (λ held. AreFilesAt held it)) (sym can.fileless) (none-there tree.held)
+
+pub no-files : (it : Task) (files : List Components) (tree : TreeState) → CanRun it files tree → (first : First) → (asks_of it [] first).paths ≡ []
+no-files it files tree can first = own-files it [] tree (runs-alone it files tree can) first
+
+-- files that are filled are files still, and no writer is out
+stay-all : (paths : List Components) (texts : List (List ℕ)) (files : Files) → Stay files (filled paths texts files)
+stay-all [] texts files = record { files = λ path is. is }
+stay-all (path ∷ paths) [] files = record { files = λ path is. is }
+stay-all (path ∷ paths) (text ∷ texts) files =
+    let rest = stay-all paths texts files in
+    let here = stay-filled (filled paths texts files) path text in
+    record { files = λ other is. here.files other (rest.files other is) }
+
+whole-all : (paths : List Components) (texts : List (List ℕ)) (files : Files) → NoWriterOut files → NoWriterOut (filled paths texts files)
+whole-all [] texts files whole = whole
+whole-all (path ∷ paths) [] files whole = whole
+whole-all (path ∷ paths) (text ∷ texts) files whole = no_writer_out-filled (filled paths texts files) path text (whole-all paths texts files whole)
+
+stays-filled : (paths : List Components) (held held' : Option Files) → AreFilled paths held held' → HeldStays held held'
+stays-filled paths None held' are = are.is
+stays-filled paths (Some files) held' are = record { new = filled paths are.texts files; told = are.is; stay = stay-all paths are.texts files }
+
+whole-filled : (paths : List Components) (held held' : Option Files) → AreFilled paths held held' → IfSome held NoWriterOut → IfSome held' NoWriterOut
+whole-filled paths held held' are whole = subst (λ (it : Option Files). IfSome it NoWriterOut) (sym are.is) (by_held held whole)
+  where
+    by_held : (it : Option Files) → IfSome it NoWriterOut → IfSome (option_map (filled paths are.texts) it) NoWriterOut
+    by_held None whole = tt
+    by_held (Some files) whole = whole-all paths are.texts files whole
+
+-- what is written to files is theirs alone
+behind-writes : (files : List Components) (text : List ℕ) (base : Base) (seen : Seen) (state : State) → IsBehind base seen state.world → IsBehind base seen (writes files text state).world
+behind-writes [] text base seen state behind = behind
+behind-writes (path ∷ files) text base seen state behind = behind-writes files text base seen (write (to.File path) text state) (record { output = behind.output; errors = behind.errors })
+
+files-so : (files : List Components) (text : List ℕ) (base : Base) (shell : Shell) (session : Session) (tree tree' : TreeState) (seen : Seen) (faults : Faults) (state : State) → Has base (point_of shell session tree seen faults) state
+    → tree'.home ≡ tree.home → tree'.held ≡ Some (given_all files text state.world.files) → Has base (point_of shell session tree' seen faults) (writes files text state)
+files-so [] text base shell session tree tree' seen faults state has home held =
+    record { shell = has.shell; session = has.session; home = home ∙ has.home; held = held; seen = has.seen }
+files-so (path ∷ files) text base shell session tree tree' seen faults state has home held =
+    files-so files text base shell session (record { home = tree.home; held = Some (added_to path text state.world.files); lent = tree.lent; back = tree.back }) tree' seen faults (write (to.File path) text state)
+    (record { shell = has.shell; session = has.session; home = has.home; held = refl; seen = has.seen }) home held
+
+-- what holds where a run has come to its end
+of-done : (came : Ended) (P : Type 0) → IsGone (how_ended came) → runs.IfDone came (λ status. P) → P
+of-done (ended.Done status) P gone holds = holds
+of-done ended.Input P gone holds = absurd gone
+of-done ended.Output P gone holds = absurd gone
+of-done ended.Tree P gone holds = absurd gone
+of-done ended.Memory P gone holds = absurd gone
+
+-- a run leaves the status that it is told to
+module _ (asks : Asks) (status : ℕ) (tree tree' : TreeState) (left left' taken taken' : Option (List ℕ)) (old new : runs.Counts) (used used' : Option Log) where
+  abbrev Leaves : Ended → Type 0
+  Leaves came = Runs (record asks { status = λ input files. status }) tree tree' left left' taken taken' old new used used' came
+
+  leaves-by : (came : Ended) → Runs asks tree tree' left left' taken taken' old new used used' came
+      → ((input : List ℕ) (files : Files) → tree.held ≡ Some files → left ≡ Some input → runs.IfDone came (λ its. its ≡ status)) → Leaves came
+  leaves-by came ran left_is =
+      record {
+        output = ran.output;
+        status = left_is;
+        read = ran.read;
+        noted = ran.noted;
+        added = ran.added;
+        filled = ran.filled;
+        part = ran.part;
+        held = ran.held;
+        lent = ran.lent;
+        later = ran.later;
+        cause = ran.cause;
+      }
+
+  leaves-with : (came : Ended) → Runs asks tree tree' left left' taken taken' old new used used' came → Leaves (ended_with status came)
+  leaves-with (ended.Done its) ran =
+      record {
+        output = ran.output;
+        status = λ input files told given. refl;
+        read = ran.read;
+        noted = ran.noted;
+        added = ran.added;
+        filled = ran.filled;
+        part = ran.part;
+        held = ran.held;
+        lent = ran.lent;
+        later = ran.later;
+        cause = ran.cause;
+      }
+  leaves-with ended.Input ran = leaves-by ended.Input ran (λ input files told given. tt)
+  leaves-with ended.Output ran = leaves-by ended.Output ran (λ input files told given. tt)
+  leaves-with ended.Tree ran = leaves-by ended.Tree ran (λ input files told given. tt)
+  leaves-with ended.Memory ran = leaves-by ended.Memory ran (λ input files told given. tt)
+
+  pub ran-with : (came its : Ended) → its ≡ ended_with status came → Runs asks tree tree' left left' taken taken' old new used used' came → Leaves its
+  ran-with came its is ran = subst Leaves (sym is) (leaves-with came ran)
 
 -- THE OUTPUT of the run takes what is written
 module _ (asks : First → Asks) (reads : Bool) (does : Does) (first : First) (shell shell' : Shell) (session session' : Session) (tree tree' : TreeState) (left left' taken taken' errors : Option (List ℕ))
     (used used' : Option Log) (old new : runs.Counts) (of_errors : ℕ) (came : Ended)
-    (meant : AreMeant asks reads does tree) (none : (asks first).paths ≡ []) (stream : TakesStream reads session session' first) (shell-is : shell' ≡ shell_ended came shell)
+    (meant : AreMeant asks reads does tree) (files : List Components) (own : (asks first).paths ≡ files) (stream : TakesStream reads session session' first) (shell-is : shell' ≡ shell_ended came shell)
     (ran : Runs (asks first) tree tree' left left' taken taken' old new used used' came) where
   abbrev old-point : Point
   old-point = point_of shell session tree (seen_of (drawn_of left used) taken errors) (all_counts old of_errors)
@@ -239,30 +355,28 @@ module _ (asks : First → Asks) (reads : Bool) (does : Does) (first : First) (s
   meant-so base state has = meant-here asks reads does first shell session session' tree tree' left left' used used' taken errors (all_counts old of_errors) (all_counts new of_errors) meant stream base state has
 
   -- a front of the output is written, in the place of which this many bytes are meant
-  behind-so : (base : Base) (state : State) → Has base old-point state → session.streams.to ≡ to.Output → IsBehind base (seen_of (drawn_of left' used') taken' errors) (takes does state).state.world
+  behind-so : (base : Base) (state : State) → Has base old-point state → session.streams.to ≡ to.Output → IsBehind base (seen_of (drawn_of left' used') taken' errors) (takes files does state).state.world
   behind-so base state has leads =
-      subst (λ (it : To). IsBehind base (seen_of (drawn_of left' used') taken' errors) (write it (does.written state) (takes_in does state)).world)
+      behind-writes files (does.written state) base (seen_of (drawn_of left' used') taken' errors) (puts (does.written state) (takes_in does state))
+      (subst (λ (it : To). IsBehind base (seen_of (drawn_of left' used') taken' errors) (write it (does.written state) (takes_in does state)).world)
       (sym (to-is does state ∙ sym (ap (λ (it : Session). it.streams.to) has.session) ∙ leads))
       (record {
         output = subst (λ (it : List ℕ). GrewByPrefix base.taken taken' (it ++ does.written state)) (sym (nothing-written does state).0)
             (grew_by_more base.taken taken taken' state.world.output (does.written state) (ap (λ (it : Seen). it.taken) has.seen) part);
         errors = subst (λ (it : List ℕ). GrewByPrefix base.errors errors it) (sym (nothing-written does state).1) (grew_by_whole base.errors errors state.world.errors (ap (λ (it : Seen). it.errors) has.seen));
-      })
+      }))
     where
       part : GrewByPrefix taken taken' (does.written state)
       part = subst (λ (it : List ℕ). GrewByPrefix taken taken' it) (meant-so base state has).output (ran.part state.world.input state.world.files has.held (ap (λ (it : Seen). it.drawn.left) has.seen))
 
   -- all that the meaning says comes of it
-  comes-so : (came' : Ended) → came ≡ came' → session.streams.to ≡ to.Output → (base : Base) (state : State) → Has base old-point state → Comes base (how_ended came') new-point (takes does state)
+  comes-so : (came' : Ended) → came ≡ came' → session.streams.to ≡ to.Output → (base : Base) (state : State) → Has base old-point state → Comes base (how_ended came') new-point (takes files does state)
   comes-so (ended.Done status) is leads base state has =
       record {
         flow = refl;
-        has = subst (λ (it : To). Has base new-point (write it (does.written state) (takes_in does state)))
-            (sym (to-is does state ∙ sym (ap (λ (it : Session). it.streams.to) has.session) ∙ leads))
-            (writes-so base shell' session' tree' left' taken errors used' (all_counts new of_errors) (takes_in does state)
-            (ends-so asks reads does first shell session session' tree tree' left left' used used' taken errors (all_counts old of_errors) (all_counts new of_errors) meant stream base state has
-            shell' status (shell-is ∙ ap (λ (it : Ended). shell_ended it shell) is) ran.lent.home (ran.held none) (done _ ran.status) (whole _ ran.read) (whole _ ran.noted))
-            taken' (does.written state) (done _ ran.output ∙ ap (then_bytes taken) (meant-so base state has).output));
+        has = files-so files (does.written state) base shell' session' tree tree' (seen_of (drawn_of left' used') taken' errors) (all_counts new of_errors) (puts (does.written state) (takes_in does state)) put ran.lent.home
+            (done _ ran.added ∙ ap Some ((meant-so base state has).added state.world.files ∙ ap (λ (it : List Components). given_all it (does.written state) state.world.files) own)
+            ∙ ap (option_map (given_all files (does.written state))) (sym has.held ∙ put.held));
       }
     where
       done : (P : List ℕ → Files → ℕ → Type 0) → ((input : List ℕ) (files : Files) → tree.held ≡ Some files → left ≡ Some input → runs.IfDone came (P input files)) → P state.world.input state.world.files status
@@ -270,20 +384,30 @@ module _ (asks : First → Asks) (reads : Bool) (does : Does) (first : First) (s
 
       whole : (P : ℕ → Type 0) → runs.IfDone came P → P status
       whole P clause = subst (λ (it : Ended). runs.IfDone it P) is clause
+
+      -- before the files
+      put : Has base (point_of shell' session' tree (seen_of (drawn_of left' used') taken' errors) (all_counts new of_errors)) (puts (does.written state) (takes_in does state))
+      put =
+          subst (λ (it : To). Has base (point_of shell' session' tree (seen_of (drawn_of left' used') taken' errors) (all_counts new of_errors)) (write it (does.written state) (takes_in does state)))
+          (sym (to-is does state ∙ sym (ap (λ (it : Session). it.streams.to) has.session) ∙ leads))
+          (writes-so base shell' session' tree left' taken errors used' (all_counts new of_errors) (takes_in does state)
+          (ends-so asks reads does first shell session session' tree tree left left' used used' taken errors (all_counts old of_errors) (all_counts new of_errors) meant stream base state has
+          shell' status (shell-is ∙ ap (λ (it : Ended). shell_ended it shell) is) refl refl (done _ ran.status) (whole _ ran.read) (whole _ ran.noted))
+          taken' (does.written state) (done _ ran.output ∙ ap (then_bytes taken) (meant-so base state has).output))
   comes-so ended.Input is leads base state has = behind-so base state has leads
   comes-so ended.Output is leads base state has = behind-so base state has leads
   comes-so ended.Tree is leads base state has = behind-so base state has leads
   comes-so ended.Memory is leads base state has = behind-so base state has leads
 
   -- the run was evaluated
-  pub written-out : session.streams.to ≡ to.Output → Evaluates (meant_by does) old-point (how_ended came) new-point
+  pub written-out : session.streams.to ≡ to.Output → Evaluates (meant_by does files) old-point (how_ended came) new-point
   written-out leads =
       record {
         comes = λ expansions are base state has. comes-so came refl leads base state has;
         keeps = λ gone.
             record {
-              whole = λ whole. subst (λ (it : Option Files). IfSome it NoWriterOut) (sym (ran.held none)) whole;
-              files = held-same tree.held tree'.held (ran.held none);
+              whole = whole-filled (asks first).paths tree.held tree'.held (of-done came _ gone ran.filled);
+              files = stays-filled (asks first).paths tree.held tree'.held (of-done came _ gone ran.filled);
               output = keeps-to reads session session' stream.session;
               errors = keeps-errors reads session session' stream.session;
             };
@@ -296,7 +420,7 @@ module _ (asks : First → Asks) (reads : Bool) (does : Does) (first : First) (s
 -- THE OUTPUT of the run is gathered: what is written is nothing so far
 module _ (asks : First → Asks) (reads : Bool) (does : Does) (first : First) (shell shell' : Shell) (session session' : Session) (tree tree' : TreeState) (left left' taken errors : Option (List ℕ)) (text : List ℕ)
     (used used' : Option Log) (input input' of_output of_errors of_tree of_tree' : ℕ) (came : Ended)
-    (meant : AreMeant asks reads does tree) (none : (asks first).paths ≡ []) (stream : TakesStream reads session session' first) (shell-is : shell' ≡ shell_ended came shell)
+    (meant : AreMeant asks reads does tree) (files : List Components) (none : (asks first).paths ≡ []) (stream : TakesStream reads session session' first) (shell-is : shell' ≡ shell_ended came shell)
     (ran : Runs (asks first) tree tree' left left' (Some []) (Some text) (counts_of input 0 of_tree) (counts_of input' 0 of_tree') used used' came) where
   abbrev kept-old : Point
   kept-old = point_of shell session tree (seen_of (drawn_of left used) taken errors) (faults_of input of_output of_errors of_tree)
@@ -305,10 +429,10 @@ module _ (asks : First → Asks) (reads : Bool) (does : Does) (first : First) (s
   kept-new = point_of shell' session' tree' (seen_of (drawn_of left' used') taken errors) (faults_of input' of_output of_errors of_tree')
 
   -- what is there is a front of all that is meant
-  kept-behind : (base : Base) (state : State) → Has base kept-old state → IsBehind base (seen_of (drawn_of left' used') taken errors) (takes does state).state.world
+  kept-behind : (base : Base) (state : State) → Has base kept-old state → IsBehind base (seen_of (drawn_of left' used') taken errors) (takes files does state).state.world
   kept-behind base state has =
-      let behind : IsBehind base (seen_of (drawn_of left used) taken errors) (takes does state).state.world =
-      behind-told base (seen_of (drawn_of left used) taken errors) state (takes does state).state has.seen (adds-takes does state) in
+      let behind : IsBehind base (seen_of (drawn_of left used) taken errors) (takes files does state).state.world =
+      behind-told base (seen_of (drawn_of left used) taken errors) state (takes files does state).state has.seen (adds-takes files does state) in
       record { output = behind.output; errors = behind.errors }
 
   -- where the run has come to its end
@@ -359,14 +483,14 @@ module _ (asks : First → Asks) (reads : Bool) (does : Does) (first : First) (s
 
   -- it has stopped
   stopped-comes : (came' : Ended) → goes_on (how_ended came') ≡ false → (base : Base) (state : State) → Has base kept-old state
-      → Comes base (how_ended came') kept-new (takes does state)
+      → Comes base (how_ended came') kept-new (takes files does state)
   stopped-comes (ended.Done status) gone base state has = absurd (true≢false gone)
   stopped-comes ended.Input gone base state has = kept-behind base state has
   stopped-comes ended.Output gone base state has = kept-behind base state has
   stopped-comes ended.Tree gone base state has = kept-behind base state has
   stopped-comes ended.Memory gone base state has = kept-behind base state has
 
-  pub kept-stopped : goes_on (how_ended came) ≡ false → Evaluates (meant_by does) kept-old (how_ended came) kept-new
+  pub kept-stopped : goes_on (how_ended came) ≡ false → Evaluates (meant_by does files) kept-old (how_ended came) kept-new
   kept-stopped gone =
       record {
         comes = λ expansions are base state has. stopped-comes came gone base state has;
@@ -378,12 +502,12 @@ module _ (asks : First → Asks) (reads : Bool) (does : Does) (first : First) (s
       }
 
   -- or its output is put where descriptor 1 leads
-  pub kept-put : goes_on (how_ended came) ≡ true → (put_how : How) (last : Point) → Evaluates (λ expansions state. on (puts text state)) kept-new put_how last
-      → Evaluates (meant_by does) kept-old put_how last
+  pub kept-put : goes_on (how_ended came) ≡ true → (put_how : How) (last : Point) → Evaluates (λ expansions. spreads files text) kept-new put_how last
+      → Evaluates (meant_by does files) kept-old put_how last
   kept-put gone put_how last put =
-      meant-at (meant_by does) (λ expansions state. on (puts text (takes_in does state))) kept-old last put_how
-      (λ expansions base state has. ap (λ (it : List ℕ). on (puts it (takes_in does state))) (sym (gathered-so came refl gone base state has).1))
-      (followed kept_by (λ expansions state. on (puts text state)) kept-old kept-new last (how.Gone flow.On) put_how refl ran-whole put)
+      meant-at (meant_by does files) (λ expansions state. spreads files text (takes_in does state)) kept-old last put_how
+      (λ expansions base state has. ap (λ (it : List ℕ). spreads files it (takes_in does state)) (sym (gathered-so came refl gone base state has).1))
+      (followed kept_by (λ expansions. spreads files text) kept-old kept-new last (how.Gone flow.On) put_how refl ran-whole put)
     where
       ran-whole : Evaluates kept_by kept-old (how.Gone flow.On) kept-new
       ran-whole =
@@ -406,41 +530,41 @@ module _ (asks : First → Asks) (reads : Bool) (does : Does) (first : First) (s
 -- what a run gives to the evaluation of its inputs, by where descriptor 1 leads
 module _ (asks : First → Asks) (reads : Bool) (does : Does) (first : First) (shell shell' : Shell) (session session' : Session) (tree tree' : TreeState) (left left' taken errors : Option (List ℕ))
     (used used' : Option Log) (came : Ended) (came_how : How)
-    (meant : AreMeant asks reads does tree) (none : (asks first).paths ≡ []) (stream : TakesStream reads session session' first) (shell-is : shell' ≡ shell_ended came shell) (how-is : came_how ≡ how_ended came) where
-  pub ran-out : (taken' : Option (List ℕ)) (input input' output output' of_errors of_tree of_tree' : ℕ) → session'.streams.to ≡ to.Output
+    (meant : AreMeant asks reads does tree) (files : List Components) (stream : TakesStream reads session session' first) (shell-is : shell' ≡ shell_ended came shell) (how-is : came_how ≡ how_ended came) where
+  pub ran-out : (own : (asks first).paths ≡ files) (taken' : Option (List ℕ)) (input input' output output' of_errors of_tree of_tree' : ℕ) → session'.streams.to ≡ to.Output
       → Runs (asks first) tree tree' left left' taken taken' (counts_of input output of_tree) (counts_of input' output' of_tree') used used' came
-      → Evaluates (meant_by does) (point_of shell session tree (seen_of (drawn_of left used) taken errors) (faults_of input output of_errors of_tree)) came_how
+      → Evaluates (meant_by does files) (point_of shell session tree (seen_of (drawn_of left used) taken errors) (faults_of input output of_errors of_tree)) came_how
       (point_of shell' session' tree' (seen_of (drawn_of left' used') taken' errors) (faults_of input' output' of_errors of_tree'))
-  ran-out taken' input input' output output' of_errors of_tree of_tree' leads ran =
+  ran-out own taken' input input' output output' of_errors of_tree of_tree' leads ran =
       rw how-is
       (written-out asks reads does first shell shell' session session' tree tree' left left' taken taken' errors used used' (counts_of input output of_tree) (counts_of input' output' of_tree') of_errors came
-      meant none stream shell-is ran (sym (keeps-to reads session session' stream.session) ∙ leads))
+      meant files own stream shell-is ran (sym (keeps-to reads session session' stream.session) ∙ leads))
 
-  module _ (text : List ℕ) (input input' of_output of_errors of_tree of_tree' : ℕ)
+  module _ (none : (asks first).paths ≡ []) (text : List ℕ) (input input' of_output of_errors of_tree of_tree' : ℕ)
       (ran : Runs (asks first) tree tree' left left' (Some []) (Some text) (counts_of input 0 of_tree) (counts_of input' 0 of_tree') used used' came) where
     pub ran-stopped : goes_on came_how ≡ false
-        → Evaluates (meant_by does) (point_of shell session tree (seen_of (drawn_of left used) taken errors) (faults_of input of_output of_errors of_tree)) came_how
+        → Evaluates (meant_by does files) (point_of shell session tree (seen_of (drawn_of left used) taken errors) (faults_of input of_output of_errors of_tree)) came_how
         (point_of shell' session' tree' (seen_of (drawn_of left' used') taken errors) (faults_of input' of_output of_errors of_tree'))
     ran-stopped gone =
         rw how-is
         (kept-stopped asks reads does first shell shell' session session' tree tree' left left' taken errors text used used' input input' of_output of_errors of_tree of_tree' came
-        meant none stream shell-is ran (subst (λ (it : How). goes_on it ≡ false) how-is gone))
+        meant files none stream shell-is ran (subst (λ (it : How). goes_on it ≡ false) how-is gone))
 
     pub ran-put : goes_on came_how ≡ true → (put_how : How) (last : Point)
-        → Evaluates (λ expansions state. on (puts text state)) (point_of shell' session' tree' (seen_of (drawn_of left' used') taken errors) (faults_of input' of_output of_errors of_tree')) put_how last
-        → Evaluates (meant_by does) (point_of shell session tree (seen_of (drawn_of left used) taken errors) (faults_of input of_output of_errors of_tree)) put_how last
+        → Evaluates (λ expansions. spreads files text) (point_of shell' session' tree' (seen_of (drawn_of left' used') taken errors) (faults_of input' of_output of_errors of_tree')) put_how last
+        → Evaluates (meant_by does files) (point_of shell session tree (seen_of (drawn_of left used) taken errors) (faults_of input of_output of_errors of_tree)) put_how last
     ran-put gone put_how last put =
         kept-put asks reads does first shell shell' session session' tree tree' left left' taken errors text used used' input input' of_output of_errors of_tree of_tree' came
-        meant none stream shell-is ran (subst (λ (it : How). goes_on it ≡ true) how-is gone) put_how last put
+        meant files none stream shell-is ran (subst (λ (it : How). goes_on it ≡ true) how-is gone) put_how last put
 
     -- what is put can be put
     pub sound-so : IsSound session tree → IsSound session' tree'
     sound-so sound = sound-behind (point_of shell session tree (seen_of (drawn_of left used) taken errors) (faults_of input of_output of_errors of_tree))
         (point_of shell' session' tree' (seen_of (drawn_of left' used') taken errors) (faults_of input' of_output of_errors of_tree'))
-        (kept-keeps asks reads does first shell shell' session session' tree tree' left left' taken errors text used used' input input' of_output of_errors of_tree of_tree' came meant none stream shell-is ran) sound
+        (kept-keeps asks reads does first shell shell' session session' tree tree' left left' taken errors text used used' input input' of_output of_errors of_tree of_tree' came meant files none stream shell-is ran) sound
 
-pub put-so : (slice text : List ℕ) (old new : Point) (came : How) → slice ≡ text → Evaluates (λ expansions state. on (puts slice state)) old came new → Evaluates (λ expansions state. on (puts text state)) old came new
-put-so slice text old new came same one = subst (λ (it : List ℕ). Evaluates (λ expansions state. on (puts it state)) old came new) same one
+pub put-so : (files : List Components) (slice text : List ℕ) (old new : Point) (came : How) → slice ≡ text → Evaluates (λ expansions. spreads files slice) old came new → Evaluates (λ expansions. spreads files text) old came new
+put-so files slice text old new came same one = subst (λ (it : List ℕ). Evaluates (λ expansions. spreads files it) old came new) same one
 
 pub gathered-ran : (asks : Asks) (tree tree' : TreeState) (left left' taken taken' : Option (List ℕ)) (text : List ℕ) (old new : runs.Counts) (used used' : Option Log) (came : Ended)
     → taken ≡ Some [] → Some text ≡ taken' → Runs asks tree tree' left left' taken taken' old new used used' came → Runs asks tree tree' left left' (Some []) (Some text) old new used used' came

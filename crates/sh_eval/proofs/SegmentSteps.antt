@@ -10,8 +10,9 @@ use Rattle.ut_args.specs.Invocations.{command_of}
 use Rattle.fl_segments.specs.Chains.{begins_with}
 use Rattle.fl_commands.specs.Inner.Stages.{some_lacks}
 use Rattle.fl_commands.specs.Members as members
-use Rattle.fl_commands.specs.Members.{member_output, member_status, noted_of, output_through}
+use Rattle.fl_commands.specs.Members.{files_teed, member_output, member_status, noted_of, output_through, texts_through}
 use Rattle.fl_commands.specs.Runs.{pipeline_asks}
+use Rattle.fl_commands.specs.Writers.{all_added}
 use Rattle.fl_commands.specs.declared.members.Member.{Member}
 use Rattle.sh_tree.specs.Trees.{CommandTrees, command, no_command}
 use Rattle.sh_expand.specs.Outcomes.{Expansions}
@@ -26,7 +27,7 @@ use Rattle.sh_eval.specs.Contract.{Seen, Faults, Point, point_of, Base, Has, Com
 use Rattle.sh_eval.specs.Growth.{Adds}
 use Rattle.sh_eval.specs.Inner.Gathering.{AllLooked, AllPlain, AreGathered, IsPlain, AreMembers, AreTold, calls_of, emptied}
 use Rattle.sh_eval.specs.Inner.Inputs.{IsLooked, called_by, reads_stream}
-use Rattle.sh_eval.specs.Inner.Runs.{AreMeant, pipeline_does, reads_head, takes}
+use Rattle.sh_eval.specs.Inner.Runs.{AreMeant, given_all, pipeline_does, reads_head, takes}
 use Rattle.sh_eval.specs.Meaning.{stages_means}
 use Rattle.sh_eval.specs.Segments.{is_plain_place, name_of, no_pipe, runs_through, status_for, status_through, takes_through, text_through, ran_of, written_by}
 use Rattle.sh_eval.specs.States.{State, Ends, after, in_session, on, reading, to_read}
@@ -78,9 +79,9 @@ module _ (tree : TreeState) (state : State) (told : tree.held ≡ Some state.wor
   ran-so (member ∷ rest) looks plain =
       (λ i. noted-so (name_of (called_by member.inv)) member.inv member.operands.items (needed member looks.0 plain.0) state (named member looks.0 plain.0) i ++ ran-so rest looks.1 plain.1 i)
 
-pub pipeline-meant : (all : List Member) (lines : List ℕ) (tree : TreeState) → 1 ≤ length all → AllLooked tree all → AreTold all lines tree → AreMeant (pipeline_asks all) (reads_head all) (pipeline_does (calls_of all)) tree
-pipeline-meant [] lines tree some looks plain first state told home begins = absurd (omega (arith, some))
-pipeline-meant (member ∷ rest) lines tree some looks plain first state told home begins =
+pub pipeline-meant : (all : List Member) (lines : List ℕ) (tree : TreeState) → 1 ≤ length all → files_teed all ≡ [] → AllLooked tree all → AreTold all lines tree → AreMeant (pipeline_asks all) (reads_head all) (pipeline_does (calls_of all)) tree
+pipeline-meant [] lines tree some teeless looks plain first state told home begins = absurd (omega (arith, some))
+pipeline-meant (member ∷ rest) lines tree some teeless looks plain first state told home begins =
     let are = (plain state told home).0 in
     let here = named tree state told home member looks.0 are.0 in
     let whole = needed tree state told home member looks.0 are.0 in
@@ -92,6 +93,9 @@ pipeline-meant (member ∷ rest) lines tree some looks plain first state told ho
       status = statuses-so tree state told home member rest looks are (begins_with first state.world.input) (to_read state) begins.text;
       noted = ran-so tree state told home (member ∷ rest) looks are;
       drawn = own-so (name_of (called_by member.inv)) member.inv member.operands.items whole state here first (reads_stream member.operands.items) refl begins.own;
+      added = λ files.
+          subst (λ (it : List Components). all_added it (texts_through (member ∷ rest) (bytes_at state.world.files) (begins_with first state.world.input)) files
+          ≡ given_all it ((pipeline_does (calls_of (member ∷ rest))).written state) files) (sym teeless) refl;
     }
 
 -- THE RUN: the lines, the members, and nothing left in the pipe
@@ -115,7 +119,7 @@ module _ (all : List Member) (lines : List ℕ) where
   tells_lines expansions state = on (tells_some lines state)
 
   abbrev takes_all : Meaning
-  takes_all expansions = takes (pipeline_does (calls_of all))
+  takes_all expansions = takes [] (pipeline_does (calls_of all))
 
   abbrev empties : Meaning
   empties expansions state = on (in_session no_pipe state)
@@ -127,7 +131,7 @@ module _ (all : List Member) (lines : List ℕ) where
   all_means expansions state = emptied (runs_through pages (calls_of all) state)
 
   then-adds : (expansions : Expansions) → Adds (takes_then expansions)
-  then-adds expansions state = let grows = adds-takes (pipeline_does (calls_of all)) state in record { output = grows.output; errors = grows.errors; turns = grows.turns }
+  then-adds expansions state = let grows = adds-takes [] (pipeline_does (calls_of all)) state in record { output = grows.output; errors = grows.errors; turns = grows.turns }
 
   module _ (old : Point) (told : AreTold all lines old.tree) where
     same : (expansions : Expansions) (base : Base) (state : State) → Has base old state → all_means expansions state ≡ after (tells_lines expansions state) (takes_then expansions)

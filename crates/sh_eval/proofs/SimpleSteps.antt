@@ -7,16 +7,17 @@ use Rattle.ps_lines.specs.Texts.{texts_of}
 use Rattle.ps_world.specs.TreeState.{TreeState}
 use Rattle.sh_arith.specs.Variables.{Variables}
 use Rattle.sh_tree.specs.Trees.{WordTree, RedirTree}
-use Rattle.ut_args.specs.Built.{is_built_by, is_built_of}
-use Rattle.ut_args.specs.Inputs.{operands_of}
+use Rattle.ut_args.specs.Built.{is_built_of}
+use Rattle.ut_args.specs.Inputs.{files_by, operands_of}
 use Rattle.ut_args.specs.Invocations.{command_of, words_of}
 use Rattle.ut_args.specs.Reading.{invocation}
 use Rattle.ut_args.specs.declared.commands.Command.{Command}
 use Rattle.ut_args.specs.declared.commands.Command.TheVariants as command
-use Rattle.ut_args.specs.declared.commands.TeeArgs.{TeeArgs}
 use Rattle.ut_args.specs.declared.invocations.Inv.{Inv}
+use Rattle.ut_args.specs.declared.invocations.Inv.TheVariants as invs
 use Rattle.ut_args.specs.declared.faults.ArgFault.{ArgFault}
 use Rattle.ut_args.specs.declared.faults.ArgFault.TheVariants as fault
+use Rattle.fl_segments.specs.Stages.{is_tee}
 use Rattle.sh_expand.specs.Outcomes.{Expansions}
 use Rattle.sh_eval.specs.declared.flows.Flow.{Flow}
 use Rattle.sh_eval.specs.declared.flows.Flow.TheVariants as flow
@@ -35,14 +36,14 @@ use Rattle.sh_eval.specs.Builtins.{misused}
 use Rattle.sh_eval.specs.Contract.{Seen, Faults, Point, point_of, Base, Has, Comes, Meaning, Evaluates, PassesOn}
 use Rattle.sh_eval.specs.Expanding.{assigning, with_targets}
 use Rattle.sh_eval.specs.Growth.{Adds}
-use Rattle.sh_eval.specs.Inner.Doing.{can_be_done, can_run, is_own, stays_of, way_of, own_means, tee_of, uses_own, asked_of}
+use Rattle.sh_eval.specs.Inner.Doing.{can_be_done, can_run, is_own, stays_of, way_of, own_means, uses_own, asked_of}
 use Rattle.sh_eval.specs.Inner.Inputs.{called_by}
 use Rattle.sh_eval.specs.Inner.Opening.{opened}
 use Rattle.sh_eval.specs.Targets.{Target}
 use Rattle.sh_eval.specs.Simple.{assigned_for, by_patterns, checked, done, most_operands, restored, undone}
 use Rattle.sh_eval.specs.Table.{pages, patterns_of}
 use Rattle.sh_eval.specs.Teeing.{tees, uses_by_files}
-use Rattle.sh_eval.specs.Utilities.{Patterns, read, refers_back, runs_utility, uses_by_operands, wrong}
+use Rattle.sh_eval.specs.Utilities.{Called, Patterns, read, refers_back, runs_utility, uses_by_operands, wrong}
 use Rattle.sh_eval.proofs.Growing.{grows-self, AddsAsked, does-adds, asked-adds, adds-misused, adds-assigned_for, adds-by_patterns, adds-checked, adds-runs_utility, adds-tees, adds-with_targets}
 use Rattle.sh_eval.proofs.Steps.{changed, meant-at}
 
@@ -88,7 +89,7 @@ own-so no_name is = absurd (true≢false (sym is))
 own-so (unknown name) is = absurd (true≢false (sym is))
 own-so (unlisted name letter) is = absurd (true≢false (sym is))
 own-so (unusable is_special name) is = absurd (true≢false (sym is))
-own-so (tee name args) is = absurd (true≢false (sym is))
+own-so (tee name called) is = absurd (true≢false (sym is))
 own-so (utility name called) is = absurd (true≢false (sym is))
 own-so (builtin is_special means) is = (is_special, means, refl)
 
@@ -97,7 +98,7 @@ own-adds no_name adds state = grows-self state
 own-adds (unknown name) adds state = grows-self state
 own-adds (unlisted name letter) adds state = grows-self state
 own-adds (unusable is_special name) adds state = adds-misused (at_fault is_special) name state
-own-adds (tee name args) adds state = adds-tees name args state
+own-adds (tee name called) adds state = adds-tees name called state
 own-adds (utility name called) adds state = adds-runs_utility pages name called state
 own-adds (builtin is_special means) adds state = adds state
 
@@ -111,67 +112,54 @@ own-checked no_name assigns targets old new came is one = absurd (true≢false (
 own-checked (unknown name) assigns targets old new came is one = absurd (true≢false (sym is))
 own-checked (unlisted name letter) assigns targets old new came is one = absurd (true≢false (sym is))
 own-checked (unusable is_special name) assigns targets old new came is one = absurd (true≢false (sym is))
-own-checked (tee name args) assigns targets old new came is one = absurd (true≢false (sym is))
+own-checked (tee name called) assigns targets old new came is one = absurd (true≢false (sym is))
 own-checked (utility name called) assigns targets old new came is one = absurd (true≢false (sym is))
 own-checked (builtin is_special means) assigns targets old new came is one = one
 
--- what is built is a utility
-pub utility-so : (name : List ℕ) (words : List (List ℕ)) (asked : Command) → is_built_by asked ≡ true → does name words asked ≡ utility name (record { words = words; command = asked })
-utility-so name words (command.Cat args) built = refl
-utility-so name words (command.Grep args) built = refl
-utility-so name words (command.Tr args) built = refl
-utility-so name words (command.Cut args) built = refl
-utility-so name words (command.Head args) built = refl
-utility-so name words (command.Tail args) built = refl
-utility-so name words (command.Wc args) built = refl
-utility-so name words (command.Uniq args) built = refl
-utility-so name words (command.Sort args) built = refl
-utility-so name words (command.Paste args) built = refl
-utility-so name words other built = absurd (true≢false (sym built))
+-- what is built, and not tee, is a utility
+pub utility-so : (name : List ℕ) (it : Inv) → is_built_of it ≡ true → is_tee it ≡ false → does name (words_of it) (command_of it) ≡ utility name (called_by it)
+utility-so name (invs.Cat it) built no_tee = refl
+utility-so name (invs.Grep it) built no_tee = refl
+utility-so name (invs.Tr it) built no_tee = refl
+utility-so name (invs.Cut it) built no_tee = refl
+utility-so name (invs.Head it) built no_tee = refl
+utility-so name (invs.Tail it) built no_tee = refl
+utility-so name (invs.Wc it) built no_tee = refl
+utility-so name (invs.Uniq it) built no_tee = refl
+utility-so name (invs.Sort it) built no_tee = refl
+utility-so name (invs.Paste it) built no_tee = refl
+utility-so name (invs.Tee it) built no_tee = absurd (true≢false no_tee)
+utility-so name other built no_tee = absurd (true≢false (sym built))
 
 -- tee
-same-some : {X : Type 0} (one other : X) → Some one ≡ Some other → one ≡ other
-same-some {X} one other is = ap (λ (it : Option X). either it) is
-  where
-    either : Option X → X
-    either None = one
-    either (Some it) = it
+tee-does : (name : List ℕ) (it : Inv) → is_tee it ≡ true → does name (words_of it) (command_of it) ≡ tee name (called_by it)
+tee-does name (invs.Tee it) is = refl
+tee-does name other is = absurd (true≢false (sym is))
 
-none-some : {X : Type 0} (it : X) → None ≡ Some it → ⊥
-none-some {X} it is = subst some is tt
-  where
-    some : Option X → Type 0
-    some None = Unit {0}
-    some (Some value) = ⊥
+pub tee-so : (name : List ℕ) (it : Inv) (assigns : List (List ℕ × WordTree)) (targets : List Target) (old new : Point) (came : How) → is_tee it ≡ true
+    → Evaluates (λ expansions. checked expansions pages assigns targets (tee name (called_by it))) old came new → Evaluates (λ expansions. checked expansions pages assigns targets (does name (words_of it) (command_of it))) old came new
+tee-so name it assigns targets old new came is one =
+    subst (λ (asked : Asked). Evaluates (λ expansions. checked expansions pages assigns targets asked) old came new) (sym (tee-does name it is)) one
 
-tee-does : (name : List ℕ) (words : List (List ℕ)) (asked : Command) (args : TeeArgs) → tee_of asked ≡ Some args → does name words asked ≡ tee name args
-tee-does name words (command.Tee its) args is = ap (tee name) (same-some its args is)
-tee-does name words other args is = absurd (none-some args is)
-
-pub tee-so : (name : List ℕ) (words : List (List ℕ)) (asked : Command) (args : TeeArgs) (assigns : List (List ℕ × WordTree)) (targets : List Target) (old new : Point) (came : How) → tee_of asked ≡ Some args
-    → Evaluates (λ expansions. checked expansions pages assigns targets (tee name args)) old came new → Evaluates (λ expansions. checked expansions pages assigns targets (does name words asked)) old came new
-tee-so name words asked args assigns targets old new came is one =
-    subst (λ (it : Asked). Evaluates (λ expansions. checked expansions pages assigns targets it) old came new) (sym (tee-does name words asked args is)) one
-
-module _ (name : List ℕ) (args : TeeArgs) (assigns : List (List ℕ × WordTree)) (targets : List Target) where
+module _ (name : List ℕ) (called : Called) (assigns : List (List ℕ × WordTree)) (targets : List Target) where
   abbrev tee_runs : Expansions → Means
-  tee_runs expansions = done expansions false assigns (uses_by_files args) targets (tees name args)
+  tee_runs expansions = done expansions false assigns (uses_by_files called) targets (tees name called)
 
   abbrev tee_checked : Meaning
-  tee_checked expansions = checked expansions pages assigns targets (tee name args)
+  tee_checked expansions = checked expansions pages assigns targets (tee name called)
 
   -- one with too many files is refused
-  pub tee-many : (shell : Shell) (session : Session) (tree : TreeState) (seen : Seen) (faults : Faults) → nat_lt most_operands (length args.files) ≡ true
+  pub tee-many : (shell : Shell) (session : Session) (tree : TreeState) (seen : Seen) (faults : Faults) → nat_lt most_operands (length (files_by called.command)) ≡ true
       → Evaluates tee_checked (point_of shell session tree seen faults) (how.Gone (flow.Refused refusal.ArgsTooMany)) (point_of shell session tree seen faults)
   tee-many shell session tree seen faults many =
       refused-so refusal.ArgsTooMany tee_checked shell session tree seen faults
-      (λ expansions state. sym (cond-true (nat_lt most_operands (length args.files)) (refused refusal.ArgsTooMany state) (tee_runs expansions state) many))
+      (λ expansions state. sym (cond-true (nat_lt most_operands (length (files_by called.command))) (refused refusal.ArgsTooMany state) (tee_runs expansions state) many))
 
   -- and any other is run
-  pub tee-few : (old new : Point) (came : How) → nat_lt most_operands (length args.files) ≡ false → Evaluates (done_so assigns targets (tee name args)) old came new → Evaluates tee_checked old came new
+  pub tee-few : (old new : Point) (came : How) → nat_lt most_operands (length (files_by called.command)) ≡ false → Evaluates (done_so assigns targets (tee name called)) old came new → Evaluates tee_checked old came new
   tee-few old new came few one =
-      meant-at tee_checked (done_so assigns targets (tee name args)) old new came
-      (λ expansions base state has. cond-false (nat_lt most_operands (length args.files)) (refused refusal.ArgsTooMany state) (tee_runs expansions state) few) one
+      meant-at tee_checked (done_so assigns targets (tee name called)) old new came
+      (λ expansions base state has. cond-false (nat_lt most_operands (length (files_by called.command))) (refused refusal.ArgsTooMany state) (tee_runs expansions state) few) one
 
 -- how many files there are, by those that were looked at
 pub files-long : (files : List (List ℕ)) (texts : List (Vec ℕ)) → texts_of texts ≡ files → length files ≡ length texts
@@ -195,10 +183,10 @@ module _ (name : List ℕ) (it : Inv) (assigns : List (List ℕ × WordTree)) (t
   found_so found expansions = by_patterns expansions pages name (called_by it) assigns targets found
 
   -- of a utility the patterns are looked at
-  pub built-found : (old new : Point) (came : How) → is_built_of it ≡ true → Evaluates (found_so (patterns_of (command_of it))) old came new
+  pub built-found : (old new : Point) (came : How) → is_built_of it ≡ true → is_tee it ≡ false → Evaluates (found_so (patterns_of (command_of it))) old came new
       → Evaluates (checks (does name (words_of it) (command_of it))) old came new
-  built-found old new came is one =
-      subst (λ (it : Asked). Evaluates (checks it) old came new) (sym (utility-so name (words_of it) (command_of it) is)) one
+  built-found old new came is no_tee one =
+      subst (λ (it : Asked). Evaluates (checks it) old came new) (sym (utility-so name it is no_tee)) one
 
   -- what was found of the patterns is what they are
   pub found-so : (found found' : Patterns) (old new : Point) (came : How) → found ≡ found' → Evaluates (found_so found) old came new → Evaluates (found_so found') old came new
@@ -331,7 +319,7 @@ doing-adds doing.Nothing = own-adds no_name tt
 doing-adds (doing.Builtin name inv) = own-adds (asked_of (doing.Builtin name inv)) (does-adds name.now [] (command_of inv.now))
 doing-adds (doing.Misuse name) = own-adds (asked_of (doing.Misuse name)) tt
 doing-adds (doing.WrongPatterns name) = own-adds (asked_of (doing.WrongPatterns name)) tt
-doing-adds (doing.Tee name args) = own-adds (asked_of (doing.Tee name args)) tt
+doing-adds (doing.Tee name inv) = own-adds (asked_of (doing.Tee name inv)) tt
 doing-adds (doing.Utility name inv) = own-adds (asked_of (doing.Utility name inv)) tt
 
 pub done-adds : (assigns : List (List ℕ × WordTree)) (it : Doing) (expansions : Expansions) → Adds (assigned_for expansions (stays_of (asked_of it)) assigns (own_means (asked_of it)))
@@ -344,7 +332,7 @@ Runs (doing.Builtin name inv) old came new =
     (words : List (List ℕ)) (is_special : Bool) (means : Means) → does name.now words (command_of inv.now) ≡ builtin is_special means → Evaluates (λ expansions. means) old came new
 Runs (doing.Misuse name) old came new = Evaluates (λ expansions. misused (at_fault (is_special name.now)) name.now) old came new
 Runs (doing.WrongPatterns name) old came new = Evaluates (λ expansions. misused flow.On name.now) old came new
-Runs (doing.Tee name args) old came new = Evaluates (λ expansions. tees name.now args.now) old came new
+Runs (doing.Tee name inv) old came new = Evaluates (λ expansions. tees name.now (called_by inv.now)) old came new
 Runs (doing.Utility name inv) old came new = Evaluates (λ expansions. runs_utility pages name.now (called_by inv.now)) old came new
 
 pub runs-own : (it : Doing) (old new : Point) (came : How) → can_be_done it ≡ true → Runs it old came new → Evaluates (λ expansions. own_means (asked_of it)) old came new
@@ -355,7 +343,7 @@ runs-own (doing.Builtin name inv) old new came own run = by_own (own-so (does na
     by_own (is_special, means, is) = subst (λ (it : Asked). Evaluates (λ expansions. own_means it) old came new) (sym is) (run [] is_special means is)
 runs-own (doing.Misuse name) old new came own run = run
 runs-own (doing.WrongPatterns name) old new came own run = run
-runs-own (doing.Tee name args) old new came own run = run
+runs-own (doing.Tee name inv) old new came own run = run
 runs-own (doing.Utility name inv) old new came own run = run
 
 pub misuse-runs : (way : Flow) (name : List ℕ) (old new : Point) (came : How) → way ≡ at_fault (is_special name) → Evaluates (λ expansions. misused way name) old came new
@@ -397,6 +385,10 @@ behind-targets assigns redirs fields given targets chosen old mid new came same 
     passes (λ expansions targets. checked expansions pages assigns targets (asked_by given)) came new
     (subst (λ (it : List (List ℕ)). Evaluates (λ expansions. checked expansions pages assigns targets (asked_by it)) mid came new) same
     (subst (λ (it : List Target). Evaluates (λ expansions. checked expansions pages assigns it (asked_by fields)) mid came new) is one))
+
+-- what is done as tee is tee
+pub run-tee : (it : Doing) (name : Bor (List ℕ)) (inv : Bor Inv) → it ≡ doing.Tee name inv → can_be_done it ≡ true → is_tee inv.now ≡ true
+run-tee it name inv is can = sym (ap can_be_done is) ∙ can
 
 -- what can be run is built, and has few operands
 run-parts : (it : Doing) (name : Bor (List ℕ)) (inv : Bor Inv) → it ≡ doing.Utility name inv → can_be_done it ≡ true → (is_built_of inv.now ≡ true) × (nat_le (length (operands_of inv.now)) most_operands ≡ true)

@@ -1,25 +1,31 @@
 -- A utility that was run over its inputs is evaluated.
-use Rattle.std.proofs.Common.{◌≡◌, ◌≤◌, ◌<◌, ◌+◌, ◌^◌, ℕ, List, [], ◌∷◌, ◌++◌, map, Bool, true, false, not, ◌&&◌, ◌||◌, ◌==◌, length, refl, sym, ap, ◌∙◌, subst, arith, if◌then◌else◌, ◌-◌, take}
+use Rattle.std.proofs.Common.{◌≡◌, ◌≤◌, ◌<◌, ◌+◌, ◌^◌, ℕ, List, [], ◌∷◌, ◌++◌, map, Bool, true, false, not, ◌&&◌, ◌||◌, ◌==◌, length, Option, Some, None, IfSome, refl, sym, ap, ◌∙◌, subst, append-nil, arith, if◌then◌else◌, ◌-◌, take}
+use Rattle.std.proofs.Math.Seq.{take-length}
 use Rattle.std.proofs.lemmas.Bool.{true≢false}
 use Rattle.std.specs.List.{list_any}
-use Rattle.ps_world.specs.Files.{bytes_at}
+use Rattle.ps_world.specs.Files.{Files, bytes_at}
 use Rattle.ps_world.specs.Paths.{Components}
+use Rattle.ps_world.specs.Places.{is_null_path}
 use Rattle.ps_world.specs.declared.places.Place.TheVariants as place
 use Rattle.ps_world.specs.TreeState.{TreeState}
+use Rattle.ut_args.specs.Built.{is_built_of}
 use Rattle.ut_args.specs.Inputs.{operands_of, remaining}
 use Rattle.ut_args.specs.Invocations.{command_of, words_of}
 use Rattle.ut_args.specs.declared.invocations.Inv.{Inv}
+use Rattle.ut_args.specs.declared.invocations.Inv.TheVariants as invs
 use Rattle.ut_streams.specs.Utilities.{Input}
+use Rattle.fl_graph.specs.Paths.{are_distinct, is_among}
 use Rattle.fl_classes.specs.Utilities.{labelled}
 use Rattle.fl_segments.specs.Chains.{begins_with, text_in}
-use Rattle.fl_segments.specs.Stages.{is_shell_input, is_stream}
+use Rattle.fl_segments.specs.Stages.{is_shell_input, is_stream, is_tee}
 use Rattle.fl_segments.specs.declared.stages.First.{First}
 use Rattle.fl_segments.specs.declared.stages.In.{In}
 use Rattle.fl_segments.specs.declared.stages.In.TheVariants as inlet
 use Rattle.fl_commands.specs.Inner.Stages.{command_left, inputs_with, some_lacks, words_left, run_noted}
 use Rattle.fl_commands.specs.Inputs.{noted_over, output_for, selects_for, status_of}
-use Rattle.fl_commands.specs.Operands.{AreNamed, ins_of, without_input}
+use Rattle.fl_commands.specs.Operands.{AllStand, AreNamed, ins_of, without_input}
 use Rattle.fl_commands.specs.Runs.{command_asks}
+use Rattle.fl_commands.specs.Writers.{AreBegun, AreFilesAt, AreWrittenApart, MayWrite}
 use Rattle.fl_commands.specs.declared.operands.Operand.{Operand}
 use Rattle.fl_commands.specs.declared.operands.Operand.TheVariants as operand
 use Rattle.sh_expand.specs.Outcomes.{Expansions}
@@ -31,11 +37,12 @@ use Rattle.sh_eval.specs.declared.shell.Shell.{Shell}
 use Rattle.sh_eval.specs.Contract.{Seen, Faults, faults_of, Point, point_of, Base, Has, Meaning, Evaluates, goes_on}
 use Rattle.sh_eval.specs.Growth.{Grows, Adds}
 use Rattle.sh_eval.specs.Inner.Inputs.{AreNamedIn, called_by, is_own_input, lines_by, lines_of, reads_stream, runs_behind}
-use Rattle.sh_eval.specs.Inner.Runs.{AreMeant, inputs_of, takes, utility_does}
+use Rattle.sh_eval.specs.Inner.Runs.{AreMeant, given_all, inputs_of, takes, tee_asks, tee_does, utility_does}
 use Rattle.sh_eval.specs.Shells.{with_status}
 use Rattle.sh_eval.specs.States.{State, after, on, leaves, tells, to_read}
 use Rattle.sh_eval.specs.Table.{pages}
-use Rattle.sh_eval.specs.Utilities.{Given, deals, does_nothing, given_to, has_none, is_silent, lines_told, needs_all, reads_standard, runs_utility, takes_inputs, tells_some, words_without, writes_out}
+use Rattle.sh_eval.specs.Teeing.{copies, status_by}
+use Rattle.sh_eval.specs.Utilities.{Called, Given, deals, does_nothing, given_to, has_none, is_silent, lines_told, needs_all, reads_standard, runs_utility, takes_inputs, tells_some, words_without, writes_out}
 use Rattle.sh_eval.proofs.Growing.{adds-takes_inputs, grows-self}
 use Rattle.sh_eval.proofs.OperandSteps.{looked, inputs-are, lines-are, lacks-are, emptied-are, reads-are, streams-are, all-inputs, as-many, output-left, selects-left}
 use Rattle.sh_eval.proofs.Steps.{changed, followed, meant-at, nothing, stopped}
@@ -128,16 +135,78 @@ utility-meant name asked operands tree needed looks first state held home begins
       status = status-so name asked operands needed state named (begins_with first state.world.input) begins.text;
       noted = noted-so name asked operands needed state named;
       drawn = own-so name asked operands needed state named first (reads_stream operands) refl begins.own;
+      added = λ files. refl;
     }
 
 -- this is what it means
-pub inputs-meant : (name : List ℕ) (asked : Inv) (state : State) → takes_inputs pages name (called_by asked) state ≡ takes (utility_does name asked) state
+pub inputs-meant : (name : List ℕ) (asked : Inv) (state : State) → takes_inputs pages name (called_by asked) state ≡ takes [] (utility_does name asked) state
 inputs-meant name asked state = refl
 
-pub takes-meant : (name : List ℕ) (asked : Inv) (old new : Point) (came : How) → Evaluates (λ expansions. takes (utility_does name asked)) old came new
+pub takes-meant : (name : List ℕ) (asked : Inv) (old new : Point) (came : How) → Evaluates (λ expansions. takes [] (utility_does name asked)) old came new
     → Evaluates (λ expansions. takes_inputs pages name (called_by asked)) old came new
 takes-meant name asked old new came one =
-    meant-at (λ expansions. takes_inputs pages name (called_by asked)) (λ expansions. takes (utility_does name asked)) old new came (λ expansions base state has. inputs-meant name asked state) one
+    meant-at (λ expansions. takes_inputs pages name (called_by asked)) (λ expansions. takes [] (utility_does name asked)) old new came (λ expansions base state has. inputs-meant name asked state) one
+
+-- TEE. Its words are noted whole, since no operand of it is an input
+words-whole : (words : List (List ℕ)) → take (length words - 0) words ++ [] ≡ words
+words-whole words =
+    let all : length words - 0 ≡ length words = omega arith in
+    ap (λ (it : ℕ). take it words ++ []) all ∙ append-nil (take (length words) words) ∙ take-length words
+
+pub tee-meant : (asked : Inv) (left status : ℕ) (own : List Components) (tree : TreeState) → is_tee asked ≡ true → left ≡ status → AreMeant (tee_asks asked left own) true (tee_does (called_by asked) status) tree
+tee-meant (invs.Tee tee) left status own tree is same first state held home begins =
+    let text_is : begins_with first state.world.input ++ [] ≡ to_read state = append-nil (begins_with first state.world.input) ∙ begins.text refl in
+    record {
+      same = refl;
+      output = text_is;
+      status = same;
+      noted = ap (λ (it : List (List ℕ)). noted_over (command_of (invs.Tee tee)) it 1) (words-whole tee.words);
+      drawn = and-true (is_shell_input first) ∙ begins.own refl;
+      added = λ files. ap (λ (it : List ℕ). given_all own it files) text_is;
+    }
+tee-meant other left status own tree is same first state held home begins = absurd (true≢false (sym is))
+
+pub copies-meant : (called : Called) (files : List Components) (is_whole : Bool) (old new : Point) (came : How) → Evaluates (λ expansions. takes files (tee_does called (status_by is_whole))) old came new
+    → Evaluates (λ expansions. copies called files is_whole) old came new
+copies-meant called files is_whole old new came one =
+    meant-at (λ expansions. copies called files is_whole) (λ expansions. takes files (tee_does called (status_by is_whole))) old new came (λ expansions base state has. refl) one
+
+-- what is handed to its run
+pub tee-built : (asked : Inv) → is_tee asked ≡ true → is_built_of asked ≡ true
+tee-built (invs.Tee tee) is = refl
+tee-built other is = absurd (true≢false (sym is))
+
+pub tee-named : (asked : Inv) → is_tee asked ≡ true → AreNamed (operands_of asked) []
+tee-named (invs.Tee tee) is = tt
+tee-named other is = absurd (true≢false (sym is))
+
+pub tee-writes : (asked : Inv) (files : List Components) → is_tee asked ≡ true → MayWrite asked files
+tee-writes asked [] is = tt
+tee-writes asked (path ∷ files) is = is
+
+pub tee-stands : (held : Option Files) → IfSome held (λ files. AllStand files [])
+tee-stands None = tt
+tee-stands (Some files) = tt
+
+pub tee-begun : (held : Option Files) (files : List Components) → IfSome held (λ held. AreFilesAt held files) → AreBegun held files
+tee-begun held [] there = tt
+tee-begun held (path ∷ files) there = there
+
+-- files that are apart
+among-none : (files : List Components) → list_any (is_among []) files ≡ false
+among-none [] = refl
+among-none (path ∷ files) = among-none files
+
+apart-by : (files : List Components) → are_distinct files ≡ true → list_any is_null_path files ≡ false → AreWrittenApart [] files
+apart-by [] once none = tt
+apart-by (path ∷ files) once none = record { apart = among-none (path ∷ files); once = once; files = none }
+
+not-so : (is : Bool) → not is ≡ true → is ≡ false
+not-so true none = absurd (true≢false (sym none))
+not-so false none = refl
+
+pub apart-so : (files : List Components) (distinct null : Bool) → distinct ≡ are_distinct files → null ≡ list_any is_null_path files → distinct ≡ true → not null ≡ true → AreWrittenApart [] files
+apart-so files distinct null distinct_is null_is once none = apart-by files (sym distinct_is ∙ once) (sym null_is ∙ not-so null none)
 
 -- THE WHOLE UTILITY: the lines, and what is behind them
 module _ (name : List ℕ) (asked : Inv) (lines : List ℕ) (skips : Bool) where

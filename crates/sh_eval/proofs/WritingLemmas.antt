@@ -1,5 +1,6 @@
 -- What is written to each place is what it means.
 use Rattle.std.proofs.Common.{◌≡◌, ℕ, zero, suc, ◌<◌, ◌≤◌, List, [], ◌∷◌, ◌++◌, length, get_or, slice_set, Bool, true, false, cond, inl, inr, Option, Some, None, IfSome, Result, Ok, Err, IsErrOf, OnOk, OnErr, refl, sym, ap, ◌∙◌, subst, arith}
+use Rattle.std.proofs.lemmas.Bool.{true≢false}
 use Rattle.std.specs.Global.{Vec}
 use Rattle.std.specs.FinMap as map
 use Rattle.std.specs.Option.{option_map}
@@ -24,7 +25,7 @@ use Rattle.sh_eval.specs.declared.shell.Shell.{Shell}
 use Rattle.sh_eval.specs.declared.streams.To.{To}
 use Rattle.sh_eval.specs.declared.streams.To.TheVariants as to
 use Rattle.sh_eval.specs.States.{State, Ends, on, write, puts, tells, grown_at}
-use Rattle.sh_eval.specs.Contract.{Drawn, Seen, Faults, Point, point_of, seen_of, faults_of, Base, Has, IsBehind, Comes, HasCause, IsGone, Stay, HeldStays, NoFewer, Meaning, Evaluates}
+use Rattle.sh_eval.specs.Contract.{Drawn, Seen, Faults, Point, point_of, seen_of, faults_of, Base, Has, IsBehind, Comes, HasCause, IsGone, Stay, HeldStays, NoFewer, Meaning, Evaluates, goes_on}
 use Rattle.sh_eval.specs.Writing.{written, kept, added_to}
 use Rattle.sh_eval.proofs.Growing.{grows-write}
 use Rattle.sh_eval.proofs.Steps.{nothing, wanted, no-fewer, held-none}
@@ -347,3 +348,16 @@ module _ (shell : Shell) (session : Session) (old new : TreeState) (seen : Seen)
   written-file (Err error.Memory) held lent later ok failed =
       file-stopped how.Memory (λ gone. gone) tt lent later (wanted (λ expansions state. on (write (to.File path) bytes state)) file-old (λ expansions state. grows-write (to.File path) bytes state))
       (λ expansions base state behind. behind)
+
+-- how a command goes on behind it
+pub kept-file : (shell : Shell) (session : Session) (old new : TreeState) (seen : Seen) (input of_output of_errors of_tree of_tree' : ℕ) (path : Components) (bytes : List ℕ) (outcome : Result Unit WorldErr) (came : How) → came ≡ kept outcome
+    → OnOk outcome (new.held ≡ option_map (added_to path bytes) old.held) → Balanced old new → of_tree ≤ of_tree' → OnOk outcome (of_tree' ≡ of_tree) → (IsErrOf outcome error.Failed → Rose of_tree of_tree')
+    → Evaluates (λ expansions state. on (write (to.File path) bytes state)) (point_of shell session old seen (faults_of input of_output of_errors of_tree)) came (point_of shell session new seen (faults_of input of_output of_errors of_tree'))
+kept-file shell session old new seen input of_output of_errors of_tree of_tree' path bytes outcome came is held lent later ok failed =
+    rw is (written-file shell session old new seen input of_output of_errors of_tree of_tree' path bytes outcome held lent later ok failed)
+
+-- files are files still where it goes on
+pub kept-stays : (old new : Option Files) (path : Components) (bytes : List ℕ) (outcome : Result Unit WorldErr) (came : How) → came ≡ kept outcome → goes_on came ≡ true → OnOk outcome (new ≡ option_map (added_to path bytes) old) → HeldStays old new
+kept-stays old new path bytes (Ok value) came is goes held = subst (HeldStays old) (sym held) (stays-added path bytes old)
+kept-stays old new path bytes (Err error.Failed) came is goes held = absurd (true≢false (sym goes ∙ ap goes_on is))
+kept-stays old new path bytes (Err error.Memory) came is goes held = absurd (true≢false (sym goes ∙ ap goes_on is))

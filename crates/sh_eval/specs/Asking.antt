@@ -6,7 +6,6 @@ use Rattle.std.specs.Str.{bytes_eq}
 use Rattle.ut_args.specs.Reading.{invocation}
 use Rattle.ut_args.specs.declared.commands.Command.{Command}
 use Rattle.ut_args.specs.declared.commands.Command.TheVariants as command
-use Rattle.ut_args.specs.declared.commands.TeeArgs.{TeeArgs}
 use Rattle.ut_args.specs.declared.faults.ArgFault.{ArgFault}
 use Rattle.ut_args.specs.declared.faults.ArgFault.TheVariants as fault
 use Rattle.sh_eval.specs.declared.flows.Flow.{Flow}
@@ -22,7 +21,7 @@ pub data Asked : Type 0 where
   unknown : List ℕ → Asked
   unlisted : List ℕ → ℕ → Asked
   unusable : Bool → List ℕ → Asked
-  tee : List ℕ → TeeArgs → Asked
+  tee : List ℕ → Called → Asked
   utility : List ℕ → Called → Asked
   builtin : Bool → Means → Asked
 
@@ -50,7 +49,7 @@ does name words (command.Read args) = builtin false (reads args.names)
 does name words (command.Test args) = builtin false (tests name args.arguments)
 does name words (command.Bracket args) = builtin false (tests name args.arguments)
 does name words (command.Echo args) = builtin false (echoes args.operands)
-does name words (command.Tee args) = tee name args
+does name words (command.Tee args) = tee name (record { words = words; command = command.Tee args })
 does name words other = utility name (record { words = words; command = other })
 
 abbrev pub asked_as : List ℕ → List (List ℕ) → Result Command ArgFault → Asked

@@ -5,7 +5,7 @@ use Rattle.std.specs.FinMap as finite
 use Rattle.sh_tree.specs.Trees.{WordTree, RedirTree}
 use Rattle.sh_arith.specs.Variables.{Variables}
 use Rattle.sh_expand.specs.Outcomes.{Expansions}
-use Rattle.ut_args.specs.Inputs.{operands_by}
+use Rattle.ut_args.specs.Inputs.{files_by, operands_by}
 use Rattle.sh_eval.specs.declared.flows.Flow.TheVariants as flow
 use Rattle.sh_eval.specs.declared.refusals.Refusal.TheVariants as refusal
 use Rattle.sh_eval.specs.States.{State, Ends, Means, ends, on, refused, in_shell, leaves}
@@ -63,7 +63,7 @@ module _ (expansions : Expansions) where
     checked assigns targets (unknown name) state = refused (refusal.UnknownCommand name) state
     checked assigns targets (unlisted name letter) state = refused (refusal.UnsupportedFlag name letter) state
     checked assigns targets (unusable is_special name) state = done is_special assigns (λ state. []) targets (misused (at_fault is_special) name) state
-    checked assigns targets (tee name args) state = where_few args.files (done false assigns (uses_by_files args) targets (tees name args)) state
+    checked assigns targets (tee name called) state = where_few (files_by called.command) (done false assigns (uses_by_files called) targets (tees name called)) state
     checked assigns targets (utility name called) state = by_patterns name called assigns targets (pages.patterns called.command) state
     checked assigns targets (builtin is_special means) state = done is_special assigns (λ state. []) targets means state
 

@@ -19,6 +19,7 @@ use crate::patterns::{Checked, check_patterns};
 use crate::shell::Shell;
 use crate::simple::MAX_OPERANDS;
 use crate::streams::{HeldPaths, Streams, To};
+use crate::teeing::is_tee;
 use crate::utilities::{lines_told, look_for_operands, skips};
 use fl_commands::{Member, Operand};
 use fl_segments::MAX_STAGES;
@@ -319,11 +320,11 @@ fn keep_member(alloc: Global, inv: Inv) -> Result<Option<Inv>, Memory>
     }
 }
 
-/// Whether an invocation is that of a utility that runs as a graph, whatever its operands name.
+/// Whether an invocation is that of a utility that runs as a graph, whatever its operands name. tee isn't, since it writes files.
 fn can_be_member(alloc: Global, inv: &Inv) -> Result<bool, Memory>
     ensures { IfOk result (λ can. can ≡ true → CanBeMember inv.now) }
 {
-    if !is_built(inv) || inv.operands().len() > MAX_OPERANDS {
+    if !is_built(inv) || is_tee(inv) || inv.operands().len() > MAX_OPERANDS {
         return Ok(false);
     }
     has_patterns(alloc, inv)

@@ -8,7 +8,7 @@
 //! errors grown by prefixes of what is meant; and why. `run_script` evaluates a whole script; `specs/Scripts.antt` says what it leaves.
 //!
 //! Lists, pipelines, groups, subshells, `if`, loops, command substitutions, redirections and simple commands are evaluated. A utility runs
-//! by `fl_commands`, as a graph of its own; `tee` is run by the shell itself (`teeing`), as its own commands are.
+//! by `fl_commands`, as a graph of its own; the files of `tee` are begun before (`teeing`).
 //!
 //! A pipeline whose stages are all utilities but `tee` is gathered to a segment and runs as one graph, through which its bytes stream
 //! (`gathering`, `segments`; `specs/Segments.antt` says what it does, which is what its stages mean one after the other). Every other

@@ -54,6 +54,7 @@ pub(crate) fn run_segment<T: Tree, I: Source + Send, O: Sink + Send, E: Sink, G:
     let Played { how, input, out } = run_task(
         alloc,
         Task::Pipeline(segment.members.as_slice()),
+        &[],
         shell,
         session,
         tree,

@@ -1,17 +1,17 @@
 //! Simple commands, behind their substitutions.
 ghost use Rattle.std.specs.Prelude.{◌≡◌, ◌<◌, List, ℕ, length, map, true, Err, Result, IfErr, IfOk, OnOk};
-ghost use Rattle.std.specs.Option.{option_copied};
 ghost use Rattle.ps_lines.specs.Texts.{texts_of};
 ghost use Rattle.sh_tree.specs.Views.{redir_tree, word_tree};
 ghost use Rattle.ut_args.specs.Built.{is_built_of};
 ghost use Rattle.ut_args.specs.Invocations.{command_of, words_of};
 ghost use Rattle.ut_args.specs.Reading.{invocation};
 ghost use Rattle.ut_args.specs.declared.commands.Command.{Command};
+ghost use Rattle.fl_segments.specs.Stages.{is_tee as is_tee_lem};
 ghost use Rattle.sh_eval.specs.Asking.{asked_as, asked_by, at_fault, does, is_special as is_special_lem, tee as tee_asked};
 ghost use Rattle.sh_eval.specs.Contract.{Evaluates, IsSound, drawn_of, faults_of, point_of, seen_of};
 ghost use Rattle.sh_eval.specs.Expanding.{assigning};
 ghost use Rattle.sh_eval.specs.Inner.Bodies.{assign_tree};
-ghost use Rattle.sh_eval.specs.Inner.Doing.{asked_of, can_be_done, is_own, own_means, stays_of, tee_of, uses_own, way_of as way_of_lem};
+ghost use Rattle.sh_eval.specs.Inner.Doing.{asked_of, can_be_done, is_own, own_means, stays_of, uses_own, way_of as way_of_lem};
 ghost use Rattle.sh_eval.specs.Inner.Inputs.{called_by};
 ghost use Rattle.sh_eval.specs.Inner.Opening.{FindsUses, LooksInVain, opened};
 ghost use Rattle.sh_eval.specs.Simple.{assigned_for, by_patterns, checked, runs_simple};
@@ -30,14 +30,14 @@ use crate::refusals::Refusal;
 use crate::session::Session;
 use crate::shell::Shell;
 use crate::targets::Target;
-use crate::teeing::run_tee;
+use crate::teeing::{is_tee, run_tee};
 use crate::utilities::run_utility;
 use fl_engines::Engine;
 use ps_lines::Text;
 use ps_world::{Gate, Sink, Source, Tree};
 use sh_tree::{Redir, Word};
 use std::alloc::Global;
-use ut_args::{ArgFault, Inv, TeeArgs, read_inv};
+use ut_args::{ArgFault, Inv, read_inv};
 
 /// The most operands of a utility.
 pub(crate) const MAX_OPERANDS: usize = 256;
@@ -54,7 +54,7 @@ pub(crate) enum Doing<'name, 'inv> {
     /// The utility of this name tells that its patterns can't be read.
     WrongPatterns(&'name [u8]),
     /// tee, by its name.
-    Tee(&'name [u8], &'inv TeeArgs),
+    Tee(&'name [u8], &'inv Inv),
     /// Another utility, by its name.
     Utility(&'name [u8], &'inv Inv),
 }
@@ -323,25 +323,14 @@ fn run_inv<T: Tree, I: Source + Send, O: Sink + Send, E: Sink, G: Gate, X: Engin
             engine,
         );
     }
-    match tee_args(inv) {
-        Some(args) => run_few_files(
-            alloc, assigns, targets, name, args, shell, session, tree, input, out, err, gate,
-            engine,
-        ),
-        None => run_built(
+    if is_tee(inv) {
+        return run_few_files(
             alloc, assigns, targets, name, inv, shell, session, tree, input, out, err, gate, engine,
-        ),
+        );
     }
-}
-
-/// What tee is asked for.
-fn tee_args(inv: &Inv) -> Option<&TeeArgs>
-    ensures { option_copied result ≡ tee_of (command_of inv.now) }
-{
-    match inv {
-        Inv::Tee(tee) => Some(&tee.args),
-        _ => None,
-    }
+    run_built(
+        alloc, assigns, targets, name, inv, shell, session, tree, input, out, err, gate, engine,
+    )
 }
 
 /// Runs tee in its redirections and behind its assignments, where it hasn't too many files.
@@ -350,7 +339,7 @@ fn run_few_files<T: Tree, I: Source + Send, O: Sink + Send, E: Sink, G: Gate, X:
     assigns: &[(Text, Word)],
     targets: &[Target],
     name: &[u8],
-    args: &TeeArgs,
+    inv: &Inv,
     shell: &mut Shell,
     session: &mut Session,
     tree: &mut T,
@@ -360,15 +349,16 @@ fn run_few_files<T: Tree, I: Source + Send, O: Sink + Send, E: Sink, G: Gate, X:
     gate: &G,
     engine: &mut X,
 ) -> Played<I, O>
+    requires tee { is_tee_lem inv.now ≡ true }
     requires sound { IsSound session.old (T.state tree.old) }
-    ensures { Evaluates (λ expansions. checked expansions pages (map assign_tree assigns.now) targets.now (tee_asked name.now args.now))
+    ensures { Evaluates (λ expansions. checked expansions pages (map assign_tree assigns.now) targets.now (tee_asked name.now (called_by inv.now)))
         (point_of shell.old session.old (T.state tree.old) (seen_of (drawn_of (I.left input) (X.used engine.old)) (O.taken out) (E.taken err.old))
         (faults_of (I.faults input) (O.faults out) (E.faults err.old) (T.faults tree.old)))
         result.how
         (point_of shell.new session.new (T.state tree.new) (seen_of (drawn_of (I.left result.input) (X.used engine.new)) (O.taken result.out) (E.taken err.new))
         (faults_of (I.faults result.input) (O.faults result.out) (E.faults err.new) (T.faults tree.new))) }
 {
-    if MAX_OPERANDS < args.files.as_slice().len() {
+    if MAX_OPERANDS < inv.files_written().len() {
         return Played {
             how: How::Gone(Flow::Refused(Refusal::ArgsTooMany)),
             input,
@@ -379,7 +369,7 @@ fn run_few_files<T: Tree, I: Source + Send, O: Sink + Send, E: Sink, G: Gate, X:
         alloc,
         assigns,
         targets,
-        Doing::Tee(name, args),
+        Doing::Tee(name, inv),
         shell,
         session,
         tree,
@@ -613,20 +603,20 @@ fn uses_of<T: Tree>(alloc: Global, doing: Doing<'_, '_>, tree: &mut T) -> Result
         Doing::Nothing | Doing::Builtin(_, _) | Doing::Misuse(_) | Doing::WrongPatterns(_) => {
             Ok(Vec::new(alloc))
         }
-        Doing::Tee(_, args) => uses_of_files(alloc, args, tree),
+        Doing::Tee(_, inv) => uses_of_files(alloc, inv, tree),
         Doing::Utility(_, inv) => uses_of_operands(alloc, inv, tree),
     }
 }
 
 /// Looks up the paths of the files that tee writes.
-fn uses_of_files<T: Tree>(alloc: Global, args: &TeeArgs, tree: &mut T) -> Result<Vec<Use>, How>
-    ensures found { IfOk result (λ uses. FindsUses (T.state tree.old) uses.items (uses_by_files args.now)) }
+fn uses_of_files<T: Tree>(alloc: Global, inv: &Inv, tree: &mut T) -> Result<Vec<Use>, How>
+    ensures found { IfOk result (λ uses. FindsUses (T.state tree.old) uses.items (uses_by_files (called_by inv.now))) }
     ensures state { T.state tree.new ≡ T.state tree.old }
     ensures ok { OnOk result (T.faults tree.new ≡ T.faults tree.old) }
     ensures err { IfErr result (λ how. LooksInVain how (T.state tree.old) (T.state tree.new) (T.faults tree.old) (T.faults tree.new)) }
 {
     let mut uses = Vec::new(alloc);
-    match add_files(alloc, args.files.as_slice(), &mut uses, tree) {
+    match add_files(alloc, inv.files_written(), &mut uses, tree) {
         Ok(()) => Ok(uses),
         Err(error) => Err(how_of(error)),
     }
@@ -748,13 +738,9 @@ fn run_assigned<T: Tree, I: Source + Send, O: Sink + Send, E: Sink, G: Gate, X: 
             let how = misuse(alloc, name, Flow::On, shell, session, tree, &mut out, err);
             Played { how, input, out }
         }
-        Doing::Tee(name, args) => {
-            let mut input = input;
-            let how = run_tee(
-                alloc, name, args, shell, session, tree, &mut input, &mut out, err,
-            );
-            Played { how, input, out }
-        }
+        Doing::Tee(name, inv) => run_tee(
+            alloc, name, inv, shell, session, tree, input, out, err, gate, engine,
+        ),
         Doing::Utility(name, inv) => run_utility(
             alloc, name, inv, shell, session, tree, input, out, err, gate, engine,
         ),

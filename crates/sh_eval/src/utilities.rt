@@ -4,16 +4,20 @@ ghost use Rattle.std.specs.List.{list_any};
 ghost use Rattle.ps_lines.specs.Texts.{texts_of};
 ghost use Rattle.ps_world.specs.Counts.{Counts};
 ghost use Rattle.ps_world.specs.Files.{NoWriterOut};
+ghost use Rattle.ps_world.specs.Paths.{Components};
+ghost use Rattle.ps_world.specs.Places.{is_null_path};
 ghost use Rattle.ut_args.specs.Built.{is_built_of};
 ghost use Rattle.ut_args.specs.Inputs.{operands_of};
 ghost use Rattle.ut_args.specs.Invocations.{command_of};
+ghost use Rattle.fl_graph.specs.Paths.{are_distinct as are_distinct_lem, is_among as is_among_lem};
 ghost use Rattle.fl_commands.specs.Inner.Stages.{some_lacks as some_lacks_lem};
 ghost use Rattle.fl_commands.specs.Inputs.{status_of};
 ghost use Rattle.fl_commands.specs.Runs.{Runs, counts_of};
+ghost use Rattle.fl_commands.specs.Writers.{AreWrittenApart};
 ghost use Rattle.sh_eval.specs.Contract.{Drawn, Evaluates, IsSound, drawn_of, faults_of, point_of, seen_of};
 ghost use Rattle.sh_eval.specs.Inner.Inputs.{IsLooked, TakesStream, called_by, how_ended as how_ended_lem, is_stream_operand, line_at, line_of, lines_by, lines_of, reads_stream as reads_stream_lem, runs_behind, shell_ended};
 ghost use Rattle.sh_eval.specs.Inner.Opening.{LooksInVain};
-ghost use Rattle.sh_eval.specs.Inner.Runs.{AreMeant, CanRun, Does, asks_of, reads_head, reads_of, takes};
+ghost use Rattle.sh_eval.specs.Inner.Runs.{AreMeant, CanRun, CanRunTee, Does, asks_of, ended_with, reads_head, reads_of, takes, tee_asks};
 ghost use Rattle.sh_eval.specs.Lines.{diagnostic as diagnostic_lem};
 ghost use Rattle.sh_eval.specs.Segments.{is_plain_place};
 ghost use Rattle.sh_eval.specs.Simple.{most_operands};
@@ -28,12 +32,12 @@ use crate::outcomes::{How, Played, goes_on, how_of};
 use crate::session::Session;
 use crate::shell::Shell;
 use crate::streams::{From, To};
-use crate::writing::{put, tell};
+use crate::writing::{spread, tell};
 use fl_commands::{Commanded, Ended, Member, Operand, lacks, look_at, run_command, run_pipeline};
 use fl_engines::Engine;
 use fl_segments::First;
 use ps_lines::{Memory, Text};
-use ps_world::{Gate, Place, Sink, Source, Tree, WorldErr};
+use ps_world::{Gate, Path, Place, Sink, Source, Tree, WorldErr};
 use std::alloc::Global;
 use ut_args::Inv;
 
@@ -42,6 +46,8 @@ use ut_args::Inv;
 pub(crate) enum Task<'task, 'operands> {
     /// A utility, with what its operands name.
     Utility(&'task Inv, &'operands [Operand]),
+    /// tee, and the status that it leaves.
+    Tee(&'task Inv, u8),
     /// The members of a pipeline, each over the output of the one before.
     Pipeline(&'task [Member]),
 }
@@ -273,6 +279,7 @@ fn take_inputs<T: Tree, I: Source + Send, O: Sink + Send, E: Sink, G: Gate, X: E
     run_task(
         alloc,
         Task::Utility(inv, operands),
+        &[],
         shell,
         session,
         tree,
@@ -284,12 +291,14 @@ fn take_inputs<T: Tree, I: Source + Send, O: Sink + Send, E: Sink, G: Gate, X: E
     )
 }
 
-/// Runs a task, and writes its output where descriptor 1 leads.
+/// Runs a task, and writes its output where descriptor 1 leads, and to these files.
 ///
-/// Where that is the output of the run, it's written as it comes; elsewhere it's gathered and put there once the task has run.
+/// Where that is the output of the run, and the files are apart, all is written as it comes; else the output is gathered, and written
+/// once the task has run.
 pub(crate) fn run_task<T: Tree, I: Source + Send, O: Sink + Send, E: Sink, G: Gate, X: Engine>(
     alloc: Global,
     task: Task<'_, '_>,
+    files: &[Path],
     shell: &mut Shell,
     session: &mut Session,
     tree: &mut T,
@@ -299,9 +308,9 @@ pub(crate) fn run_task<T: Tree, I: Source + Send, O: Sink + Send, E: Sink, G: Ga
     gate: &G,
     engine: &mut X,
 ) -> Played<I, O>
-    requires ready { CanRun task (T.state tree.old) }
+    requires ready { CanRun task files.now (T.state tree.old) }
     requires sound { IsSound session.old (T.state tree.old) }
-    ensures { (does : Does) → AreMeant (asks_of task.entry) (reads_of task.entry) does (T.state tree.old) → Evaluates (λ expansions. takes does)
+    ensures { (does : Does) → ((own : List Components) → AreMeant (asks_of task.entry own) (reads_of task.entry) does (T.state tree.old)) → Evaluates (λ expansions. takes files.now does)
         (point_of shell.old session.old (T.state tree.old) (seen_of (drawn_of (I.left input) (X.used engine.old)) (O.taken out) (E.taken err.old))
         (faults_of (I.faults input) (O.faults out) (E.faults err.old) (T.faults tree.old)))
         result.how
@@ -315,9 +324,9 @@ pub(crate) fn run_task<T: Tree, I: Source + Send, O: Sink + Send, E: Sink, G: Ga
             out,
         };
     };
-    if let To::Output = &session.streams.to {
+    if can_stream(&session.streams.to, files) {
         let Commanded { ended, input, out } = run_asked(
-            alloc, task, &first, tree, input, out, gate, engine,
+            alloc, task, files, &first, tree, input, out, gate, engine,
         );
         let how = end(ended, shell);
         return Played { how, input, out };
@@ -329,6 +338,7 @@ pub(crate) fn run_task<T: Tree, I: Source + Send, O: Sink + Send, E: Sink, G: Ga
     } = run_asked(
         alloc,
         task,
+        &[],
         &first,
         tree,
         input,
@@ -342,14 +352,58 @@ pub(crate) fn run_task<T: Tree, I: Source + Send, O: Sink + Send, E: Sink, G: Ga
         return Played { how, input, out };
     }
     let mut out = out;
-    let how = put(text.as_slice(), session, tree, &mut out, err);
+    let how = spread(files, text.as_slice(), session, tree, &mut out, err);
     Played { how, input, out }
 }
 
-/// Runs a task over its inputs, as a graph on the engine, and writes its output.
+/// Whether a graph can write all as it comes: the output of the run, and files that are apart.
+fn can_stream(place: &To, files: &[Path]) -> bool
+    ensures output { result ≡ true → place.now ≡ To.Output }
+    ensures apart { result ≡ true → AreWrittenApart [] files.now }
+{
+    matches!(place, To::Output) && are_apart(files)
+}
+
+/// Whether files are apart: none stands there twice, and none is the null device.
+fn are_apart(files: &[Path]) -> bool
+    ensures { result ≡ true → AreWrittenApart [] files.now }
+{
+    are_distinct(files) && !has_null(files)
+}
+
+/// Whether the null device stands among these.
+fn has_null(files: &[Path]) -> bool
+    ensures { result ≡ list_any is_null_path files.now }
+{
+    files.iter().any(|file| file.is_null_device())
+}
+
+/// Whether no file stands there twice.
+fn are_distinct(files: &[Path]) -> bool
+    ensures { result ≡ are_distinct_lem files.now }
+{
+    let mut left = files;
+    while let [first, rest @ ..] = left {
+        if is_among(rest, first) {
+            return false;
+        }
+        left = rest;
+    }
+    true
+}
+
+/// Whether a file stands among these.
+fn is_among(files: &[Path], file: &Path) -> bool
+    ensures { result ≡ is_among_lem files.now file.now }
+{
+    files.iter().any(|other| other == file)
+}
+
+/// Runs a task over its inputs, as a graph on the engine, and writes its output, and these files where it's tee.
 fn run_asked<T: Tree, I: Source + Send, O: Sink + Send, G: Gate, X: Engine>(
     alloc: Global,
     task: Task<'_, '_>,
+    files: &[Path],
     from: &First,
     tree: &mut T,
     input: I,
@@ -357,9 +411,10 @@ fn run_asked<T: Tree, I: Source + Send, O: Sink + Send, G: Gate, X: Engine>(
     gate: &G,
     engine: &mut X,
 ) -> Commanded<I, O>
-    requires ready { CanRun task (T.state tree.old) }
+    requires ready { CanRun task files.now (T.state tree.old) }
+    requires apart { AreWrittenApart [] files.now }
     requires whole { IfSome (T.state tree.old).held NoWriterOut }
-    ensures { Runs (asks_of task.entry from.now) (T.state tree.old) (T.state tree.new) (I.left input) (I.left result.input) (O.taken out) (O.taken result.out)
+    ensures { Runs (asks_of task.entry files.now from.now) (T.state tree.old) (T.state tree.new) (I.left input) (I.left result.input) (O.taken out) (O.taken result.out)
         (counts_of (I.faults input) (O.faults out) (T.faults tree.old)) (counts_of (I.faults result.input) (O.faults result.out) (T.faults tree.new))
         (X.used engine.old) (X.used engine.new) result.ended }
 {
@@ -378,9 +433,64 @@ fn run_asked<T: Tree, I: Source + Send, O: Sink + Send, G: Gate, X: Engine>(
                 engine,
             )
         }
+        Task::Tee(inv, status) => run_copy(
+            alloc, inv, status, files, from, tree, input, out, gate, engine,
+        ),
         Task::Pipeline(members) => run_pipeline(
             alloc, members, from, tree, input, out, gate, engine,
         ),
+    }
+}
+
+/// Runs tee as a graph on the engine, over what stands in the place of its input, with these files, and leaves this status.
+fn run_copy<T: Tree, I: Source + Send, O: Sink + Send, G: Gate, X: Engine>(
+    alloc: Global,
+    inv: &Inv,
+    status: u8,
+    files: &[Path],
+    from: &First,
+    tree: &mut T,
+    input: I,
+    out: O,
+    gate: &G,
+    engine: &mut X,
+) -> Commanded<I, O>
+    requires ready { CanRunTee inv.now files.now (T.state tree.old) }
+    requires apart { AreWrittenApart [] files.now }
+    requires whole { IfSome (T.state tree.old).held NoWriterOut }
+    ensures { Runs (tee_asks inv.now status files.now from.now) (T.state tree.old) (T.state tree.new) (I.left input) (I.left result.input) (O.taken out) (O.taken result.out)
+        (counts_of (I.faults input) (O.faults out) (T.faults tree.old)) (counts_of (I.faults result.input) (O.faults result.out) (T.faults tree.new))
+        (X.used engine.old) (X.used engine.new) result.ended }
+{
+    let Commanded { ended, input, out } = run_command(
+        alloc,
+        inv,
+        &[],
+        files,
+        from,
+        tree,
+        input,
+        out,
+        gate,
+        engine,
+    );
+    Commanded {
+        ended: end_with(ended, status),
+        input,
+        out,
+    }
+}
+
+/// How a run came out, with this status where it has come to its end.
+fn end_with(ended: Ended, status: u8) -> Ended
+    ensures { result ≡ ended_with status ended }
+{
+    match ended {
+        Ended::Done(_) => Ended::Done(status),
+        Ended::Input => Ended::Input,
+        Ended::Output => Ended::Output,
+        Ended::Tree => Ended::Tree,
+        Ended::Memory => Ended::Memory,
     }
 }
 
@@ -390,6 +500,7 @@ fn reads_input(task: Task<'_, '_>) -> bool
 {
     match task {
         Task::Utility(_, operands) => reads_stream(operands),
+        Task::Tee(_, _) => true,
         Task::Pipeline(members) => head_reads(members),
     }
 }

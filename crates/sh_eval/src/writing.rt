@@ -1,18 +1,20 @@
-//! What a shell writes, where its descriptors lead (XCU 2.7).
+//! What a shell writes, where its descriptors lead (XCU 2.7), and to files beside.
 ghost use Rattle.std.specs.Prelude.{◌≡◌, ℕ, ◌≤◌, List, true, IfSome, IsErrOf, OnOk};
 ghost use Rattle.std.specs.Option.{option_map};
 ghost use Rattle.ps_world.specs.Counts.{Rose};
 ghost use Rattle.ps_world.specs.Files.{IsFileAt};
 ghost use Rattle.ps_world.specs.TreeState.{Balanced};
-ghost use Rattle.sh_eval.specs.Contract.{CanTake, Drawn, Evaluates, IsSound, faults_of, point_of, seen_of};
+ghost use Rattle.fl_commands.specs.Writers.{AreFilesAt};
+ghost use Rattle.sh_eval.specs.Contract.{CanTake, Drawn, Evaluates, IsSound, Seen, faults_of, point_of, seen_of};
 ghost use Rattle.sh_eval.specs.Segments.{is_plain_place};
 ghost use Rattle.sh_eval.specs.States.{on, puts, tells, write};
+ghost use Rattle.sh_eval.specs.Teeing.{spreads, writes};
 ghost use Rattle.sh_eval.specs.Writing.{added_to, kept as kept_lem, written as written_lem};
 ghost use Rattle.sh_eval.specs.declared.session.Session.{Session};
 ghost use Rattle.sh_eval.specs.declared.shell.Shell.{Shell};
 
 use crate::flows::Flow;
-use crate::outcomes::How;
+use crate::outcomes::{How, goes_on};
 use crate::session::{Pipes, Session};
 use crate::streams::To;
 use ps_world::{Mode, Path, Sink, Tree, WorldErr, write_all};
@@ -42,6 +44,48 @@ pub(crate) fn put<T: Tree, O: Sink, E: Sink>(
         out,
         err,
     )
+}
+
+/// Writes a command's output, and the same behind what each of these files has.
+pub(crate) fn spread<T: Tree, O: Sink, E: Sink>(
+    files: &[Path],
+    bytes: &[u8],
+    session: &mut Session,
+    tree: &mut T,
+    out: &mut O,
+    err: &mut E,
+) -> How
+    requires sound { IsSound session.old (T.state tree.old) }
+    requires there { IfSome (T.state tree.old).held (λ held. AreFilesAt held files.now) }
+    ensures { (shell : Shell) (drawn : Drawn) (input : ℕ) → Evaluates (λ expansions. spreads files.now bytes.now)
+        (point_of shell session.old (T.state tree.old) (seen_of drawn (O.taken out.old) (E.taken err.old))
+        (faults_of input (O.faults out.old) (E.faults err.old) (T.faults tree.old)))
+        result
+        (point_of shell session.new (T.state tree.new) (seen_of drawn (O.taken out.new) (E.taken err.new))
+        (faults_of input (O.faults out.new) (E.faults err.new) (T.faults tree.new))) }
+{
+    let how = put(bytes, session, tree, out, err);
+    if !goes_on(&how) {
+        return how;
+    }
+    write_each(files, bytes, tree)
+}
+
+/// Writes bytes behind those of each of these files.
+fn write_each<T: Tree>(files: &[Path], bytes: &[u8], tree: &mut T) -> How
+    requires there { IfSome (T.state tree.old).held (λ held. AreFilesAt held files.now) }
+    ensures { (shell : Shell) (session : Session) (seen : Seen) (input output errors : ℕ) → Evaluates (λ expansions state. on (writes files.now bytes.now state))
+        (point_of shell session (T.state tree.old) seen (faults_of input output errors (T.faults tree.old)))
+        result
+        (point_of shell session (T.state tree.new) seen (faults_of input output errors (T.faults tree.new))) }
+{
+    for file in files {
+        let how = kept(append_to(tree, file, bytes));
+        if !goes_on(&how) {
+            return how;
+        }
+    }
+    How::Gone(Flow::On)
 }
 
 /// Writes a command's diagnostics.

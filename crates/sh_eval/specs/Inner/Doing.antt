@@ -1,12 +1,10 @@
 -- What a command does, for the functions that do it.
-use Rattle.std.specs.Prelude.{List, [], Bool, true, false, ◌&&◌, nat_le, length, Option, Some, None}
+use Rattle.std.specs.Prelude.{List, [], Bool, true, false, ◌&&◌, nat_le, length}
 use Rattle.ut_args.specs.Built.{is_built_of}
 use Rattle.ut_args.specs.Inputs.{operands_of}
 use Rattle.ut_args.specs.Invocations.{command_of}
-use Rattle.ut_args.specs.declared.commands.Command.{Command}
-use Rattle.ut_args.specs.declared.commands.Command.TheVariants as command
-use Rattle.ut_args.specs.declared.commands.TeeArgs.{TeeArgs}
 use Rattle.ut_args.specs.declared.invocations.Inv.{Inv}
+use Rattle.fl_segments.specs.Stages.{is_tee}
 use Rattle.sh_eval.specs.declared.simple.Doing.{Doing}
 use Rattle.sh_eval.specs.declared.simple.Doing.TheVariants as doing
 use Rattle.sh_eval.specs.declared.flows.Flow.{Flow}
@@ -21,18 +19,13 @@ use Rattle.sh_eval.specs.Utilities.{runs_utility, uses_by_operands}
 use Rattle.sh_eval.specs.Teeing.{tees, uses_by_files}
 use Rattle.sh_eval.specs.Asking.{Asked, no_name, unknown, unlisted, unusable, tee, utility, builtin, at_fault, does, is_special}
 
--- what tee is asked for
-abbrev pub tee_of : Command → Option TeeArgs
-tee_of (command.Tee args) = Some args
-tee_of other = None
-
 -- it is one of the shell's own commands
 abbrev pub is_own : Asked → Bool
 is_own no_name = false
 is_own (unknown name) = false
 is_own (unlisted name letter) = false
 is_own (unusable is_special name) = false
-is_own (tee name args) = false
+is_own (tee name called) = false
 is_own (utility name called) = false
 is_own (builtin is_special means) = true
 
@@ -42,7 +35,7 @@ stays_of no_name = true
 stays_of (unknown name) = false
 stays_of (unlisted name letter) = false
 stays_of (unusable is_special name) = is_special
-stays_of (tee name args) = false
+stays_of (tee name called) = false
 stays_of (utility name called) = false
 stays_of (builtin is_special means) = is_special
 
@@ -52,7 +45,7 @@ way_of no_name = flow.On
 way_of (unknown name) = flow.On
 way_of (unlisted name letter) = flow.On
 way_of (unusable is_special name) = at_fault is_special
-way_of (tee name args) = flow.On
+way_of (tee name called) = flow.On
 way_of (utility name called) = flow.On
 way_of (builtin is_special means) = at_fault is_special
 
@@ -62,7 +55,7 @@ own_means no_name state = on (leaves state.shell.substitution_status state)
 own_means (unknown name) state = on state
 own_means (unlisted name letter) state = on state
 own_means (unusable is_special name) state = misused (at_fault is_special) name state
-own_means (tee name args) state = tees name args state
+own_means (tee name called) state = tees name called state
 own_means (utility name called) state = runs_utility pages name called state
 own_means (builtin is_special means) state = means state
 
@@ -72,7 +65,7 @@ uses_own no_name state = []
 uses_own (unknown name) state = []
 uses_own (unlisted name letter) state = []
 uses_own (unusable is_special name) state = []
-uses_own (tee name args) state = uses_by_files args state
+uses_own (tee name called) state = uses_by_files called state
 uses_own (utility name called) state = uses_by_operands pages called state
 uses_own (builtin is_special means) state = []
 
@@ -86,7 +79,7 @@ asked_of doing.Nothing = no_name
 asked_of (doing.Builtin name inv) = does name.now [] (command_of inv.now)
 asked_of (doing.Misuse name) = unusable (is_special name.now) name.now
 asked_of (doing.WrongPatterns name) = unusable false name.now
-asked_of (doing.Tee name args) = tee name.now args.now
+asked_of (doing.Tee name inv) = tee name.now (called_by inv.now)
 asked_of (doing.Utility name inv) = utility name.now (called_by inv.now)
 
 -- where it is said to be one of them, it is
@@ -95,5 +88,5 @@ can_be_done doing.Nothing = true
 can_be_done (doing.Builtin name inv) = is_own (does name.now [] (command_of inv.now))
 can_be_done (doing.Misuse name) = true
 can_be_done (doing.WrongPatterns name) = true
-can_be_done (doing.Tee name args) = true
+can_be_done (doing.Tee name inv) = is_tee inv.now
 can_be_done (doing.Utility name inv) = can_run inv.now

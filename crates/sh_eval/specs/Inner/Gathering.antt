@@ -9,6 +9,7 @@ use Rattle.ut_args.specs.Inputs.{operands_by, operands_of}
 use Rattle.ut_args.specs.Invocations.{command_of, words_of}
 use Rattle.ut_args.specs.Reading.{invocation}
 use Rattle.ut_args.specs.declared.invocations.Inv.{Inv}
+use Rattle.fl_segments.specs.Stages.{is_tee}
 use Rattle.fl_segments.specs.declared.chains.TheConstants.{MAX_STAGES}
 use Rattle.fl_commands.specs.Inner.Stages.{some_lacks}
 use Rattle.fl_commands.specs.Members.{AllCanRun, AllNamesStand, files_teed}
@@ -114,9 +115,10 @@ pub record IsAskedBy (words : List WordTree) (shell : Shell) (tree : TreeState) 
   pub fields : GiveFields words (inside shell) tree (words_of inv)
   pub read : IsRead (words_of inv) inv
 
--- a utility that runs, whatever its operands name
+-- a utility that runs, whatever its operands name, and writes no files
 pub record CanBeMember (inv : Inv) : Type 0 where
   pub built : is_built_of inv ≡ true
+  pub no_tee : is_tee inv ≡ false
   pub few : length (operands_of inv) ≤ most_operands
   pub patterns : patterns_of (command_of inv) ≡ read
 

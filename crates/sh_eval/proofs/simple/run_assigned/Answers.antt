@@ -29,7 +29,7 @@ returns-in-WrongPatterns g c =
 
 pub returns-in-Tee : goal.returns-in-Tee
 returns-in-Tee g c =
-    c.in-Ok.ensures.ok _ _ (λ expansions given. own_means (asked_of c.args.doing)) _ _ (runs-own c.args.doing _ _ _ c.requires.own (rw c.in-Tee.is (c.run_tee-how.ensures _)))
+    c.in-Ok.ensures.ok _ _ (λ expansions given. own_means (asked_of c.args.doing)) _ _ (runs-own c.args.doing _ _ _ c.requires.own (rw c.in-Tee.is c.run_tee.ensures))
 
 pub returns-in-Utility : goal.returns-in-Utility
 returns-in-Utility g c =

@@ -13,5 +13,5 @@ returns-in-Err-clause-err g c = λ means adds shell session seen input output er
 pub returns-in-Ok-clause-found : goal.returns-in-Ok-clause-found
 returns-in-Ok-clause-found g c = λ state held home.
     c.in-Ok.ensures.ok state held home
-    ∙ ap (λ (it : List Use). it ++ map (written_use state) (texts_of c.as_slice.result.now)) c.new-uses.ensures.items
-    ∙ ap (map (written_use state)) c.as_slice.ensures
+    ∙ ap (λ (it : List Use). it ++ map (written_use state) (texts_of c.files_written.result.now)) c.new-uses.ensures.items
+    ∙ ap (map (written_use state)) c.files_written.ensures

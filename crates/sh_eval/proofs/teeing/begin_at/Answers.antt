@@ -1,9 +1,7 @@
-use Rattle.std.proofs.Common.{ap, refl}
+use Rattle.std.proofs.Common.{refl}
 use Rattle.ps_world.specs.declared.places.Place.TheVariants as place
-use Rattle.ps_world.proofs.TreeStateLemmas.{balanced-none}
 use Rattle.sh_eval.specs.Inner.Teeing.{made_of}
-use Rattle.sh_eval.specs.Teeing.{Made}
-use Rattle.sh_eval.proofs.TeeingSteps.{begins-at, begins-still, on_ok, there-null}
+use Rattle.sh_eval.proofs.TeeingSteps.{begins-at, begins-still, on_ok}
 use Rattle.sh_eval.proofs.teeing.begin_at.Goals as goal
 
 pub returns-in-Missing-clause-begins : goal.returns-in-Missing-clause-begins
@@ -24,8 +22,4 @@ returns-in-File-clause-begins g c =
 
 pub returns-clause-begins : goal.returns-clause-begins
 returns-clause-begins g c =
-    on_ok c.add_place.result (λ added. begins-still c.args.anew c.args.name.now c.args.text.now _ place.Null (made_of c.args.begun.now) _ _ (g.T.Tree.state c.args.tree.now) c.in-Null.is (λ next state. refl) added) c.add_place.ensures.added
-
-pub returns-clause-there : goal.returns-clause-there
-returns-clause-there g c =
-    on_ok c.add_place.result (λ added. there-null c.args.begun.now.places.items _ (g.T.Tree.state c.args.tree.now).held (ap (λ (it : Made). it.places) added)) c.add_place.ensures.added
+    begins-still c.args.anew c.args.name.now c.args.text.now _ place.Null (made_of c.args.begun.now) _ _ (g.T.Tree.state c.args.tree.now) c.in-Null.is (λ next state. refl) refl

@@ -1,7 +1,8 @@
 use Rattle.std.proofs.Common.{Err, ap, sym, subst, IfSome}
 use Rattle.ps_world.specs.TreeState.{Balanced, TreeState}
 use Rattle.ps_world.proofs.TreeStateLemmas.{balanced-none}
-use Rattle.sh_eval.specs.Inner.Teeing.{CanTakeAll, made_of}
+use Rattle.fl_commands.specs.Writers.{AreFilesAt}
+use Rattle.sh_eval.specs.Inner.Teeing.{made_of}
 use Rattle.sh_eval.proofs.OpeningLemmas.{if_err}
 use Rattle.sh_eval.proofs.TeeingSteps.{begins-named, fails-behind, fails-by, on_ok}
 use Rattle.sh_eval.proofs.teeing.begin_one.Goals as goal
@@ -13,7 +14,7 @@ returns-in-Ok-clause-begins g c =
 
 pub returns-in-Ok-clause-there : goal.returns-in-Ok-clause-there
 returns-in-Ok-clause-there g c =
-    on_ok c.begin_at.result (λ there takes. there (subst (λ (it : TreeState). IfSome it.held (CanTakeAll c.args.begun.now.places.items)) (sym c.in-Ok.ensures.state) takes)) c.begin_at.ensures.there
+    on_ok c.begin_at.result (λ there takes. there (subst (λ (it : TreeState). IfSome it.held (λ held. AreFilesAt held c.args.begun.now.files.items)) (sym c.in-Ok.ensures.state) takes)) c.begin_at.ensures.there
 
 pub returns-in-Ok-clause-err : goal.returns-in-Ok-clause-err
 returns-in-Ok-clause-err g c =

@@ -6,11 +6,11 @@ use Rattle.sh_eval.proofs.teeing.begin_path.Goals as goal
 
 pub returns-in-Ok-clause-begins : goal.returns-in-Ok-clause-begins
 returns-in-Ok-clause-begins g c =
-    on_ok c.add_place.result (λ added. begins-file c.args.anew c.args.path (made_of c.args.begun.now) _ (g.T.Tree.state c.args.tree.now) (g.T.Tree.state c.begin_file.new.tree) c.in-Ok.ensures.held c.in-Ok.ensures.lent added) c.add_place.ensures.added
+    on_ok c.add_file.result (λ added. begins-file c.args.anew c.args.path (made_of c.args.begun.now) _ (g.T.Tree.state c.args.tree.now) (g.T.Tree.state c.begin_file.new.tree) c.in-Ok.ensures.held c.in-Ok.ensures.lent added) c.add_file.ensures.added
 
 pub returns-in-Ok-clause-there : goal.returns-in-Ok-clause-there
 returns-in-Ok-clause-there g c =
-    on_ok c.add_place.result (λ added. there-file c.args.anew c.args.path c.args.begun.now.places.items _ (g.T.Tree.state c.args.tree.now).held (g.T.Tree.state c.begin_file.new.tree).held c.in-Ok.ensures.held (ap (λ (it : Made). it.places) added)) c.add_place.ensures.added
+    on_ok c.add_file.result (λ added. there-file c.args.anew c.args.path c.args.begun.now.files.items _ (g.T.Tree.state c.args.tree.now).held (g.T.Tree.state c.begin_file.new.tree).held c.in-Ok.ensures.held (ap (λ (it : Made). it.files) added)) c.add_file.ensures.added
 
 pub returns-in-Err-clause-err : goal.returns-in-Err-clause-err
 returns-in-Err-clause-err g c =

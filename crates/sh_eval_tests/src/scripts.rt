@@ -31,6 +31,8 @@ struct Left {
     errors: Vec<u8>,
     /// The bytes of the file `f`, where there is one.
     file: Option<Vec<u8>>,
+    /// The words of the utilities that the engine has noted, each behind a bar.
+    noted: Vec<u8>,
 }
 
 /// The script that a text is, if it is one.
@@ -126,6 +128,7 @@ fn run_over<H: Threads + Wait + Sync>(
 {
     let input = Vec::from_slice(alloc, input.as_bytes())?;
     let mut errors = MemSink::new(alloc, Vec::new(alloc));
+    let mut engine = InTurn::<H>::new(alloc);
     let Played { how, input, out } = run_script(
         alloc,
         script,
@@ -136,23 +139,38 @@ fn run_over<H: Threads + Wait + Sync>(
         MemSink::new(alloc, Vec::new(alloc)),
         &mut errors,
         &OpenGate,
-        &mut InTurn::<H>::new(alloc),
+        &mut engine,
     );
     drop(input);
-    let left = left_of(alloc, shell.status(), tree, &out, &errors);
+    let left = left_of(alloc, shell.status(), tree, &out, &errors, &engine);
+    drop(engine);
     drop(out);
     drop(errors);
     came(how, left)
 }
 
+/// The words of the utilities that an engine has noted, each behind a bar.
+fn noted_words<H>(alloc: Global, engine: &InTurn<H>) -> Result<Vec<u8>, Memory> {
+    let mut noted = Vec::new(alloc);
+    for words in engine.used() {
+        for word in words.as_slice() {
+            noted.push(b'|')?;
+            noted.extend_from_slice(word.as_slice())?;
+        }
+    }
+    Ok(noted)
+}
+
 /// What a run left behind.
-fn left_of(
+fn left_of<H>(
     alloc: Global,
     status: u8,
     tree: &MemTree,
     out: &MemSink,
     errors: &MemSink,
+    engine: &InTurn<H>,
 ) -> Result<Left, Memory> {
+    let noted = noted_words(alloc, engine)?;
     let output = Vec::from_slice(alloc, out.taken())?;
     let errors = Vec::from_slice(alloc, errors.taken())?;
     let file = match tree.file(b"/w/f")? {
@@ -164,6 +182,7 @@ fn left_of(
         output,
         errors,
         file,
+        noted,
     })
 }
 
@@ -571,6 +590,39 @@ static UTILITIES: [(&str, &str, &str, &str, u8); 21] = [
 fn utilities_are_run(rt: HostRuntime) -> Result<(), Fail> {
     for &(text, input, output, errors, status) in UTILITIES.iter() {
         expect(&rt, rt.alloc(), text, input, output, errors, status)?;
+    }
+    Ok(())
+}
+
+static NOTED: [(&str, &str); 4] = [
+    ("cat g | tee f | wc -l", "|tee|f|wc|-l"),
+    ("tee -a no/x /dev/null < g", "|tee|-a|no/x|/dev/null"),
+    ("tee f < g > h; sort f h", "|tee|f|sort|f|h"),
+    ("{ tee f; } < g | tr 1 2", "|tee|f|tr|1|2"),
+];
+
+/// A script notes these utilities.
+fn notes<H: Abort + Threads + Wait + Sync>(
+    rt: &H,
+    alloc: Global,
+    text: &str,
+    noted: &str,
+) -> Result<(), Fail> {
+    let ran = run(rt, alloc, text, "")?.expect(rt, text);
+    is_right(
+        rt,
+        &ran,
+        text,
+        ran.left.noted.as_slice() == noted.as_bytes(),
+    );
+    drop(ran);
+    Ok(())
+}
+
+#[test]
+fn utilities_that_ran_are_noted(rt: HostRuntime) -> Result<(), Fail> {
+    for &(text, noted) in NOTED.iter() {
+        notes(&rt, rt.alloc(), text, noted)?;
     }
     Ok(())
 }

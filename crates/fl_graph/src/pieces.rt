@@ -47,6 +47,13 @@ impl Bytes {
     {
         self.bytes.as_slice()
     }
+
+    /// The buffer that they lie in.
+    pub fn into_vec(self) -> Vec<u8>
+        ensures { result.items ≡ self }
+    {
+        self.bytes
+    }
 }
 
 /// A piece of the front of these bytes, as long as a piece can be.

@@ -1,5 +1,5 @@
 -- The aggregate of several texts, from the left, is what one stream makes of all of them.
-use Rattle.std.proofs.Common.{◌≡◌, ℕ, zero, suc, ◌+◌, ◌-◌, ◌<◌, ◌≤◌, ◌==◌, List, [], ◌∷◌, ◌++◌, Bool, true, false, not, ◌&&◌, nat_le, nat_lt, if◌then◌else◌, drop, map, get_or, refl, ap, sym, ◌∙◌, append_assoc, append-nil, arith}
+use Rattle.std.proofs.Common.{◌≡◌, ℕ, zero, suc, ◌+◌, ◌-◌, ◌≤◌, ◌==◌, List, [], ◌∷◌, ◌++◌, Bool, true, false, not, ◌&&◌, nat_le, nat_lt, if◌then◌else◌, map, get_or, refl, ap, sym, ◌∙◌, append_assoc, append-nil, arith}
 use Rattle.std.specs.List.{range_with_len}
 use Rattle.std.specs.declared.cmp.Ordering.{Ordering}
 use Rattle.std.proofs.Math.Dec.{eqb-suc-zero}
@@ -155,20 +155,20 @@ module _ (texts : ℕ → List ℕ) where
         ∙ sym (ap (λ first. aggregate_from (inv.Sort sort) first (map texts (range_with_len ((0 + 1) + 1) ins))) (sort-joins (texts 0) (texts (0 + 1))))
 
 -- all of it is due at the beginning
-pub gathered-given : (due : List ℕ → List ℕ) (aggregate : List ℕ) (close within : Bool) (texts : ℕ → List ℕ) (at ins given port : ℕ) (out : List ℕ) → 2 ≤ ins
-    → at ≡ 0 → given ≡ 0 → out ≡ [] → within ≡ false → due (joined_by close false texts 0 ins) ≡ aggregate
-    → gathered_on (drop given out) due close within texts at ins port ≡ get_or (aggregate ∷ []) port []
-gathered-given due aggregate close within texts at ins given port out some first none empty whole is =
+pub gathered-given : (due : List ℕ → List ℕ) (aggregate : List ℕ) (close within : Bool) (texts : ℕ → List ℕ) (at ins port : ℕ) (waiting : List ℕ) → 2 ≤ ins
+    → at ≡ 0 → waiting ≡ [] → within ≡ false → due (joined_by close false texts 0 ins) ≡ aggregate
+    → gathered_on waiting due close within texts at ins port ≡ get_or (aggregate ∷ []) port []
+gathered-given due aggregate close within texts at ins port waiting some first none whole is =
     let all : ins - 0 ≡ ins = omega arith in
-    (λ i. gathered_on (drop (none i) (empty i)) due close (whole i) texts (first i) ins port)
+    (λ i. gathered_on (none i) due close (whole i) texts (first i) ins port)
     ∙ ap (λ (text : List ℕ). if port == 0 then text else [])
     (ap (λ (open_in : Bool). if open_in then due (joined_by close false texts 0 (ins - 0)) else []) (lt-ltb 0 ins (omega (arith, some)))
     ∙ ap (λ (count : ℕ). due (joined_by close false texts 0 count)) all ∙ is)
     ∙ sym (get_or-one aggregate port)
 
 -- a machine that gathers stands at the beginning of an aggregate
-pub gathered-begins : (inv : Inv) (ins own : ℕ) (act : Act) (due : List ℕ → List ℕ) (close within putting broken : Bool) (at given : ℕ) (out : List ℕ) → 2 ≤ ins
-    → own ≡ ins → at ≡ 0 → given ≡ 0 → out ≡ [] → within ≡ false → putting ≡ true → broken ≡ false
+pub gathered-begins : (inv : Inv) (ins own : ℕ) (act : Act) (due : List ℕ → List ℕ) (close within putting broken : Bool) (at : ℕ) (waiting : List ℕ) → 2 ≤ ins
+    → own ≡ ins → at ≡ 0 → waiting ≡ [] → within ≡ false → putting ≡ true → broken ≡ false
     → ((texts : ℕ → List ℕ) → due (joined_by close false texts 0 ins) ≡ aggregate_of inv (texts_at ins texts))
     → Begins (kind.Agg inv) ins 1 (record {
       act = act;
@@ -177,10 +177,10 @@ pub gathered-begins : (inv : Inv) (ins own : ℕ) (act : Act) (due : List ℕ �
       numbered_ins = λ port. false;
       numbered_outs = λ port. false;
       broken = broken;
-      due = λ texts port. gathered_on (drop given out) due close within texts at own port;
+      due = λ texts port. gathered_on waiting due close within texts at own port;
       selects = λ texts. false;
     })
-gathered-begins inv ins own act due close within putting broken at given out some same first none empty whole is_putting is_whole joined = record {
+gathered-begins inv ins own act due close within putting broken at waiting some same first none whole is_putting is_whole joined = record {
   takes_all = λ port.
       ap (λ (test : Bool). test && nat_lt port own) (ap (λ (at : ℕ). nat_le at port) first ∙ le-leb 0 port (omega arith)) ∙ ap (λ (ins : ℕ). nat_lt port ins) same;
   puts_all = λ port. ap (λ (putting : Bool). if port == 0 then putting else false) is_putting ∙ first-port port;
@@ -188,8 +188,8 @@ gathered-begins inv ins own act due close within putting broken at given out som
   plain_outs = λ port. refl;
   is_whole = is_whole;
   owes = λ texts port.
-      ap (λ (ins : ℕ). gathered_on (drop given out) due close within texts at ins port) same
-      ∙ gathered-given due (aggregate_of inv (texts_at ins texts)) close within texts at ins given port out some first none empty whole (joined texts);
+      ap (λ (ins : ℕ). gathered_on waiting due close within texts at ins port) same
+      ∙ gathered-given due (aggregate_of inv (texts_at ins texts)) close within texts at ins port waiting some first none whole (joined texts);
   may_select = λ texts. refl;
 }
   where
@@ -198,8 +198,8 @@ gathered-begins inv ins own act due close within putting broken at given out som
     first-port (suc port) = ap (λ (here : Bool). if here then true else false) (eqb-suc-zero port) ∙ sym (le-ltb (suc port) 1 (omega arith))
 
 -- and so does one that merges
-pub merge-begins : (inv : Inv) (ins : ℕ) (act : Act) (owes : (ℕ → List ℕ) → List ℕ) (opens : List Bool) (putting broken : Bool) (given : ℕ) (out : List ℕ)
-    → given ≡ 0 → out ≡ [] → ((port : ℕ) → get_or opens port false ≡ nat_lt port ins) → putting ≡ true → broken ≡ false
+pub merge-begins : (inv : Inv) (ins : ℕ) (act : Act) (owes : (ℕ → List ℕ) → List ℕ) (opens : List Bool) (putting broken : Bool) (waiting : List ℕ)
+    → waiting ≡ [] → ((port : ℕ) → get_or opens port false ≡ nat_lt port ins) → putting ≡ true → broken ≡ false
     → ((texts : ℕ → List ℕ) → owes texts ≡ aggregate_of inv (texts_at ins texts))
     → Begins (kind.Agg inv) ins 1 (record {
       act = act;
@@ -208,17 +208,17 @@ pub merge-begins : (inv : Inv) (ins : ℕ) (act : Act) (owes : (ℕ → List ℕ
       numbered_ins = λ port. false;
       numbered_outs = λ port. false;
       broken = broken;
-      due = due_at_ports (drop given out) owes;
+      due = due_at_ports waiting owes;
       selects = λ texts. false;
     })
-merge-begins inv ins act owes opens putting broken given out none empty are_open is_putting is_whole joined = record {
+merge-begins inv ins act owes opens putting broken waiting none are_open is_putting is_whole joined = record {
   takes_all = are_open;
   puts_all = λ port. ap (λ (putting : Bool). only_port putting port) is_putting ∙ first-port port;
   plain_ins = λ port. refl;
   plain_outs = λ port. refl;
   is_whole = is_whole;
   owes = λ texts port.
-      (λ i. due_at_ports (drop (none i) (empty i)) owes texts port) ∙ ap (λ (text : List ℕ). if port == 0 then text else []) (joined texts)
+      ap (λ (waiting : List ℕ). due_at_ports waiting owes texts port) none ∙ ap (λ (text : List ℕ). if port == 0 then text else []) (joined texts)
       ∙ sym (get_or-one (aggregate_of inv (texts_at ins texts)) port);
   may_select = λ texts. refl;
 }

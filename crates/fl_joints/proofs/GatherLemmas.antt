@@ -1,7 +1,6 @@
 -- A stream over the texts of the ins of a node, one after another, as pieces of the first of them come.
-use Rattle.std.proofs.Common.{◌≡◌, ℕ, zero, suc, ◌+◌, ◌-◌, ◌<◌, ◌≤◌, ◌==◌, List, [], ◌∷◌, ◌++◌, Bool, true, false, not, ◌&&◌, ◌||◌, nat_lt, if◌then◌else◌, drop, length, min, take, refl, ap, sym, ◌∙◌, append_assoc, append-nil, true≢false, arith}
-use Rattle.std.proofs.lemmas.Bool.{and_parts, eq-eqb, eqb-true, lt-ltb, le-ltb, ltb-false, ltb-true}
-use Rattle.std.proofs.lemmas.List.{drop_all, take_rest}
+use Rattle.std.proofs.Common.{◌≡◌, ℕ, ◌+◌, ◌-◌, ◌<◌, ◌==◌, List, [], ◌∷◌, ◌++◌, Bool, true, false, not, ◌&&◌, nat_lt, if◌then◌else◌, length, refl, ap, sym, ◌∙◌, append_assoc, append-nil, true≢false, arith}
+use Rattle.std.proofs.lemmas.Bool.{and_parts, eq-eqb, eqb-true, lt-ltb, le-ltb, ltb-true}
 use Rattle.ps_lines.specs.Lines.{is_closed}
 use Rattle.fl_graph.specs.Machines.{comes, is_put, is_take, port_put, port_taken, WereDue}
 use Rattle.fl_graph.specs.declared.pieces.Act.TheVariants as act
@@ -9,7 +8,6 @@ use Rattle.fl_graph.specs.declared.pieces.Piece.{Piece}
 use Rattle.fl_graph.specs.declared.pieces.Piece.TheVariants as piece
 use Rattle.fl_joints.specs.Joints.{gathered_on, joined_by}
 use Rattle.fl_joints.proofs.ClosingLemmas.{joined_by-bytes, joined_by-lacking, joined_by-whole}
-use Rattle.fl_joints.proofs.FrontLemmas.{drop-piece}
 use Rattle.fl_joints.proofs.SumLemmas.{taken-at}
 
 -- behind the last in no text is left
@@ -22,12 +20,6 @@ pub taken-idle : (urgent before putting : Bool) (at : ℕ)
     → is_take (if urgent then act.Put 0 else if before then act.Take at else if putting then act.Put 0 else act.Stop) ≡ true → urgent ≡ false
 taken-idle true before putting at turn = absurd (true≢false (sym turn))
 taken-idle false before putting at turn = refl
-
-pub idle-out : (putting broken : Bool) (given size : ℕ) (out : List ℕ) → length out ≡ size → (putting ≡ false → given ≡ size) → (putting && (broken || nat_lt given size)) ≡ false
-    → drop given out ≡ []
-idle-out true true given size out is empty idle = absurd (true≢false idle)
-idle-out true false given size out is empty idle = let past : size ≤ given = ltb-false given size idle in drop_all given out (omega (arith, is, past))
-idle-out false broken given size out is empty idle = let same : given ≡ size = empty refl in drop_all given out (omega (arith, is, same))
 
 module _ (due : List ℕ → List ℕ) (close within urgent before putting : Bool) (at ins : ℕ)
     (turn : is_take (if urgent then act.Put 0 else if before then act.Take at else if putting then act.Put 0 else act.Stop) ≡ true) (is : before ≡ nat_lt at ins) where
@@ -106,15 +98,6 @@ module _ (due : List ℕ → List ℕ) (close within urgent before putting : Boo
       by_end false false lacking last_is newline end nothing =
           ends-between waiting out' due' none texts (sym lacking) (λ same. true≢false (sym (eq-eqb (at + 1) ins same) ∙ sym last_is)) (nothing refl refl).0 (nothing refl refl).1
 
--- a piece that is put was the front of what waits
-pub put-front : (out shown bytes shown_bytes : List ℕ) (given most : ℕ) → shown ≡ out → shown_bytes ≡ bytes
-    → bytes ≡ take (min (length (take (length shown - given) (drop given shown))) most) (take (length shown - given) (drop given shown))
-    → drop given out ≡ bytes ++ drop (given + length shown_bytes) out
-put-front out shown bytes shown_bytes given most same put front =
-    let rest : take (length shown - given) (drop given shown) ≡ drop given out = take_rest shown given ∙ ap (drop given) same in
-    drop-piece out bytes given most (front ∙ (λ i. take (min (length (rest i)) most) (rest i)))
-    ∙ ap (λ (text : List ℕ). bytes ++ drop (given + length text) out) (sym put)
-
 put-at : (urgent before putting : Bool) (at : ℕ) → is_put (if urgent then act.Put 0 else if before then act.Take at else if putting then act.Put 0 else act.Stop) ≡ true
     → port_put (if urgent then act.Put 0 else if before then act.Take at else if putting then act.Put 0 else act.Stop) ≡ 0
 put-at true before putting at turn = refl
@@ -122,6 +105,7 @@ put-at false true putting at turn = absurd (true≢false (sym turn))
 put-at false false true at turn = refl
 put-at false false false at turn = absurd (true≢false (sym turn))
 
+-- a piece that is put was the front of what waits
 pub gathered-put : (due : List ℕ → List ℕ) (close within urgent before putting : Bool) (at ins : ℕ) (waiting left bytes : List ℕ)
     → is_put (if urgent then act.Put 0 else if before then act.Take at else if putting then act.Put 0 else act.Stop) ≡ true → waiting ≡ bytes ++ left
     → WereDue (λ texts port. gathered_on waiting due close within texts at ins port) (λ texts port. gathered_on left due close within texts at ins port)

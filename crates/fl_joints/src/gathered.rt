@@ -1,19 +1,17 @@
 //! A node whose aggregate is a stream over its ins.
-ghost use Rattle.std.specs.Prelude.{◌≡◌, ◌≤◌, ◌<◌, ◌-◌, ◌∷◌, ◌++◌, ◌&&◌, ℕ, List, [], true, false, not, length, vec_len, nat_lt, OnOk};
+ghost use Rattle.std.specs.Prelude.{◌≡◌, ◌≤◌, ◌<◌, ◌-◌, ◌∷◌, ◌++◌, ◌&&◌, ℕ, List, [], true, false, not, nat_lt, OnOk};
 ghost use Rattle.std.specs.Result.{is_ok};
 
-use fl_graph::{Act, Machine, Piece, first_piece};
+use fl_graph::{Act, Machine, Piece};
+use fl_machines::Waiting;
 use ps_lines::{Memory, NEWLINE, is_closed};
 use std::alloc::Global;
 use ut_streams::Stream;
 
 /// The machine of an aggregate that is what a stream makes of the texts of its ins, joined in order: each but the last closed, or as they are.
-///
-/// What the stream has written and wasn't put yet waits in `out`, from `given` on.
 #[derive(Drop)]
 pub struct Gathered<S: Stream> {
     stream: S,
-    alloc: Global,
     ins: u32,
     /// Whether each text but the last is closed.
     close: bool,
@@ -21,15 +19,13 @@ pub struct Gathered<S: Stream> {
     at: u32,
     /// What has come of its text ends within a line.
     within_line: bool,
-    out: Vec<u8>,
-    given: usize,
+    waiting: Waiting,
     putting: bool,
     broken: bool,
     ghost within: { at ≤ ins },
-    ghost waiting: { given ≤ vec_len out },
     ghost usable: { broken ≡ false → at < ins → S.spent stream ≡ false },
     ghost ended: { putting ≡ false → broken ≡ false → at ≡ ins },
-    ghost empty: { putting ≡ false → given ≡ vec_len out },
+    ghost empty: { putting ≡ false → broken ≡ false → waiting ≡ [] },
 }
 
 impl<S: Stream> Gathered<S> {
@@ -41,20 +37,17 @@ impl<S: Stream> Gathered<S> {
         ensures close { result.close ≡ close }
         ensures at { result.at ≡ 0 }
         ensures within_line { result.within_line ≡ false }
-        ensures out { result.out.items ≡ [] }
-        ensures given { result.given ≡ 0 }
+        ensures waiting { result.waiting ≡ [] }
         ensures putting { result.putting ≡ true }
         ensures broken { result.broken ≡ false }
     {
         Gathered {
             stream,
-            alloc,
             ins,
             close,
             at: 0,
             within_line: false,
-            out: Vec::new(alloc),
-            given: 0,
+            waiting: Waiting::nothing(alloc),
             putting: true,
             broken: false,
         }
@@ -94,13 +87,14 @@ fn end_text<S: Stream>(
 }
 
 impl<S: Stream> Machine for Gathered<S> {
-    ghost use Rattle.std.specs.Prelude.{◌==◌, ◌||◌, drop, nat_le, if◌then◌else◌};
+    ghost use Rattle.std.specs.Prelude.{◌==◌, ◌||◌, nat_le, if◌then◌else◌};
+    ghost use Rattle.ps_lines.specs.Lines.{is_empty};
     ghost use Rattle.fl_graph.specs.declared.pieces.Act.TheVariants.{Take, Put, Stop};
     ghost use Rattle.fl_joints.specs.Joints.{gathered_on};
 
     ghost state = { λ machine. record {
       act =
-          if machine.putting && (machine.broken || nat_lt machine.given (vec_len machine.out)) then Put 0
+          if machine.putting && (machine.broken || not (is_empty machine.waiting)) then Put 0
           else if nat_lt machine.at machine.ins then Take machine.at
           else if machine.putting then Put 0 else Stop;
       takes = λ port. nat_le machine.at port && nat_lt port machine.ins;
@@ -109,12 +103,12 @@ impl<S: Stream> Machine for Gathered<S> {
       numbered_outs = λ port. false;
       broken = machine.broken;
       due = λ texts port.
-          gathered_on (drop machine.given machine.out.items) (S.due machine.stream) machine.close machine.within_line texts machine.at machine.ins port;
+          gathered_on machine.waiting (S.due machine.stream) machine.close machine.within_line texts machine.at machine.ins port;
       selects = λ texts. false;
     } };
 
     fn next(&self) -> Act {
-        if self.putting && (self.broken || self.given < self.out.len()) {
+        if self.putting && (self.broken || !self.waiting.is_empty()) {
             return Act::Put(0);
         }
         if self.at < self.ins {
@@ -130,9 +124,10 @@ impl<S: Stream> Machine for Gathered<S> {
                     return Ok(());
                 }
                 self.within_line = !is_closed(bytes.as_slice());
-                self.out.clear();
-                self.given = 0;
-                let fed = self.stream.feed(bytes.as_slice(), &mut self.out);
+                let mut out = self.waiting.buffer();
+                let fed = self.stream.feed(bytes.as_slice(), &mut out);
+                self.waiting.hold(out);
+                self.waiting.keep(bytes);
                 self.broken = fed.is_err();
                 fed
             }
@@ -144,14 +139,14 @@ impl<S: Stream> Machine for Gathered<S> {
                 if self.broken {
                     return Ok(());
                 }
-                self.out.clear();
-                self.given = 0;
+                let mut out = self.waiting.buffer();
                 let fed = end_text(
                     &mut self.stream,
                     lacks_newline,
                     self.at == self.ins,
-                    &mut self.out,
+                    &mut out,
                 );
+                self.waiting.hold(out);
                 self.broken = fed.is_err();
                 fed
             }
@@ -165,19 +160,15 @@ impl<S: Stream> Machine for Gathered<S> {
 
     fn put(&mut self) -> Result<Piece, Memory> {
         if self.broken {
-            self.given = self.out.len();
             self.putting = false;
             return Ok(Piece::Broken);
         }
-        if self.given == self.out.len() {
+        if self.waiting.is_empty() {
             self.putting = false;
             return Ok(Piece::End);
         }
-        match first_piece(self.alloc, &self.out[self.given..]) {
-            Ok(bytes) => {
-                self.given += bytes.as_slice().len();
-                Ok(Piece::Bytes(bytes))
-            }
+        match self.waiting.next() {
+            Ok(bytes) => Ok(Piece::Bytes(bytes)),
             Err(memory) => {
                 self.broken = true;
                 Err(memory)

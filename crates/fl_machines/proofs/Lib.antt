@@ -1,4 +1,5 @@
 pub mod MachineLemmas
+pub mod WaitingLemmas
 pub mod SeriesLemmas
 pub mod PortLemmas
 pub mod PasteLemmas

@@ -1,13 +1,14 @@
 -- Streams in machines, and what is due of a machine at its beginning.
-use Rattle.std.proofs.Common.{◌≡◌, ℕ, zero, suc, ◌+◌, ◌-◌, ◌≤◌, ◌<◌, ◌==◌, ◌&&◌, nat_lt, List, [], ◌∷◌, Bool, true, false, if◌then◌else◌, get_or, refl, ap, sym, ◌∙◌, append-nil, subst, arith}
+use Rattle.std.proofs.Common.{◌≡◌, ℕ, zero, suc, ◌+◌, ◌-◌, ◌≤◌, ◌<◌, ◌==◌, ◌&&◌, nat_lt, List, [], ◌∷◌, ◌++◌, Bool, true, false, if◌then◌else◌, get_or, refl, ap, sym, ◌∙◌, append-nil, subst, arith}
 use Rattle.std.specs.List.{list_all}
-use Rattle.std.proofs.lemmas.Bool.{le-leb, true≢false, and_from, and_parts, eqb-true, eq-eqb, ltb-true, lt-ltb, false_from_ne_true}
+use Rattle.std.proofs.lemmas.Bool.{le-leb, true≢false, and_from, and_parts, eqb-true, eq-eqb, ltb-false, ltb-true, lt-ltb, false_from_ne_true}
 use Rattle.std.proofs.Math.Dec.{eqb-suc-zero}
 use Rattle.ps_lines.specs.Lines.{is_empty}
-use Rattle.ut_streams.proofs.StreamLemmas.{Wrote-put}
 use Rattle.ut_args.specs.Built.{is_built_of}
 use Rattle.ut_args.specs.Inputs.{counted, inputs_of, is_named, joined_inputs, separate_inputs}
 use Rattle.ut_args.specs.Utilities.{has_at_most_one}
+use Rattle.ut_args.specs.declared.commands.Groups.{Groups}
+use Rattle.ut_args.specs.declared.commands.Groups.TheVariants as groups
 use Rattle.ut_args.specs.declared.invocations.Inv.{Inv}
 use Rattle.ut_args.specs.declared.invocations.Inv.TheVariants as inv
 use Rattle.fl_graph.specs.Kinds.{may_have, reads_one_input, runs_what_is_built}
@@ -24,13 +25,12 @@ use Rattle.fl_classes.proofs.ClassLemmas.{by_built}
 use Rattle.ut_args.specs.Invocations.{command_of}
 use Rattle.ut_sort.specs.Order.{sorted_text}
 use Rattle.ut_bytes.specs.Tr.{tr_output}
+use Rattle.ut_groups.specs.Uniq.{uniq_finish}
 use Rattle.ut_slices.specs.Cut.{cut_output}
 use Rattle.ut_slices.specs.Tail.{tail_output}
-use Rattle.fl_machines.specs.Kinds.{is_utility_node, maps_as_whole, reads_apart, runs_utility, stream_output, stream_selects, takes_apart, RunsApart}
+use Rattle.fl_machines.specs.Kinds.{copies, copies_input, finishes_as_is, is_utility_node, keeps_all, maps_as_whole, reads_apart, runs_utility, stream_output, stream_selects, takes_apart, RunsApart}
 use Rattle.fl_machines.specs.InSeries.{due_in_series, ports_from, selects_in_series, texts_from}
-use Rattle.fl_machines.specs.Through.{only_port}
-
-pub ruleset copied = (Wrote-put)
+use Rattle.fl_machines.specs.Through.{due_through, only_port}
 
 -- an invocation that is built reads one input at most
 joined-few : (operands : List (List ℕ)) → joined_inputs operands ≤ 1
@@ -93,16 +93,33 @@ whole-is-map command text one = by_built command (λ utility. utility.part text 
 
 pub ruleset wholes = (whole-is-map)
 
--- no finish changes what it is given but that of wc, which adds a name, and that of uniq, which keeps groups
-abbrev pub finish_is_same : Inv → Bool
-finish_is_same (inv.Wc wc) = false
-finish_is_same (inv.Uniq uniq) = false
-finish_is_same other = true
+-- what copies its input
+map-copies : (command : Inv) (text : List ℕ) → copies_input command ≡ true → map_of command text ≡ text
+map-copies (inv.Cat cat) text is = refl
+map-copies (inv.Tee tee) text is = refl
+map-copies other text is = absurd (true≢false (sym is))
 
-pub finish-is-same : (command : Inv) (text : List ℕ) → finish_is_same command ≡ true → text ≡ finish_of command text
-finish-is-same command text same = by_built command (λ utility. text ≡ utility.finish text) (λ built. by_command command same) refl
+whole-copies : (command : Inv) (text : List ℕ) → copies_input command ≡ true → output_of command (text ∷ []) ≡ text
+whole-copies (inv.Cat cat) text is = append-nil text
+whole-copies (inv.Tee tee) text is = append-nil text
+whole-copies other text is = absurd (true≢false (sym is))
+
+copies-silent : (command : Inv) (text : List ℕ) → copies_input command ≡ true → selects_of command (text ∷ []) ≡ false
+copies-silent (inv.Cat cat) text is = refl
+copies-silent (inv.Tee tee) text is = refl
+copies-silent other text is = absurd (true≢false (sym is))
+
+-- no finish changes what it is given but that of wc, which adds a name, and that of uniq where it leaves groups out
+finish-copies : (command : Inv) (text : List ℕ) → finishes_as_is command ≡ true → finish_of command text ≡ text
+finish-copies command text same = by_built command (λ utility. utility.finish text ≡ text) (λ built. by_command command same) refl
   where
-    by_command : (command : Inv) → finish_is_same command ≡ true → text ≡ (utility_by (command_of command)).finish text
+    by_groups : (groups : Groups) → keeps_all groups ≡ true → uniq_finish groups text ≡ text
+    by_groups groups.All same = refl
+    by_groups groups.Counted same = refl
+    by_groups groups.Repeated same = absurd (true≢false (sym same))
+    by_groups groups.Single same = absurd (true≢false (sym same))
+
+    by_command : (command : Inv) → finishes_as_is command ≡ true → (utility_by (command_of command)).finish text ≡ text
     by_command (inv.Cat cat) same = refl
     by_command (inv.Grep grep) same = refl
     by_command (inv.Tr tr) same = refl
@@ -110,12 +127,21 @@ finish-is-same command text same = by_built command (λ utility. text ≡ utilit
     by_command (inv.Head head) same = refl
     by_command (inv.Tail tail) same = refl
     by_command (inv.Wc wc) same = absurd (true≢false (sym same))
-    by_command (inv.Uniq uniq) same = absurd (true≢false (sym same))
+    by_command (inv.Uniq uniq) same = by_groups uniq.args.groups same
     by_command (inv.Sort sort) same = refl
     by_command (inv.Paste paste) same = refl
     by_command other same = refl
 
-pub ruleset finishes = (finish-is-same)
+stream-copies : (kind : NodeKind) (text : List ℕ) → copies kind ≡ true → stream_output kind text ≡ text
+stream-copies (kind.Map inv) text is = map-copies inv text is
+stream-copies (kind.Whole inv) text is = whole-copies inv text is
+stream-copies (kind.Finish inv) text is = finish-copies inv text is
+stream-copies other text is = refl
+
+stream-silent : (kind : NodeKind) (text : List ℕ) → copies kind ≡ true → stream_selects kind text ≡ false
+stream-silent (kind.Map inv) text is = copies-silent inv text is
+stream-silent (kind.Whole inv) text is = copies-silent inv text is
+stream-silent other text is = refl
 
 -- without an input nothing is written and selected, but by those that read their inputs in order
 nothing-from : (command : Inv) → reads_apart command ≡ false → (output_of command [] ≡ []) × (selects_of command [] ≡ false)
@@ -274,6 +300,39 @@ module _ (kind : NodeKind) (ins outs : ℕ) (is : is_utility_node kind ins outs 
         owes = λ texts port. owed texts port ∙ sym (given-none kind outs texts port here single) ∙ ap (λ (ins : ℕ). given_on kind ins outs texts port) (sym none);
         may_select = λ texts. willed texts ∙ sym (selects-none kind outs texts here single) ∙ ap (λ (ins : ℕ). selects kind (texts_at ins texts)) (sym none);
       }
+
+-- a machine that copies stands at the beginning of a node that does, or that has no in
+module _ (kind : NodeKind) (ins outs : ℕ) (is : is_utility_node kind ins outs ≡ true) (single : takes_apart kind ≡ false) (act : Act) (taking putting broken : Bool)
+    (held : List ℕ) (is_taking : taking ≡ nat_lt 0 ins) (is_putting : putting ≡ true) (is_whole : broken ≡ false) (none : held ≡ [])
+    (copied : 0 < ins → copies kind ≡ true) where
+  abbrev owed : (ℕ → List ℕ) → ℕ → List ℕ
+  owed = due_through held taking (λ text. text)
+
+  owed-by : (some : Bool) → taking ≡ some → (texts : ℕ → List ℕ) (port : ℕ) → owed texts port ≡ (if port == 0 then (if some then texts 0 else []) else [])
+  owed-by some is texts port = λ i. if port == 0 then none i ++ (if is i then texts 0 else []) else []
+
+  pub begins-copying : Begins kind ins outs (record {
+    act = act;
+    takes = only_port taking;
+    puts = only_port putting;
+    numbered_ins = λ port. false;
+    numbered_outs = λ port. false;
+    broken = broken;
+    due = due_through held taking (λ text. text);
+    selects = λ texts. false;
+  })
+  begins-copying = by_ins (nat_lt 0 ins) refl
+    where
+      by_ins : (some : Bool) → nat_lt 0 ins ≡ some → Begins kind ins outs (through kind ins outs is single act taking putting broken owed (λ texts. false) is_putting is_whole)
+      by_ins true some =
+          let within = ltb-true 0 ins some in
+          begins-some kind ins outs is single act taking putting broken owed (λ texts. false) is_putting is_whole (λ nothing. absurd (omega (arith, within, nothing))) (is_taking ∙ some)
+          (λ texts port. owed-by true (is_taking ∙ some) texts port ∙ ap (λ (text : List ℕ). if port == 0 then text else []) (sym (stream-copies kind (texts 0) (copied within))))
+          (λ texts. sym (stream-silent kind (texts 0) (copied within)))
+      by_ins false some =
+          let past = ltb-false 0 ins some in
+          begins-none kind ins outs is single act taking putting broken owed (λ texts. false) is_putting is_whole (omega (arith, past)) (is_taking ∙ some)
+          (λ texts port. owed-by false (is_taking ∙ some) texts port ∙ either-none (port == 0) [] refl) (λ texts. refl)
 
 -- a machine with a series stands at the beginning of a whole that takes its ins in order
 module _ (inv : Inv) (ins outs : ℕ) (is : is_utility_node (kind.Whole inv) ins outs ≡ true) (act : Act) (at own : ℕ) (putting broken : Bool)

@@ -1,13 +1,14 @@
 -- The texts that are still to come at ports that are taken in order, as a piece comes at the first of them.
-use Rattle.std.proofs.Common.{◌≡◌, ◌&&◌, ◌||◌, drop, length, min, take, append_assoc, ℕ, zero, suc, ◌+◌, ◌-◌, ◌<◌, ◌≤◌, ◌==◌, nat_lt, List, [], ◌∷◌, ◌++◌, Bool, true, false, if◌then◌else◌, map, refl, ap, sym, ◌∙◌, append-nil, arith}
+use Rattle.std.proofs.Common.{◌≡◌, ◌&&◌, ◌||◌, not, append_assoc, ℕ, zero, suc, ◌+◌, ◌-◌, ◌<◌, ◌≤◌, ◌==◌, nat_lt, List, [], ◌∷◌, ◌++◌, Bool, true, false, if◌then◌else◌, map, refl, ap, sym, ◌∙◌, append-nil, arith}
 use Rattle.std.specs.List.{range_with_len}
 use Rattle.std.proofs.lemmas.Bool.{eqb-true, eq-eqb, lt-ltb, false_from_ne_true, ltb-true, ltb-false, true≢false}
-use Rattle.std.proofs.lemmas.List.{drop-drop, drop_all, length-take-le, take-append-drop}
+use Rattle.ps_lines.specs.Lines.{is_empty}
 use Rattle.fl_graph.specs.Machines.{comes_first, comes, is_take, port_put, port_taken}
 use Rattle.fl_graph.specs.declared.pieces.Act.TheVariants as act
 use Rattle.fl_graph.specs.declared.pieces.Piece.{Piece}
 use Rattle.fl_graph.specs.declared.pieces.Piece.TheVariants as piece
 use Rattle.fl_machines.specs.InSeries.{due_in_series, next_in_order, selects_in_series, texts_from}
+use Rattle.fl_machines.proofs.WaitingLemmas.{none-waits}
 
 -- what comes at a port comes there, and at no other
 comes-there : (port : ℕ) (last : Piece) (texts : ℕ → List ℕ) → comes port last texts port ≡ comes_first last (texts port)
@@ -133,40 +134,33 @@ put-port urgent at ins putting = by_case (putting && urgent) (nat_lt at ins) put
     by_case false false true = refl
     by_case false false false = refl
 
--- nothing waits then
-waits-none : (putting broken : Bool) (given size : ℕ) (out : List ℕ) → length out ≡ size → (putting && (broken || nat_lt given size)) ≡ false → broken ≡ false
-    → (putting ≡ false → given ≡ size) → drop given out ≡ []
-waits-none true true given size out sized turn whole ended = absurd (true≢false whole)
-waits-none true false given size out sized turn whole ended = let all = ltb-false given size turn in drop_all given out (omega (arith, all, sized))
-waits-none false broken given size out sized turn whole ended = let all = ended refl in drop_all given out (omega (arith, all, sized))
-
-module _ (owes owes' : List (List ℕ) → List ℕ) (given size : ℕ) (out : List ℕ) (sized : length out ≡ size) (at ins : ℕ) (putting broken : Bool)
-    (turn : is_take (next_in_order (broken || nat_lt given size) at ins putting) ≡ true) (is_whole : broken ≡ false)
-    (is_empty : putting ≡ false → given ≡ size) (new : List ℕ) (texts : ℕ → List ℕ) (port : ℕ) where
+module _ (owes owes' : List (List ℕ) → List ℕ) (waiting : List ℕ) (at ins : ℕ) (putting broken : Bool)
+    (turn : is_take (next_in_order (broken || not (is_empty waiting)) at ins putting) ≡ true) (is_whole : broken ≡ false)
+    (none : putting ≡ false → broken ≡ false → waiting ≡ []) (new : List ℕ) (texts : ℕ → List ℕ) (port : ℕ) where
   abbrev port_now : ℕ
-  port_now = port_taken (next_in_order (broken || nat_lt given size) at ins putting)
+  port_now = port_taken (next_in_order (broken || not (is_empty waiting)) at ins putting)
 
-  same-before : (coming : Piece) → due_in_series [] at ins owes (comes at coming texts) port ≡ due_in_series (drop given out) at ins owes (comes port_now coming texts) port
+  same-before : (coming : Piece) → due_in_series [] at ins owes (comes at coming texts) port ≡ due_in_series waiting at ins owes (comes port_now coming texts) port
   same-before coming =
-      let mine = turn-taken (broken || nat_lt given size) at ins putting turn in
-      (λ i. due_in_series (sym (waits-none putting broken given size out sized mine.0 is_whole is_empty) i) at ins owes (comes (sym mine.1.1 i) coming texts) port)
+      let mine = turn-taken (broken || not (is_empty waiting)) at ins putting turn in
+      (λ i. due_in_series (sym (none-waits putting broken waiting mine.0 is_whole none) i) at ins owes (comes (sym mine.1.1 i) coming texts) port)
 
   pub bytes-taken : (coming : Piece) (bytes : List ℕ) → coming ≡ piece.Bytes bytes
       → ((more : List ℕ) (others : List (List ℕ)) → new ++ owes' (more ∷ others) ≡ owes ((bytes ++ more) ∷ others))
-      → due_in_series new at ins owes' texts port ≡ due_in_series (drop given out) at ins owes (comes port_now coming texts) port
+      → due_in_series new at ins owes' texts port ≡ due_in_series waiting at ins owes (comes port_now coming texts) port
   bytes-taken coming bytes is fed =
-      let mine = turn-taken (broken || nat_lt given size) at ins putting turn in
+      let mine = turn-taken (broken || not (is_empty waiting)) at ins putting turn in
       bytes-fed owes owes' at ins mine.1.0 new texts port bytes fed ∙ same-before (piece.Bytes bytes)
-      ∙ ap (λ coming. due_in_series (drop given out) at ins owes (comes port_now coming texts) port) (sym is)
+      ∙ ap (λ coming. due_in_series waiting at ins owes (comes port_now coming texts) port) (sym is)
 
   pub end-taken : (coming : Piece) (is_last : Bool) → coming ≡ piece.End → is_last ≡ (at + 1 == ins)
       → (is_last ≡ false → (others : List (List ℕ)) → new ++ owes' others ≡ owes ([] ∷ others)) → (is_last ≡ true → new ≡ owes ([] ∷ []))
-      → due_in_series new (at + 1) ins owes' texts port ≡ due_in_series (drop given out) at ins owes (comes port_now coming texts) port
+      → due_in_series new (at + 1) ins owes' texts port ≡ due_in_series waiting at ins owes (comes port_now coming texts) port
   end-taken coming is_last is own more last =
-      by_last is_last own more last ∙ same-before piece.End ∙ ap (λ coming. due_in_series (drop given out) at ins owes (comes port_now coming texts) port) (sym is)
+      by_last is_last own more last ∙ same-before piece.End ∙ ap (λ coming. due_in_series waiting at ins owes (comes port_now coming texts) port) (sym is)
     where
       within : at < ins
-      within = (turn-taken (broken || nat_lt given size) at ins putting turn).1.0
+      within = (turn-taken (broken || not (is_empty waiting)) at ins putting turn).1.0
 
       another : (before : Bool) → nat_lt (at + 1) ins ≡ before → (at + 1 == ins) ≡ false → at + 1 < ins
       another true below differs = ltb-true (at + 1) ins below
@@ -182,34 +176,17 @@ module _ (owes owes' : List (List ℕ) → List ℕ) (given size : ℕ) (out : L
       by_last true own more last = last-ended owes owes' at ins within new texts port (eqb-true (at + 1) ins (sym own)) (last refl)
       by_last false own more last = input-ended owes owes' at ins within new texts port (another (nat_lt (at + 1) ins) refl (sym own)) (more refl)
 
--- the front of what waits
-pub front-put : (given most size : ℕ) (out waiting bytes : List ℕ) → waiting ≡ drop given out → bytes ≡ take (min (length waiting) most) waiting → size ≡ length bytes
-    → drop given out ≡ bytes ++ drop (given + size) out
-front-put given most size out waiting bytes same is sized =
-    sym same ∙ sym (take-append-drop count waiting) ∙ ap (λ front. front ++ drop count waiting) (sym is)
-    ∙ ap (λ rest. bytes ++ rest) (ap (drop count) same ∙ drop-drop count given out ∙ ap (λ count. drop (given + count) out) (sym whole))
-  where
-    count : ℕ
-    count = min (length waiting) most
-
-    whole : size ≡ count
-    whole = sized ∙ ap length is ∙ length-take-le count waiting (omega arith)
-
 -- bytes are put of what waits
-pub bytes-put : (owes : List (List ℕ) → List ℕ) (at ins given size put_on : ℕ) (out bytes : List ℕ) (texts : ℕ → List ℕ) (port : ℕ) → put_on ≡ 0
-    → drop given out ≡ bytes ++ drop (given + size) out
-    → due_in_series (drop given out) at ins owes texts port
-    ≡ (if port == put_on then bytes ++ due_in_series (drop (given + size) out) at ins owes texts port else due_in_series (drop (given + size) out) at ins owes texts port)
-bytes-put owes at ins given size put_on out bytes texts port is_first front =
+pub bytes-put : (owes : List (List ℕ) → List ℕ) (at ins put_on : ℕ) (waiting bytes behind : List ℕ) (texts : ℕ → List ℕ) (port : ℕ) → put_on ≡ 0 → waiting ≡ bytes ++ behind
+    → due_in_series waiting at ins owes texts port
+    ≡ (if port == put_on then bytes ++ due_in_series behind at ins owes texts port else due_in_series behind at ins owes texts port)
+bytes-put owes at ins put_on waiting bytes behind texts port is_first front =
     by_port (port == 0) ∙ ap (λ here. if port == here then bytes ++ due_in_series behind at ins owes texts port else due_in_series behind at ins owes texts port) (sym is_first)
   where
-    behind : List ℕ
-    behind = drop (given + size) out
-
     rest : List ℕ
     rest = if nat_lt at ins then owes (texts_from texts at ins) else []
 
-    by_port : (here : Bool) → (if here then drop given out ++ rest else []) ≡ (if here then bytes ++ (if here then behind ++ rest else []) else (if here then behind ++ rest else []))
+    by_port : (here : Bool) → (if here then waiting ++ rest else []) ≡ (if here then bytes ++ (if here then behind ++ rest else []) else (if here then behind ++ rest else []))
     by_port true = ap (λ waiting. waiting ++ rest) front ∙ append_assoc bytes behind rest
     by_port false = refl
 

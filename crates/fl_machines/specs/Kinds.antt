@@ -2,6 +2,8 @@
 use Rattle.std.specs.Prelude.{◌≡◌, ℕ, List, [], ◌∷◌, Bool, true, false, not, ◌&&◌}
 use Rattle.fl_classes.specs.Aggregates.{finish_of, map_of}
 use Rattle.fl_classes.specs.Utilities.{output_of, selects_of}
+use Rattle.ut_args.specs.declared.commands.Groups.{Groups}
+use Rattle.ut_args.specs.declared.commands.Groups.TheVariants as groups
 use Rattle.ut_args.specs.declared.invocations.Inv.{Inv}
 use Rattle.ut_args.specs.declared.invocations.Inv.TheVariants as inv
 use Rattle.fl_graph.specs.Kinds.{may_have, reads_one_input, runs_what_is_built}
@@ -48,6 +50,32 @@ abbrev pub RunsApart : NodeKind → Inv → Type 0
 RunsApart (kind.Whole inv) run = (inv ≡ run) × (reads_apart run ≡ true)
 RunsApart (kind.Map inv) run = (inv ≡ run) × (maps_as_whole run ≡ true)
 RunsApart other run = ⊥
+
+-- the command writes its input as it is
+abbrev pub copies_input : Inv → Bool
+copies_input (inv.Cat cat) = true
+copies_input (inv.Tee tee) = true
+copies_input other = false
+
+-- no group is left out of the counted ones
+abbrev pub keeps_all : Groups → Bool
+keeps_all groups.All = true
+keeps_all groups.Counted = true
+keeps_all groups.Repeated = false
+keeps_all groups.Single = false
+
+-- the map of the whole is the command's output
+abbrev pub finishes_as_is : Inv → Bool
+finishes_as_is (inv.Wc wc) = false
+finishes_as_is (inv.Uniq uniq) = keeps_all uniq.args.groups
+finishes_as_is other = true
+
+-- what such a node writes is what comes at its in
+abbrev pub copies : NodeKind → Bool
+copies (kind.Map inv) = copies_input inv
+copies (kind.Whole inv) = copies_input inv
+copies (kind.Finish inv) = finishes_as_is inv
+copies other = true
 
 -- what the stream of any other such node writes for one input
 abbrev pub stream_output : NodeKind → List ℕ → List ℕ

@@ -5,9 +5,8 @@ ghost use Rattle.fl_graph.specs.Kinds.{runs_what_is_built};
 ghost use Rattle.fl_classes.specs.Aggregates.{finish_of, map_of};
 ghost use Rattle.fl_classes.specs.Utilities.{output_of, selects_of};
 ghost use Rattle.ut_groups.specs.Uniq.{uniq_finish};
-ghost use Rattle.fl_machines.specs.Kinds.{maps_as_whole, reads_apart, stream_output, stream_selects, takes_apart};
+ghost use Rattle.fl_machines.specs.Kinds.{copies, copies_input, finishes_as_is, keeps_all, maps_as_whole, reads_apart, stream_output, stream_selects, takes_apart};
 
-use crate::copies::Copy;
 use fl_graph::NodeKind;
 use ps_lines::Memory;
 use std::alloc::Global;
@@ -22,7 +21,6 @@ use ut_streams::Stream;
 /// The stream of a utility, whichever it is.
 #[derive(Drop)]
 pub enum AnyStream {
-    Copy(Copy),
     Grep(Grep),
     Tr(Tr),
     Cut(Cut),
@@ -40,6 +38,7 @@ impl AnyStream {
     pub fn of_kind(alloc: Global, kind: &NodeKind) -> Result<AnyStream, Memory>
         requires built { runs_what_is_built kind.now ≡ true }
         requires joined { takes_apart kind.now ≡ false }
+        requires changes { copies kind.now ≡ false }
         ensures due { IfOk result (λ stream. (text : List ℕ) → ⟦<AnyStream as Stream>⟧.due stream text ≡ stream_output kind.now text) }
         ensures selects { IfOk result (λ stream. (text : List ℕ) → ⟦<AnyStream as Stream>⟧.selects stream text ≡ stream_selects kind.now text) }
         ensures unspent { IfOk result (λ stream. ⟦<AnyStream as Stream>⟧.spent stream ≡ false) }
@@ -48,7 +47,7 @@ impl AnyStream {
             NodeKind::Map(inv) => AnyStream::of_map(alloc, inv),
             NodeKind::Whole(inv) => AnyStream::of_whole(alloc, inv),
             NodeKind::Finish(inv) => AnyStream::of_finish(alloc, inv),
-            _ => Ok(AnyStream::Copy(Copy::new())),
+            _ => unreachable!(),
         }
     }
 
@@ -56,12 +55,12 @@ impl AnyStream {
     fn of_map(alloc: Global, inv: &Inv) -> Result<AnyStream, Memory>
         requires built { is_built_of inv.now ≡ true }
         requires own { maps_as_whole inv.now ≡ false }
+        requires changes { copies_input inv.now ≡ false }
         ensures due { IfOk result (λ stream. (text : List ℕ) → ⟦<AnyStream as Stream>⟧.due stream text ≡ map_of inv.now text) }
         ensures selects { IfOk result (λ stream. (text : List ℕ) → ⟦<AnyStream as Stream>⟧.selects stream text ≡ selects_of inv.now (text ∷ [])) }
         ensures unspent { IfOk result (λ stream. ⟦<AnyStream as Stream>⟧.spent stream ≡ false) }
     {
         match inv {
-            Inv::Cat(_) => Ok(AnyStream::Copy(Copy::new())),
             Inv::Grep(grep) => match Grep::of_part(alloc, grep) {
                 Ok(grep) => Ok(AnyStream::Grep(grep)),
                 Err(memory) => Err(memory),
@@ -85,7 +84,8 @@ impl AnyStream {
                 Ok(sorter) => Ok(AnyStream::Sort(sorter)),
                 Err(memory) => Err(memory),
             },
-            Inv::Tee(_) => Ok(AnyStream::Copy(Copy::new())),
+            Inv::Cat(_) => unreachable!(),
+            Inv::Tee(_) => unreachable!(),
             Inv::Paste(_) => unreachable!(),
             _ => unreachable!(),
         }
@@ -96,6 +96,7 @@ impl AnyStream {
     fn of_whole(alloc: Global, inv: &Inv) -> Result<AnyStream, Memory>
         requires built { is_built_of inv.now ≡ true }
         requires joined { reads_apart inv.now ≡ false }
+        requires changes { copies_input inv.now ≡ false }
         ensures due { IfOk result (λ stream. (text : List ℕ) → ⟦<AnyStream as Stream>⟧.due stream text ≡ output_of inv.now (text ∷ [])) }
         ensures selects { IfOk result (λ stream. (text : List ℕ) → ⟦<AnyStream as Stream>⟧.selects stream text ≡ selects_of inv.now (text ∷ [])) }
         ensures unspent { IfOk result (λ stream. ⟦<AnyStream as Stream>⟧.spent stream ≡ false) }
@@ -110,10 +111,10 @@ impl AnyStream {
         }
     }
 
-    /// The stream of the finish of an invocation that is built: that of most changes nothing.
-    #[tactic(auto, using(crate::proofs::MachineLemmas::finishes))]
+    /// The stream of the finish of an invocation that is built, where it changes something.
     fn of_finish(alloc: Global, inv: &Inv) -> Result<AnyStream, Memory>
-        requires { is_built_of inv.now ≡ true }
+        requires built { is_built_of inv.now ≡ true }
+        requires changes { finishes_as_is inv.now ≡ false }
         ensures due { IfOk result (λ stream. (text : List ℕ) → ⟦<AnyStream as Stream>⟧.due stream text ≡ finish_of inv.now text) }
         ensures selects { IfOk result (λ stream. (text : List ℕ) → ⟦<AnyStream as Stream>⟧.selects stream text ≡ false) }
         ensures unspent { IfOk result (λ stream. ⟦<AnyStream as Stream>⟧.spent stream ≡ false) }
@@ -124,18 +125,19 @@ impl AnyStream {
                 Err(memory) => Err(memory),
             },
             Inv::Uniq(uniq) => Ok(AnyStream::of_groups(alloc, uniq.args.groups)),
-            _ => Ok(AnyStream::Copy(Copy::new())),
+            _ => unreachable!(),
         }
     }
 
-    /// The stream of the finish of `uniq`: it keeps groups by their counts, where these aren't written.
+    /// The stream of the finish of `uniq` that keeps groups by their counts.
     fn of_groups(alloc: Global, groups: Groups) -> AnyStream
+        requires { keeps_all groups ≡ false }
         ensures due { (text : List ℕ) → ⟦<AnyStream as Stream>⟧.due result text ≡ uniq_finish groups text }
         ensures selects { (text : List ℕ) → ⟦<AnyStream as Stream>⟧.selects result text ≡ false }
         ensures unspent { ⟦<AnyStream as Stream>⟧.spent result ≡ false }
     {
         match groups {
-            Groups::All | Groups::Counted => AnyStream::Copy(Copy::new()),
+            Groups::All | Groups::Counted => unreachable!(),
             Groups::Repeated => AnyStream::Kept(Kept::new(alloc, Groups::Repeated)),
             Groups::Single => AnyStream::Kept(Kept::new(alloc, Groups::Single)),
         }
@@ -143,10 +145,9 @@ impl AnyStream {
 }
 
 impl Stream for AnyStream {
-    ghost use Rattle.fl_machines.specs.declared.any_stream.AnyStream.TheVariants.{Copy, Grep, Tr, Cut, Head, Tail, Wc, Named, Uniq, Kept, Sort};
+    ghost use Rattle.fl_machines.specs.declared.any_stream.AnyStream.TheVariants.{Grep, Tr, Cut, Head, Tail, Wc, Named, Uniq, Kept, Sort};
 
     ghost due = { λ stream more. elim stream [
-      | Copy copy ↦ ⟦<Copy as Stream>⟧.due copy more
       | Grep grep ↦ ⟦<Grep as Stream>⟧.due grep more
       | Tr tr ↦ ⟦<Tr as Stream>⟧.due tr more
       | Cut cut ↦ ⟦<Cut as Stream>⟧.due cut more
@@ -160,7 +161,6 @@ impl Stream for AnyStream {
     ] };
 
     ghost selects = { λ stream more. elim stream [
-      | Copy copy ↦ ⟦<Copy as Stream>⟧.selects copy more
       | Grep grep ↦ ⟦<Grep as Stream>⟧.selects grep more
       | Tr tr ↦ ⟦<Tr as Stream>⟧.selects tr more
       | Cut cut ↦ ⟦<Cut as Stream>⟧.selects cut more
@@ -174,7 +174,6 @@ impl Stream for AnyStream {
     ] };
 
     ghost selected = { λ stream. elim stream [
-      | Copy copy ↦ ⟦<Copy as Stream>⟧.selected copy
       | Grep grep ↦ ⟦<Grep as Stream>⟧.selected grep
       | Tr tr ↦ ⟦<Tr as Stream>⟧.selected tr
       | Cut cut ↦ ⟦<Cut as Stream>⟧.selected cut
@@ -188,7 +187,6 @@ impl Stream for AnyStream {
     ] };
 
     ghost spent = { λ stream. elim stream [
-      | Copy copy ↦ ⟦<Copy as Stream>⟧.spent copy
       | Grep grep ↦ ⟦<Grep as Stream>⟧.spent grep
       | Tr tr ↦ ⟦<Tr as Stream>⟧.spent tr
       | Cut cut ↦ ⟦<Cut as Stream>⟧.spent cut
@@ -203,7 +201,6 @@ impl Stream for AnyStream {
 
     fn feed(&mut self, piece: &[u8], out: &mut Vec<u8>) -> Result<(), Memory> {
         match self {
-            AnyStream::Copy(copy) => copy.feed(piece, out),
             AnyStream::Grep(grep) => grep.feed(piece, out),
             AnyStream::Tr(tr) => tr.feed(piece, out),
             AnyStream::Cut(cut) => cut.feed(piece, out),
@@ -219,7 +216,6 @@ impl Stream for AnyStream {
 
     fn finish(&mut self, out: &mut Vec<u8>) -> Result<(), Memory> {
         match self {
-            AnyStream::Copy(copy) => copy.finish(out),
             AnyStream::Grep(grep) => grep.finish(out),
             AnyStream::Tr(tr) => tr.finish(out),
             AnyStream::Cut(cut) => cut.finish(out),
@@ -235,7 +231,6 @@ impl Stream for AnyStream {
 
     fn has_selected(&self) -> bool {
         match self {
-            AnyStream::Copy(copy) => copy.has_selected(),
             AnyStream::Grep(grep) => grep.has_selected(),
             AnyStream::Tr(tr) => tr.has_selected(),
             AnyStream::Cut(cut) => cut.has_selected(),
@@ -251,7 +246,6 @@ impl Stream for AnyStream {
 
     fn is_spent(&self) -> bool {
         match self {
-            AnyStream::Copy(copy) => copy.is_spent(),
             AnyStream::Grep(grep) => grep.is_spent(),
             AnyStream::Tr(tr) => tr.is_spent(),
             AnyStream::Cut(cut) => cut.is_spent(),

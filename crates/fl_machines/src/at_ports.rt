@@ -2,31 +2,27 @@
 ghost use Rattle.std.specs.Prelude.{◌≡◌, ◌≤◌, ◌<◌, ◌==◌, ◌^◌, ℕ, List, [], length, vec_len, drop, get_or, nat_lt, Bool, true, false, Option, None, IfSome, IfNone, IfOk, if◌then◌else◌};
 ghost use Rattle.fl_machines.specs.AtPorts.{first_open as first_open_lem, turn_of};
 
-use fl_graph::{Act, Machine, Piece, first_piece};
+use crate::waiting::Waiting;
+use fl_graph::{Act, Machine, Piece};
 use ps_lines::Memory;
 use std::alloc::Global;
 use ut_streams::PortStream;
 
 /// The machine of a node with one out that puts what a stream makes of its inputs, each at the in of its number: it takes from the in that the
 /// stream needs.
-///
-/// What the stream has written and wasn't put yet waits in `out`, from `given` on.
 #[derive(Drop)]
 pub struct AtPorts<S: PortStream> {
     stream: S,
-    alloc: Global,
-    out: Vec<u8>,
-    given: usize,
+    waiting: Waiting,
     /// Of each in, whether it hasn't ended. A machine that is broken takes them to their ends, and asks its stream for nothing.
     opens: Vec<bool>,
     putting: bool,
     broken: bool,
-    ghost within: { given ≤ vec_len out },
     ghost counted: { vec_len opens < 2 ^ 32 },
     ghost usable: { broken ≡ false → S.spent stream ≡ false },
     ghost agrees: { broken ≡ false → (port : ℕ) → S.open_at stream port ≡ get_or opens.items port false },
     ghost ended: { putting ≡ false → broken ≡ false → S.wanted stream ≡ None },
-    ghost empty: { putting ≡ false → given ≡ vec_len out },
+    ghost empty: { putting ≡ false → broken ≡ false → waiting ≡ [] },
 }
 
 impl<S: PortStream> AtPorts<S> {
@@ -35,8 +31,7 @@ impl<S: PortStream> AtPorts<S> {
         requires unspent { S.spent stream ≡ false }
         requires ports { (port : ℕ) → S.open_at stream port ≡ nat_lt port ins }
         ensures stream { IfOk result (λ machine. machine.stream ≡ stream) }
-        ensures out { IfOk result (λ machine. machine.out.items ≡ []) }
-        ensures given { IfOk result (λ machine. machine.given ≡ 0) }
+        ensures waiting { IfOk result (λ machine. machine.waiting ≡ []) }
         ensures opens { IfOk result (λ machine. (port : ℕ) → get_or machine.opens.items port false ≡ nat_lt port ins) }
         ensures putting { IfOk result (λ machine. machine.putting ≡ true) }
         ensures broken { IfOk result (λ machine. machine.broken ≡ false) }
@@ -44,9 +39,7 @@ impl<S: PortStream> AtPorts<S> {
         match all_open(alloc, ins) {
             Ok(opens) => Ok(AtPorts {
                 stream,
-                alloc,
-                out: Vec::new(alloc),
-                given: 0,
+                waiting: Waiting::nothing(alloc),
                 opens,
                 putting: true,
                 broken: false,
@@ -114,23 +107,24 @@ fn close(opens: &mut Vec<bool>, port: u32)
 }
 
 impl<S: PortStream> Machine for AtPorts<S> {
-    ghost use Rattle.std.specs.Prelude.{◌||◌};
+    ghost use Rattle.std.specs.Prelude.{◌||◌, not};
+    ghost use Rattle.ps_lines.specs.Lines.{is_empty};
     ghost use Rattle.fl_machines.specs.AtPorts.{due_at_ports, next_at_ports};
     ghost use Rattle.fl_machines.specs.Through.{only_port};
 
     ghost state = { λ machine. record {
-      act = next_at_ports (machine.broken || nat_lt machine.given (vec_len machine.out)) (turn_of machine.broken machine.opens.items (S.wanted machine.stream)) machine.putting;
+      act = next_at_ports (machine.broken || not (is_empty machine.waiting)) (turn_of machine.broken machine.opens.items (S.wanted machine.stream)) machine.putting;
       takes = λ port. get_or machine.opens.items port false;
       puts = only_port machine.putting;
       numbered_ins = λ port. false;
       numbered_outs = λ port. false;
       broken = machine.broken;
-      due = due_at_ports (drop machine.given machine.out.items) (S.due machine.stream);
+      due = due_at_ports machine.waiting (S.due machine.stream);
       selects = λ texts. false;
     } };
 
     fn next(&self) -> Act {
-        if self.putting && (self.broken || self.given < self.out.len()) {
+        if self.putting && (self.broken || !self.waiting.is_empty()) {
             return Act::Put(0);
         }
         match self.turn() {
@@ -154,9 +148,10 @@ impl<S: PortStream> Machine for AtPorts<S> {
                 if self.broken {
                     return Ok(());
                 }
-                self.out.clear();
-                self.given = 0;
-                let fed = self.stream.feed_port(port, bytes.as_slice(), &mut self.out);
+                let mut out = self.waiting.buffer();
+                let fed = self.stream.feed_port(port, bytes.as_slice(), &mut out);
+                self.waiting.hold(out);
+                self.waiting.keep(bytes);
                 self.broken = fed.is_err();
                 fed
             }
@@ -166,9 +161,9 @@ impl<S: PortStream> Machine for AtPorts<S> {
                 if self.broken {
                     return Ok(());
                 }
-                self.out.clear();
-                self.given = 0;
-                let ended = self.stream.end_port(port, &mut self.out);
+                let mut out = self.waiting.buffer();
+                let ended = self.stream.end_port(port, &mut out);
+                self.waiting.hold(out);
                 self.broken = ended.is_err();
                 ended
             }
@@ -182,11 +177,10 @@ impl<S: PortStream> Machine for AtPorts<S> {
 
     fn put(&mut self) -> Result<Piece, Memory> {
         if self.broken {
-            self.given = self.out.len();
             self.putting = false;
             return Ok(Piece::Broken);
         }
-        if self.given == self.out.len() {
+        if self.waiting.is_empty() {
             return match self.stream.needs() {
                 Some(_) => unreachable!(),
                 None => {
@@ -195,11 +189,8 @@ impl<S: PortStream> Machine for AtPorts<S> {
                 }
             };
         }
-        match first_piece(self.alloc, &self.out[self.given..]) {
-            Ok(bytes) => {
-                self.given += bytes.as_slice().len();
-                Ok(Piece::Bytes(bytes))
-            }
+        match self.waiting.next() {
+            Ok(bytes) => Ok(Piece::Bytes(bytes)),
             Err(memory) => {
                 self.broken = true;
                 Err(memory)

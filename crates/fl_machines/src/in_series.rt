@@ -1,32 +1,28 @@
 //! A machine with a series in it.
-ghost use Rattle.std.specs.Prelude.{◌≡◌, ◌≤◌, ◌<◌, ◌∷◌, ℕ, List, [], length, vec_len, drop, true, false, not, IfOk, OnOk};
+ghost use Rattle.std.specs.Prelude.{◌≡◌, ◌≤◌, ◌<◌, ◌∷◌, ℕ, List, [], true, false, not, IfOk, OnOk};
 ghost use Rattle.std.specs.Result.{is_ok};
 ghost use Rattle.ut_streams.specs.Streams.{Put, Wrote};
 
-use fl_graph::{Act, Machine, Piece, first_piece};
+use crate::waiting::Waiting;
+use fl_graph::{Act, Machine, Piece};
 use ps_lines::Memory;
 use std::alloc::Global;
 use ut_streams::Series;
 
 /// The machine of a node with one out that puts what a series makes of its inputs: it takes its ins in order, each to its end.
-///
-/// What the series has written and wasn't put yet waits in `out`, from `given` on.
 #[derive(Drop)]
 pub struct InSeries<S: Series> {
     series: S,
-    alloc: Global,
-    out: Vec<u8>,
-    given: usize,
+    waiting: Waiting,
     ins: u32,
     /// The in whose turn it is.
     at: u32,
     putting: bool,
     broken: bool,
-    ghost within: { given ≤ vec_len out },
     ghost counted: { at ≤ ins },
     ghost usable: { broken ≡ false → at < ins → S.spent series ≡ false },
     ghost ended: { putting ≡ false → broken ≡ false → ins ≤ at },
-    ghost empty: { putting ≡ false → given ≡ vec_len out },
+    ghost empty: { putting ≡ false → broken ≡ false → waiting ≡ [] },
 }
 
 impl<S: Series> InSeries<S> {
@@ -34,8 +30,7 @@ impl<S: Series> InSeries<S> {
     pub fn new(alloc: Global, series: S, ins: u32) -> InSeries<S>
         requires { S.spent series ≡ false }
         ensures series { result.series ≡ series }
-        ensures out { result.out.items ≡ [] }
-        ensures given { result.given ≡ 0 }
+        ensures waiting { result.waiting ≡ [] }
         ensures ins { result.ins ≡ ins }
         ensures at { result.at ≡ 0 }
         ensures putting { result.putting ≡ true }
@@ -43,9 +38,7 @@ impl<S: Series> InSeries<S> {
     {
         InSeries {
             series,
-            alloc,
-            out: Vec::new(alloc),
-            given: 0,
+            waiting: Waiting::nothing(alloc),
             ins,
             at: 0,
             putting: true,
@@ -56,26 +49,27 @@ impl<S: Series> InSeries<S> {
     /// The machine of a node without an in: what the series writes where no input comes waits.
     pub fn of_nothing(alloc: Global, mut series: S) -> Result<InSeries<S>, Memory>
         requires { S.spent series ≡ false }
-        ensures out { IfOk result (λ machine. machine.out.items ≡ S.due series []) }
+        ensures waiting { IfOk result (λ machine. machine.waiting ≡ S.due series []) }
         ensures selected { IfOk result (λ machine. S.selected machine.series ≡ S.selects series []) }
-        ensures given { IfOk result (λ machine. machine.given ≡ 0) }
         ensures ins { IfOk result (λ machine. machine.ins ≡ 0) }
         ensures at { IfOk result (λ machine. machine.at ≡ 0) }
         ensures putting { IfOk result (λ machine. machine.putting ≡ true) }
         ensures broken { IfOk result (λ machine. machine.broken ≡ false) }
     {
-        let mut out = Vec::new(alloc);
+        let mut waiting = Waiting::nothing(alloc);
+        let mut out = waiting.buffer();
         match series.finish(&mut out) {
-            Ok(()) => Ok(InSeries {
-                series,
-                alloc,
-                out,
-                given: 0,
-                ins: 0,
-                at: 0,
-                putting: true,
-                broken: false,
-            }),
+            Ok(()) => {
+                waiting.hold(out);
+                Ok(InSeries {
+                    series,
+                    waiting,
+                    ins: 0,
+                    at: 0,
+                    putting: true,
+                    broken: false,
+                })
+            }
             Err(memory) => Err(memory),
         }
     }
@@ -100,23 +94,24 @@ fn end_input<S: Series>(series: &mut S, is_last: bool, out: &mut Vec<u8>) -> Res
 }
 
 impl<S: Series> Machine for InSeries<S> {
-    ghost use Rattle.std.specs.Prelude.{◌||◌, nat_lt};
+    ghost use Rattle.std.specs.Prelude.{◌||◌};
+    ghost use Rattle.ps_lines.specs.Lines.{is_empty};
     ghost use Rattle.fl_machines.specs.InSeries.{due_in_series, next_in_order, ports_from, selects_in_series};
     ghost use Rattle.fl_machines.specs.Through.{only_port};
 
     ghost state = { λ machine. record {
-      act = next_in_order (machine.broken || nat_lt machine.given (vec_len machine.out)) machine.at machine.ins machine.putting;
+      act = next_in_order (machine.broken || not (is_empty machine.waiting)) machine.at machine.ins machine.putting;
       takes = ports_from machine.at machine.ins;
       puts = only_port machine.putting;
       numbered_ins = λ port. false;
       numbered_outs = λ port. false;
       broken = machine.broken;
-      due = due_in_series (drop machine.given machine.out.items) machine.at machine.ins (S.due machine.series);
+      due = due_in_series machine.waiting machine.at machine.ins (S.due machine.series);
       selects = selects_in_series machine.at machine.ins (S.selects machine.series) (S.selected machine.series);
     } };
 
     fn next(&self) -> Act {
-        if self.putting && (self.broken || self.given < self.out.len()) {
+        if self.putting && (self.broken || !self.waiting.is_empty()) {
             return Act::Put(0);
         }
         if self.at < self.ins {
@@ -132,9 +127,10 @@ impl<S: Series> Machine for InSeries<S> {
                 if self.broken {
                     return Ok(());
                 }
-                self.out.clear();
-                self.given = 0;
-                let fed = self.series.feed(bytes.as_slice(), &mut self.out);
+                let mut out = self.waiting.buffer();
+                let fed = self.series.feed(bytes.as_slice(), &mut out);
+                self.waiting.hold(out);
+                self.waiting.keep(bytes);
                 self.broken = fed.is_err();
                 fed
             }
@@ -144,9 +140,9 @@ impl<S: Series> Machine for InSeries<S> {
                 if self.broken {
                     return Ok(());
                 }
-                self.out.clear();
-                self.given = 0;
-                let ended = end_input(&mut self.series, self.at == self.ins, &mut self.out);
+                let mut out = self.waiting.buffer();
+                let ended = end_input(&mut self.series, self.at == self.ins, &mut out);
+                self.waiting.hold(out);
                 self.broken = ended.is_err();
                 ended
             }
@@ -160,19 +156,15 @@ impl<S: Series> Machine for InSeries<S> {
 
     fn put(&mut self) -> Result<Piece, Memory> {
         if self.broken {
-            self.given = self.out.len();
             self.putting = false;
             return Ok(Piece::Broken);
         }
-        if self.given == self.out.len() {
+        if self.waiting.is_empty() {
             self.putting = false;
             return Ok(Piece::End);
         }
-        match first_piece(self.alloc, &self.out[self.given..]) {
-            Ok(bytes) => {
-                self.given += bytes.as_slice().len();
-                Ok(Piece::Bytes(bytes))
-            }
+        match self.waiting.next() {
+            Ok(bytes) => Ok(Piece::Bytes(bytes)),
             Err(memory) => {
                 self.broken = true;
                 Err(memory)

@@ -3,27 +3,29 @@ ghost use Rattle.std.specs.Prelude.{◌≡◌, ◌<◌, ℕ, List, true, false, 
 ghost use Rattle.ut_args.specs.declared.invocations.Inv.TheVariants.{Paste};
 ghost use Rattle.fl_graph.specs.declared.kinds.NodeKind.TheVariants.{Whole};
 ghost use Rattle.fl_classes.specs.Nodes.{Begins};
-ghost use Rattle.fl_machines.specs.Kinds.{is_utility_node, maps_as_whole as maps_as_whole_lem, reads_apart as reads_apart_lem, reads_at_once, stream_output, stream_selects, takes_apart, RunsApart};
+ghost use Rattle.fl_machines.specs.Kinds.{copies as copies_lem, copies_input as copies_input_lem, finishes_as_is as finishes_as_is_lem, is_utility_node, maps_as_whole as maps_as_whole_lem, reads_apart as reads_apart_lem, reads_at_once, stream_output, stream_selects, takes_apart, RunsApart};
 ghost use Rattle.ut_sort.specs.Order.{sorted_text};
 
 use crate::any_series::AnySeries;
 use crate::any_stream::AnyStream;
 use crate::at_ports::AtPorts;
-use crate::copies::Copy;
+use crate::copying::Copying;
 use crate::in_series::InSeries;
 use crate::sorting::Sorting;
 use crate::through::Through;
 use fl_graph::{Act, Machine, NodeKind, Piece};
 use ps_lines::Memory;
 use std::alloc::Global;
-use ut_args::{Inv, PasteInv, SortInv};
+use ut_args::{Groups, Inv, PasteInv, SortInv};
 use ut_slices::Side;
 use ut_sort::Sorter;
 
 /// The machine of a map, a whole or a finish.
 #[derive(Drop)]
 pub enum UtilMachine {
-    /// That of a stream, with one in or none.
+    /// That of what copies its input, with one in, and of what has none.
+    Copying(Copying),
+    /// That of a stream, with one in.
     One(Through<AnyStream>),
     /// That of a `sort`, with one in.
     Sorting(Sorting),
@@ -179,7 +181,8 @@ fn series_machine(
     Ok(InSeries::new(alloc, series, ins))
 }
 
-/// The machine of any other node. A `sort` has one of its own: its stream would hold the whole of its output.
+/// The machine of any other node. What copies its input has one that hands its pieces on, and so has what lacks an input. A `sort` has one of its
+/// own: its stream would hold the whole of its output.
 fn joined_machine(
     alloc: Global,
     kind: &NodeKind,
@@ -190,18 +193,59 @@ fn joined_machine(
     requires joined { takes_apart kind.now ≡ false }
     ensures { IfOk result (λ machine. Begins kind.now ins outs (⟦<UtilMachine as Machine>⟧.state machine)) }
 {
-    if ins > 0 {
-        if let Some(sort) = sort_of(kind) {
-            return match sorting_machine(alloc, kind, sort, ins, outs) {
-                Ok(machine) => Ok(UtilMachine::Sorting(machine)),
-                Err(memory) => Err(memory),
-            };
-        }
+    if ins == 0 || copies(kind) {
+        return Ok(UtilMachine::Copying(copying_machine(kind, ins, outs)));
+    }
+    if let Some(sort) = sort_of(kind) {
+        return match sorting_machine(alloc, kind, sort, ins, outs) {
+            Ok(machine) => Ok(UtilMachine::Sorting(machine)),
+            Err(memory) => Err(memory),
+        };
     }
     match stream_machine(alloc, kind, ins, outs) {
         Ok(machine) => Ok(UtilMachine::One(machine)),
         Err(memory) => Err(memory),
     }
+}
+
+/// Whether what the node writes is what comes at its in.
+fn copies(kind: &NodeKind) -> bool
+    ensures { result ≡ copies_lem kind.now }
+{
+    match kind {
+        NodeKind::Map(inv) => copies_input(inv),
+        NodeKind::Whole(inv) => copies_input(inv),
+        NodeKind::Finish(inv) => finishes_as_is(inv),
+        _ => true,
+    }
+}
+
+/// Whether the command writes its input as it is.
+fn copies_input(inv: &Inv) -> bool
+    ensures { result ≡ copies_input_lem inv.now }
+{
+    matches!(inv, Inv::Cat(_) | Inv::Tee(_))
+}
+
+/// Whether the map of the whole is the command's output.
+fn finishes_as_is(inv: &Inv) -> bool
+    ensures { result ≡ finishes_as_is_lem inv.now }
+{
+    match inv {
+        Inv::Wc(_) => false,
+        Inv::Uniq(uniq) => matches!(uniq.args.groups, Groups::All | Groups::Counted),
+        _ => true,
+    }
+}
+
+/// The machine of a node that copies its input, or has none.
+fn copying_machine(kind: &NodeKind, ins: u32, outs: u32) -> Copying
+    requires node { is_utility_node kind.now ins outs ≡ true }
+    requires joined { takes_apart kind.now ≡ false }
+    requires copied { 0 < ins → copies_lem kind.now ≡ true }
+    ensures { Begins kind.now ins outs (⟦<Copying as Machine>⟧.state result) }
+{
+    Copying::new(ins > 0)
 }
 
 /// The invocation of a map or a whole of `sort`.
@@ -247,14 +291,10 @@ fn stream_machine(
 ) -> Result<Through<AnyStream>, Memory>
     requires node { is_utility_node kind.now ins outs ≡ true }
     requires joined { takes_apart kind.now ≡ false }
+    requires changes { copies_lem kind.now ≡ false }
+    requires some { 0 < ins }
     ensures { IfOk result (λ machine. Begins kind.now ins outs (⟦<Through<AnyStream> as Machine>⟧.state machine)) }
 {
-    if ins == 0 {
-        return match Through::of_nothing(alloc, AnyStream::Copy(Copy::new())) {
-            Ok(machine) => Ok(machine),
-            Err(memory) => Err(memory),
-        };
-    }
     match AnyStream::of_kind(alloc, kind) {
         Ok(stream) => Ok(Through::new(alloc, stream)),
         Err(memory) => Err(memory),
@@ -265,6 +305,7 @@ impl Machine for UtilMachine {
     ghost use Rattle.fl_machines.specs.declared.machines.UtilMachine.TheVariants as variant;
 
     ghost state = { λ util. elim util [
+      | variant.Copying machine ↦ ⟦<Copying as Machine>⟧.state machine
       | variant.One machine ↦ ⟦<Through<AnyStream> as Machine>⟧.state machine
       | variant.Sorting machine ↦ ⟦<Sorting as Machine>⟧.state machine
       | variant.InSeries machine ↦ ⟦<InSeries<AnySeries> as Machine>⟧.state machine
@@ -273,6 +314,7 @@ impl Machine for UtilMachine {
 
     fn next(&self) -> Act {
         match self {
+            UtilMachine::Copying(machine) => machine.next(),
             UtilMachine::One(machine) => machine.next(),
             UtilMachine::Sorting(machine) => machine.next(),
             UtilMachine::InSeries(machine) => machine.next(),
@@ -282,6 +324,7 @@ impl Machine for UtilMachine {
 
     fn take(&mut self, piece: Piece) -> Result<(), Memory> {
         match self {
+            UtilMachine::Copying(machine) => machine.take(piece),
             UtilMachine::One(machine) => machine.take(piece),
             UtilMachine::Sorting(machine) => machine.take(piece),
             UtilMachine::InSeries(machine) => machine.take(piece),
@@ -291,6 +334,7 @@ impl Machine for UtilMachine {
 
     fn put(&mut self) -> Result<Piece, Memory> {
         match self {
+            UtilMachine::Copying(machine) => machine.put(),
             UtilMachine::One(machine) => machine.put(),
             UtilMachine::Sorting(machine) => machine.put(),
             UtilMachine::InSeries(machine) => machine.put(),
@@ -300,6 +344,7 @@ impl Machine for UtilMachine {
 
     fn break_off(&mut self) {
         match self {
+            UtilMachine::Copying(machine) => machine.break_off(),
             UtilMachine::One(machine) => machine.break_off(),
             UtilMachine::Sorting(machine) => machine.break_off(),
             UtilMachine::InSeries(machine) => machine.break_off(),
@@ -309,6 +354,7 @@ impl Machine for UtilMachine {
 
     fn selected(&self) -> bool {
         match self {
+            UtilMachine::Copying(machine) => machine.selected(),
             UtilMachine::One(machine) => machine.selected(),
             UtilMachine::Sorting(machine) => machine.selected(),
             UtilMachine::InSeries(machine) => machine.selected(),

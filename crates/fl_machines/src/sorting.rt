@@ -1,8 +1,9 @@
 //! The machine of `sort`.
-ghost use Rattle.std.specs.Prelude.{◌≡◌, ◌≤◌, ◌<◌, ◌++◌, [], drop, length, vec_len, true, false, IfNone, IfOk, IfSome, OnOk};
+ghost use Rattle.std.specs.Prelude.{◌≡◌, ◌≤◌, ◌<◌, ◌++◌, [], drop, vec_len, true, false, IfNone, IfOk, IfSome, OnOk};
 ghost use Rattle.ut_sort.specs.Writing.{left_of};
 
-use fl_graph::{Act, Bytes, Machine, Piece, first_piece};
+use crate::waiting::copy_front;
+use fl_graph::{Act, Bytes, Machine, Piece};
 use ps_lines::Memory;
 use std::alloc::Global;
 use std::marker::Model;
@@ -174,7 +175,7 @@ impl Pieces {
         if self.given == self.out.len() {
             return Ok(None);
         }
-        let bytes = give(alloc, self.out.as_slice(), &mut self.given)?;
+        let bytes = copy_front(alloc, self.out.as_slice(), &mut self.given)?;
         Ok(Some(bytes))
     }
 }
@@ -192,15 +193,4 @@ fn refill(lines: &mut SortedLines, out: &mut Vec<u8>, given: &mut usize) -> Resu
     out.clear();
     *given = 0;
     lines.put_piece(out)
-}
-
-/// The front of what waits in `out` from `given` on, which waits no more.
-fn give(alloc: Global, out: &[u8], given: &mut usize) -> Result<Bytes, Memory>
-    requires { given.old < length out.now }
-    ensures given { IfOk result (λ bytes. drop given.old out.now ≡ bytes ++ drop given.new out.now) }
-    ensures within { given.new ≤ length out.now }
-{
-    let bytes = first_piece(alloc, &out[*given..])?;
-    *given += bytes.as_slice().len();
-    Ok(bytes)
 }

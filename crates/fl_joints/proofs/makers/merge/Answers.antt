@@ -8,5 +8,5 @@ pub returns : goal.returns
 returns c =
     let made = c.in_ok-machine.machine in
     let is = c.in_ok-machine.ensures in
-    merge-begins (inv.Sort c.args.sort.now) c.args.ins _ (ghosts.due made.stream) made.opens.items made.putting made.broken made.given made.out.items is.given is.out is.opens is.putting is.broken
+    merge-begins (inv.Sort c.args.sort.now) c.args.ins _ (ghosts.due made.stream) made.opens.items made.putting made.broken made.waiting is.waiting is.opens is.putting is.broken
     (λ texts. (λ i. ghosts.due (is.stream i) texts) ∙ c.in_ok-merger.ensures.due texts ∙ merges-joined texts c.args.sort.now c.args.ins c.requires.ports)

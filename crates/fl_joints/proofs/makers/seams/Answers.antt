@@ -8,8 +8,8 @@ use Rattle.fl_joints.proofs.makers.seams.Goals as goal
 pub returns-in-Ok : goal.returns-in-Ok
 returns-in-Ok c =
     let made = c.new.result in
-    gathered-begins (inv.Tr c.args.tr.now) c.args.ins made.ins _ (ghosts.due made.stream) made.close made.within_line made.putting made.broken made.at made.given made.out.items c.requires.ports
-    c.new.ensures.ins c.new.ensures.at c.new.ensures.given c.new.ensures.out c.new.ensures.within_line c.new.ensures.putting c.new.ensures.broken
+    gathered-begins (inv.Tr c.args.tr.now) c.args.ins made.ins _ (ghosts.due made.stream) made.close made.within_line made.putting made.broken made.at made.waiting c.requires.ports
+    c.new.ensures.ins c.new.ensures.at c.new.ensures.waiting c.new.ensures.within_line c.new.ensures.putting c.new.ensures.broken
     (λ texts.
     (λ i. ghosts.due (c.new.ensures.stream i) (joined_by (c.new.ensures.close i) false texts 0 c.args.ins)) ∙ c.in-Ok.ensures.due (joined_by false false texts 0 c.args.ins)
     ∙ seams-joined texts c.args.tr.now c.args.ins c.requires.ports)

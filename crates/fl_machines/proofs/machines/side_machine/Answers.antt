@@ -21,6 +21,6 @@ returns-in-Ok-new c =
     let used : (port : ℕ) → has_port port (column_inputs paste.args.operands) ≡ nat_lt port c.args.ins =
     λ port. sym (c.in-Ok.ensures.opens port) ∙ c.in-Ok.ensures.ports port ∙ ap (nat_lt port) (sym count) in
     begins-at_ports (inv.Paste paste) c.args.ins c.args.outs c.requires.node _ machine.opens.items machine.putting machine.broken _ facts.opens facts.putting facts.broken
-    (λ texts port. rw (facts.given, facts.out, facts.stream)
+    (λ texts port. rw (facts.waiting, facts.stream)
     (ap (λ text. if port == 0 then text else []) (side-owed paste c.args.ins c.args.outs c.requires.node c.requires.side (ghosts.due c.in-Ok.side) c.in-Ok.ensures.due used texts)))
     (λ texts. paste-selects texts paste)

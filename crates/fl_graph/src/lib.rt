@@ -24,6 +24,7 @@ mod validity;
 pub use graphs::{Cell, Graph, Node, StatusRule};
 pub use kinds::{From, NodeKind, To};
 pub use machines::Machine;
+pub use paths::{path_read, path_written};
 pub use pieces::{Act, Bytes, MAX_PIECE, Piece, first_piece};
 pub use runs::{break_machine, put_piece, take_piece};
 pub use seqs::Seq;

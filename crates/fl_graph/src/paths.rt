@@ -103,8 +103,8 @@ fn is_written(nodes: &[Node], path: &Path) -> bool
     false
 }
 
-/// The path of the file that a node reads.
-fn path_read(kind: &NodeKind) -> Option<&Path>
+/// The path of the file that a node of this kind reads, if it reads one.
+pub fn path_read(kind: &NodeKind) -> Option<&Path>
     ensures { option_copied result ≡ path_read_lem kind.now }
 {
     match kind {
@@ -113,8 +113,8 @@ fn path_read(kind: &NodeKind) -> Option<&Path>
     }
 }
 
-/// The path of the file that a node writes.
-fn path_written(kind: &NodeKind) -> Option<&Path>
+/// The path of the file that a node of this kind writes, if it writes one.
+pub fn path_written(kind: &NodeKind) -> Option<&Path>
     ensures { option_copied result ≡ path_written_lem kind.now }
 {
     match kind {

@@ -7,3 +7,4 @@ pub mod CellLemmas
 pub mod GraphLemmas
 pub mod PrintLemmas
 pub mod AnswerLemmas
+pub mod ReadingLemmas

@@ -2,4 +2,5 @@ pub mod Names
 pub mod Parts
 pub mod Values
 pub mod Texts
+pub mod Readings
 pub mod Inner

@@ -1,6 +1,7 @@
 //! What texts of graphs are, in laws: each is the contract of a function that does nothing.
 ghost use Rattle.std.specs.Prelude.{◌≡◌, ℕ, List, false, true, Some, IsUtf8};
 ghost use Rattle.fl_graph.specs.declared.graphs.Graph.{Graph as Graphs};
+ghost use Rattle.fl_text.specs.Readings.{IsReadAs, Reading, reading};
 ghost use Rattle.fl_text.specs.Texts.{has_other_version, IsGraph, IsGraphText, IsNoGraph, IsNoJson, IsOfOtherVersion};
 ghost use Rattle.fl_text.specs.Values.{graph_value, is_held};
 
@@ -24,4 +25,11 @@ pub fn a_text_has_one_fault_at_most()
     ensures version { (text : List ℕ) → IsNoJson text → IsOfOtherVersion text → ⊥ }
     ensures graph { (text : List ℕ) → IsNoJson text → IsNoGraph text → ⊥ }
     ensures both { (text : List ℕ) → IsOfOtherVersion text → IsNoGraph text → ⊥ }
+{}
+
+/// Each text has one reading: it is a graph's, or has one of the three faults.
+#[tactic(auto, using(crate::proofs::ReadingLemmas::reading_is, crate::proofs::ReadingLemmas::one_reading))]
+pub fn a_text_has_one_reading()
+    ensures is { (text : List ℕ) → IsReadAs text (reading text) }
+    ensures only { (text : List ℕ) (one other : Reading) → IsReadAs text one → IsReadAs text other → one ≡ other }
 {}

@@ -5,3 +5,4 @@ pub mod InputLemmas
 pub mod StageLemmas
 pub mod MarkLemmas
 pub mod RunLemmas
+pub mod GraphLemmas

@@ -1,20 +1,19 @@
 -- Readers, one behind the other.
-use Rattle.std.proofs.Common.{◌≡◌, ℕ, zero, ◌≤◌, ◌<◌, ◌+◌, suc, List, [], ◌∷◌, ◌++◌, Bool, true, false, ◌||◌, nat_lt, length, map, Option, Some, None, refl, sym, ap, subst, ◌∙◌, append_assoc, drop, get_or, IfSome, arith}
-use Rattle.std.specs.List.{filter_map}
+use Rattle.std.proofs.Common.{◌≡◌, ℕ, zero, ◌≤◌, ◌<◌, ◌+◌, suc, List, [], ◌∷◌, ◌++◌, Bool, true, false, ◌||◌, nat_lt, length, map, Option, Some, None, refl, sym, ap, subst, ◌∙◌, append_assoc, IfSome, arith}
+use Rattle.std.specs.List.{cons_option}
 use Rattle.std.proofs.lemmas.Bool.{lt-ltb, true≢false}
-use Rattle.std.proofs.lemmas.List.{drop_more, length-append, map-append}
 use Rattle.ps_world.specs.Counts.{Rose}
-use Rattle.ps_world.specs.Files.{Files, bytes_at}
+use Rattle.ps_world.specs.Files.{Files, IsFileAt, bytes_at}
+use Rattle.ps_world.specs.Paths.{Components}
 use Rattle.ps_world.specs.TreeState.{AreOut, TreeState, lend, take_back}
 use Rattle.ps_world.proofs.TreeStateLemmas.{balanced-none, out-lend, out-take_back}
 use Rattle.fl_engines.specs.OwnEnds.{each_of}
-use Rattle.fl_segments.specs.Stages.{file_in, files_read, ins_of}
-use Rattle.fl_segments.specs.declared.stages.Stage.{Stage}
-use Rattle.fl_segments.specs.declared.stages.In.{In}
-use Rattle.fl_segments.specs.declared.stages.In.TheVariants as inlet
+use Rattle.fl_graph.specs.Paths.{path_read, paths_read}
+use Rattle.fl_graph.specs.declared.graphs.Cell.{Cell}
+use Rattle.fl_graph.specs.declared.kinds.NodeKind.{NodeKind}
 use Rattle.fl_commands.specs.Inner.Overs.{Opens}
-use Rattle.fl_commands.specs.Inner.Segments.{AllThere}
-use Rattle.fl_commands.specs.Readers.{AreThere, IsThere, has_count}
+use Rattle.fl_commands.specs.Readers.{has_count}
+use Rattle.fl_commands.specs.Writers.{AreFilesAt}
 
 -- what is told of one more
 each-behind : {End Told : Type 0} (tell : End → Told) (entries : List (ℕ × End)) (number : ℕ) (end : End)
@@ -109,89 +108,69 @@ module _ {End : Type 0} (faults : End → ℕ) (entries rest : List (ℕ × End)
           rose-later first before now (so some (counted ∙ ap (λ it. it || nat_lt 0 (faults end)) none ∙ ap (nat_lt 0) (sym same))) later
       by_count (suc count) same = rose-earlier first before now earlier (rises (omega (arith, same)))
 
--- the texts of the files among inputs, from the first on
-abbrev pub texts_of_files : Files → List In → List (Option (List ℕ))
-texts_of_files files ins = map (λ path. Some (bytes_at files path)) (filter_map file_in ins)
+-- the texts of the files that nodes read, from the first on
+abbrev pub texts_of_files : Files → List (Cell NodeKind) → List (Option (List ℕ))
+texts_of_files files cells = map (λ path. Some (bytes_at files path)) (paths_read cells)
 
-texts-more : (files : Files) (first : In) (rest : List In)
-    → map (λ path. Some (bytes_at files path)) (filter_map file_in (first ∷ rest))
-    ≡ map (λ path. Some (bytes_at files path)) (filter_map file_in (first ∷ [])) ++ map (λ path. Some (bytes_at files path)) (filter_map file_in rest)
-texts-more files inlet.Stream rest = refl
-texts-more files (inlet.File path closed) rest = refl
-texts-more files inlet.Empty rest = refl
+-- the file of the first of some, if it has one, and those of the rest
+first-there : (files : Files) (path : Option Components) (paths : List Components) → AreFilesAt files (cons_option path paths) → IfSome path (λ it. IsFileAt files it)
+first-there files None paths there = tt
+first-there files (Some path) paths there = there.0
 
-files-more : (first : In) (rest : List In) → length (filter_map file_in (first ∷ rest)) ≡ length (filter_map file_in (first ∷ [])) + length (filter_map file_in rest)
-files-more inlet.Stream rest = omega arith
-files-more (inlet.File path closed) rest = omega arith
-files-more inlet.Empty rest = omega arith
+rest-there : (files : Files) (path : Option Components) (paths : List Components) → AreFilesAt files (cons_option path paths) → AreFilesAt files paths
+rest-there files None paths there = there
+rest-there files (Some path) paths there = there.1
 
--- the first of the inputs that are left, and the rest
-module _ (ins : List In) (place : ℕ) (one : In) (here : one ≡ get_or ins place one) (below : place < length ins) where
-  cut : drop place ins ≡ one ∷ drop (place + 1) ins
-  cut = drop_more ins place one below ∙ ap (λ (it : In). it ∷ drop (place + 1) ins) (sym here)
+texts-more : (files : Files) (path : Option Components) (paths : List Components)
+    → map (λ path. Some (bytes_at files path)) (cons_option path paths) ≡ map (λ path. Some (bytes_at files path)) (cons_option path []) ++ map (λ path. Some (bytes_at files path)) paths
+texts-more files None paths = refl
+texts-more files (Some path) paths = refl
 
-  pub there-now : (held : Option Files) → IfSome held (λ files. AreThere files (drop place ins)) → IfSome held (λ files. IsThere files one)
-  there-now None there = tt
-  there-now (Some files) there = (subst (AreThere files) cut there).0
+files-more : (path : Option Components) (paths : List Components) → length (cons_option path paths) ≡ length (cons_option path []) + length paths
+files-more None paths = omega arith
+files-more (Some path) paths = omega arith
 
-  pub there-next : (held : Option Files) → IfSome held (λ files. AreThere files (drop place ins)) → IfSome held (λ files. AreThere files (drop (place + 1) ins))
-  there-next None there = tt
-  there-next (Some files) there = (subst (AreThere files) cut there).1
+-- the first of the nodes that are left, and the rest
+module _ (all left rest : List (Cell NodeKind)) (node : Cell NodeKind) (is : left ≡ node ∷ rest) (path : Option Components) (path_is : path ≡ path_read node.kind) where
+  cut : paths_read left ≡ cons_option path (paths_read rest)
+  cut = ap (λ (it : List (Cell NodeKind)). paths_read it) is ∙ ap (λ (it : Option Components). cons_option it (paths_read rest)) (sym path_is)
 
-  pub texts-next : (files : Files) (first before after : List (Option (List ℕ))) → first ++ texts_of_files files ins ≡ before ++ texts_of_files files (drop place ins)
-      → after ≡ before ++ texts_of_files files (one ∷ []) → first ++ texts_of_files files ins ≡ after ++ texts_of_files files (drop (place + 1) ins)
-  texts-next files first before after so is =
-      so ∙ ap (λ (it : List In). before ++ texts_of_files files it) cut
-      ∙ ap (λ (it : List (Option (List ℕ))). before ++ it) (texts-more files one (drop (place + 1) ins))
-      ∙ sym (append_assoc before (texts_of_files files (one ∷ [])) (texts_of_files files (drop (place + 1) ins)))
-      ∙ ap (λ (it : List (Option (List ℕ))). it ++ texts_of_files files (drop (place + 1) ins)) (sym is)
+  pub node-there : (held : Option Files) → IfSome held (λ files. AreFilesAt files (paths_read left)) → IfSome held (λ files. IfSome path (λ it. IsFileAt files it))
+  node-there None there = tt
+  node-there (Some files) there = first-there files path (paths_read rest) (subst (AreFilesAt files) cut there)
 
-  pub count-next : (first before after : ℕ) → first + length (filter_map file_in ins) ≡ before + length (filter_map file_in (drop place ins))
-      → after ≡ before + length (filter_map file_in (one ∷ [])) → first + length (filter_map file_in ins) ≡ after + length (filter_map file_in (drop (place + 1) ins))
-  count-next first before after so is =
-      let left = ap (λ (it : List In). length (filter_map file_in it)) cut ∙ files-more one (drop (place + 1) ins) in
-      omega (arith, so, is, left)
+  pub nodes-there : (held : Option Files) → IfSome held (λ files. AreFilesAt files (paths_read left)) → IfSome held (λ files. AreFilesAt files (paths_read rest))
+  nodes-there None there = tt
+  nodes-there (Some files) there = rest-there files path (paths_read rest) (subst (AreFilesAt files) cut there)
 
--- the first of the stages that are left, and the rest
-module _ (all left rest : List Stage) (stage : Stage) (is : left ≡ stage ∷ rest) where
-  pub stage-there : (held : Option Files) → IfSome held (λ files. AllThere files left) → IfSome held (λ files. AreThere files (ins_of stage))
-  stage-there None there = tt
-  stage-there (Some files) there = (subst (AllThere files) is there).0
+  pub nodes-texts : (files : Files) (first before after : List (Option (List ℕ))) → first ++ texts_of_files files all ≡ before ++ texts_of_files files left
+      → after ≡ before ++ map (λ path. Some (bytes_at files path)) (cons_option path []) → first ++ texts_of_files files all ≡ after ++ texts_of_files files rest
+  nodes-texts files first before after so more =
+      so ∙ ap (λ (it : List Components). before ++ map (λ path. Some (bytes_at files path)) it) cut
+      ∙ ap (λ (it : List (Option (List ℕ))). before ++ it) (texts-more files path (paths_read rest))
+      ∙ sym (append_assoc before (map (λ path. Some (bytes_at files path)) (cons_option path [])) (texts_of_files files rest))
+      ∙ ap (λ (it : List (Option (List ℕ))). it ++ texts_of_files files rest) (sym more)
 
-  pub stages-there : (held : Option Files) → IfSome held (λ files. AllThere files left) → IfSome held (λ files. AllThere files rest)
-  stages-there None there = tt
-  stages-there (Some files) there = (subst (AllThere files) is there).1
-
-  pub stages-texts : (files : Files) (first before after : List (Option (List ℕ)))
-      → first ++ map (λ path. Some (bytes_at files path)) (files_read all) ≡ before ++ map (λ path. Some (bytes_at files path)) (files_read left)
-      → after ≡ before ++ map (λ path. Some (bytes_at files path)) (filter_map file_in (ins_of stage))
-      → first ++ map (λ path. Some (bytes_at files path)) (files_read all) ≡ after ++ map (λ path. Some (bytes_at files path)) (files_read rest)
-  stages-texts files first before after so more =
-      so ∙ ap (λ (it : List Stage). before ++ map (λ path. Some (bytes_at files path)) (files_read it)) is
-      ∙ ap (λ (it : List (Option (List ℕ))). before ++ it) (map-append (λ path. Some (bytes_at files path)) (filter_map file_in (ins_of stage)) (files_read rest))
-      ∙ sym (append_assoc before (map (λ path. Some (bytes_at files path)) (filter_map file_in (ins_of stage))) (map (λ path. Some (bytes_at files path)) (files_read rest)))
-      ∙ ap (λ (it : List (Option (List ℕ))). it ++ map (λ path. Some (bytes_at files path)) (files_read rest)) (sym more)
-
-  pub stages-count : (first before after : ℕ) → first + length (files_read all) ≡ before + length (files_read left)
-      → after ≡ before + length (filter_map file_in (ins_of stage)) → first + length (files_read all) ≡ after + length (files_read rest)
-  stages-count first before after so more =
-      let cut = ap (λ (it : List Stage). length (files_read it)) is ∙ length-append (filter_map file_in (ins_of stage)) (files_read rest) in
-      omega (arith, so, more, cut)
+  pub nodes-count : (first before after : ℕ) → first + length (paths_read all) ≡ before + length (paths_read left)
+      → after ≡ before + length (cons_option path []) → first + length (paths_read all) ≡ after + length (paths_read rest)
+  nodes-count first before after so more =
+      let many = ap (λ (it : List Components). length it) cut ∙ files-more path (paths_read rest) in
+      omega (arith, so, more, many)
 
 -- none is out yet
 pub out-none : {End : Type 0} (entries : List (ℕ × End)) → entries ≡ [] → (state : TreeState) → AreOut (length entries) state state
 out-none entries is state = subst (λ (it : List (ℕ × _)). AreOut (length it) state state) (sym is) (balanced-none state)
 
 -- readers of all files, where none was out before
-pub opens-so : {R : Type 0} (of_reader : R → Option (List ℕ)) (reader_faults : R → ℕ) (segment : List Stage) (tree tree' : TreeState) (none readers : List (ℕ × R)) → none ≡ []
-    → ((files : Files) → tree.held ≡ Some files → each_of of_reader readers ≡ each_of of_reader none ++ map (λ path. Some (bytes_at files path)) (files_read segment))
-    → length readers ≡ length none + length (files_read segment)
+pub opens-so : {R : Type 0} (of_reader : R → Option (List ℕ)) (reader_faults : R → ℕ) (paths : List Components) (tree tree' : TreeState) (none readers : List (ℕ × R)) → none ≡ []
+    → ((files : Files) → tree.held ≡ Some files → each_of of_reader readers ≡ each_of of_reader none ++ map (λ path. Some (bytes_at files path)) paths)
+    → length readers ≡ length none + length paths
     → (has_count (each_of reader_faults none) ≡ false → has_count (each_of reader_faults readers) ≡ false)
     → ((first : TreeState) → AreOut (length none) first tree → AreOut (length readers) first tree')
-    → Opens of_reader reader_faults segment tree tree' readers
-opens-so of_reader reader_faults segment tree tree' none readers is texts count fresh out =
+    → Opens of_reader reader_faults paths tree tree' readers
+opens-so of_reader reader_faults paths tree tree' none readers is texts count fresh out =
     record {
-      texts = λ files told. texts files told ∙ ap (λ (it : List (ℕ × _)). each_of of_reader it ++ map (λ path. Some (bytes_at files path)) (files_read segment)) is;
+      texts = λ files told. texts files told ∙ ap (λ (it : List (ℕ × _)). each_of of_reader it ++ map (λ path. Some (bytes_at files path)) paths) is;
       count = let empty = ap (λ (it : List (ℕ × _)). length it) is in omega (arith, count, empty);
       fresh = fresh (ap (λ (it : List (ℕ × _)). has_count (each_of reader_faults it)) is);
       out = out tree (out-none none is tree);

@@ -1,16 +1,16 @@
 -- What comes of stages that are run, from what comes of their graph.
-use Rattle.std.proofs.Common.{◌≡◌, inl, ℕ, zero, suc, ◌≤◌, ◌<◌, ◌+◌, List, [], ◌∷◌, ◌++◌, Bool, true, false, ◌||◌, nat_lt, if◌then◌else◌, length, map, slice_get, Option, Some, None, Result, Ok, Err, OnOk, IsErrOf, refl, sym, ap, ◌∙◌, subst, append-nil, arith}
-use Rattle.std.specs.List.{cons_option, list_all, list_any}
+use Rattle.std.proofs.Common.{◌≡◌, inl, ℕ, zero, suc, ◌≤◌, ◌<◌, ◌+◌, List, [], ◌∷◌, ◌++◌, Bool, true, false, ◌&&◌, ◌||◌, nat_le, nat_lt, if◌then◌else◌, length, map, slice_get, Option, Some, None, Result, Ok, Err, OnOk, IsErrOf, refl, sym, ap, ◌∙◌, subst, arith}
+use Rattle.std.specs.Prelude.{replicate}
+use Rattle.std.specs.List.{cons_option, filter_map, flat_map, list_all, list_any}
 use Rattle.std.specs.Option.{IfSome, option_map}
-use Rattle.std.proofs.lemmas.Bool.{and_parts, lt-ltb, true≢false}
-use Rattle.std.proofs.lemmas.List.{length-append, length-map, map-append}
+use Rattle.std.proofs.lemmas.Bool.{and_from, and_parts, lt-ltb, true≢false}
+use Rattle.std.proofs.lemmas.List.{length-map}
 use Rattle.ps_world.specs.Counts.{Rose}
 use Rattle.ps_world.specs.Counts.{Counts as CountsOf}
 use Rattle.ps_world.specs.Files.{Files, bytes_at}
 use Rattle.ps_world.specs.Paths.{Components}
 use Rattle.ps_world.specs.Told.{then_bytes, GrewByPrefix}
 use Rattle.ps_world.specs.TreeState.{AreOut, Balanced, TreeState}
-use Rattle.ps_world.specs.declared.tree.Mode.{Mode}
 use Rattle.ps_world.specs.declared.error.WorldErr.{WorldErr}
 use Rattle.ps_world.specs.declared.error.WorldErr.TheVariants as error
 use Rattle.ps_world.proofs.ToldLemmas.{grew_by_nothing}
@@ -22,13 +22,15 @@ use Rattle.fl_graph.specs.declared.kinds.From.TheVariants as from
 use Rattle.fl_graph.specs.declared.kinds.NodeKind.{NodeKind}
 use Rattle.fl_graph.specs.declared.kinds.NodeKind.TheVariants as kind
 use Rattle.fl_graph.specs.declared.kinds.To.TheVariants as to
-use Rattle.fl_graph.specs.Kinds.{is_input}
+use Rattle.fl_graph.specs.Kinds.{has_its_class, is_input}
+use Rattle.fl_graph.specs.Net.{run, step}
 use Rattle.fl_graph.specs.Valid.{Valid}
-use Rattle.fl_classes.specs.Flow.{Outcome, only}
+use Rattle.fl_classes.specs.Flow.{Outcome, Placed, Write, equation, is_source, no_texts, placed_from, to_file, writes_of}
 use Rattle.fl_classes.specs.Flow.{outcome as outcome_of}
-use Rattle.fl_classes.specs.Kinds.{are_run}
+use Rattle.fl_classes.specs.Kinds.{are_run, is_run}
 use Rattle.fl_classes.specs.Used.{words_used}
 use Rattle.fl_classes.specs.Sources.{source_texts}
+use Rattle.fl_classes.proofs.KindLemmas.{runs-of_class}
 use Rattle.fl_core.specs.EndLists.{file_nodes, file_sources, numbers_of, reads_file, writes_file}
 use Rattle.fl_engines.specs.Engines.{then_used}
 use Rattle.fl_engines.specs.Logs.{Log, with_words}
@@ -37,24 +39,21 @@ use Rattle.fl_engines.specs.OwnEnds.{HasCause as CauseOf}
 use Rattle.fl_core.specs.declared.end_lists.Ends.{Ends}
 use Rattle.fl_engines.specs.declared.own_ends.Came.{Came}
 use Rattle.fl_engines.specs.declared.own_ends.Came.TheVariants as came
-use Rattle.fl_segments.specs.Chains.{begins_with, chain_means, files_teed, led_to_file, output_by, stage_means, stage_of, tee_mode, text_in, texts_read}
+use Rattle.fl_segments.specs.Chains.{begins_with, chain_means}
 use Rattle.fl_segments.specs.Groups.{marks_hold}
-use Rattle.fl_segments.specs.Noted.{noted_in, used_at}
-use Rattle.fl_segments.specs.Stages.{file_out, files_read, files_written, is_stage, reads_input, words_at}
-use Rattle.fl_segments.specs.declared.stages.Does.{Does}
-use Rattle.fl_segments.specs.declared.stages.Does.TheVariants as does
+use Rattle.fl_segments.specs.Noted.{noted_as, noted_in, used_at}
+use Rattle.fl_segments.specs.Stages.{file_in, files_read, files_written, ins_of, reads_input, words_at}
 use Rattle.fl_segments.specs.declared.stages.First.{First}
-use Rattle.fl_segments.specs.declared.stages.Out.{Out}
-use Rattle.fl_segments.specs.declared.stages.Out.TheVariants as out
+use Rattle.fl_segments.specs.declared.stages.In.{In}
+use Rattle.fl_segments.specs.declared.stages.In.TheVariants as inlet
 use Rattle.fl_segments.specs.declared.stages.Stage.{Stage}
-use Rattle.fl_segments.proofs.FitLemmas.{skips-files}
 use Rattle.fl_segments.proofs.NotedLemmas.{used-so}
 use Rattle.fl_commands.specs.Inner.Overs.{Lends, RunsOver, done_by, ended_by, ended_of}
-use Rattle.fl_commands.specs.Inner.Segments.{IsGraphOf, segment_asks}
+use Rattle.fl_commands.specs.Inner.Segments.{AllThere, IsGraphOf, segment_asks}
 use Rattle.fl_commands.specs.Inner.Writing.{AreApart, AreTold, Fills, Returns, out_at}
-use Rattle.fl_commands.specs.Readers.{has_count}
-use Rattle.fl_commands.specs.Runs.{Asks, Counts, HasCause, IfDone, NoFewer, Runs, counts_of, left_behind, with_noted}
-use Rattle.fl_commands.specs.Writers.{AreFilled, all_added, filled}
+use Rattle.fl_commands.specs.Readers.{AreThere, has_count}
+use Rattle.fl_commands.specs.Runs.{Asks, Counts, HasCause, IfDone, NoFewer, Runs, counts_of, graph_asks, left_behind, with_noted}
+use Rattle.fl_commands.specs.Writers.{AreFilesAt, AreFilled, all_added, filled}
 use Rattle.fl_commands.specs.declared.runs.Ended.{Ended}
 use Rattle.fl_commands.specs.declared.runs.Ended.TheVariants as ended
 use Rattle.fl_commands.proofs.ReaderLemmas.{rose-earlier, rose-later}
@@ -92,40 +91,44 @@ nodes-count number (cell ∷ cells) = by_kind cell.kind (nodes-count (number + 1
     by_kind (kind.TeeFile path mode) same = ap suc same
     by_kind other same = same
 
--- HOW MANY TEXTS FOR FILES STAGES LEAVE
--- as many as they write files
-mapped-many : (give : Components → Components × (Mode × List ℕ)) (paths : List Components) → length (map give paths) ≡ length paths
-mapped-many give paths = length-map paths give
-
-stage-many : (stage : Stage) → is_stage stage ≡ true → (texts : List (List ℕ)) → length (texts_for (stage_of stage texts).files) ≡ length (stage.tees ++ file_out stage.out)
-stage-many stage is texts =
-    let led : List (Components × (Mode × List ℕ)) = led_to_file stage.out (stage.first ++ output_by stage.does texts) in
-    length-map (files_teed stage.does stage.tees texts ++ led) (λ (file : Components × (Mode × List ℕ)). file.1.1) ∙ length-append (files_teed stage.does stage.tees texts) led
-    ∙ (let of_tees = by_does stage.does refl in let of_out = by_out stage.out in let all = length-append stage.tees (file_out stage.out) in omega (arith, of_tees, of_out, all))
+-- HOW MANY TEXTS FOR FILES A GRAPH LEAVES: as many as it writes files
+files-many : (sources : List (List ℕ)) (number : ℕ) (cells : List (Cell NodeKind)) (texts : ℕ → List ℕ)
+    → length (texts_for (flat_map to_file (run (equation sources) (λ (node : Placed) (ins : List (List ℕ)). writes_of node.1 ins) (placed_from number cells) texts))) ≡ length (paths_written cells)
+files-many sources number [] texts = refl
+files-many sources number (cell ∷ cells) texts =
+    let next : ℕ = if is_source cell.kind then number + 1 else number in
+    let here : Cell Placed = record { kind = (number, cell.kind); ins = cell.ins; outs = cell.outs; stage = cell.stage } in
+    let behind : ℕ → List ℕ = step (equation sources) here texts in
+    by_kind (map texts cell.ins) (run (equation sources) (λ (node : Placed) (ins : List (List ℕ)). writes_of node.1 ins) (placed_from next cells) behind) cell.kind
+    (files-many sources next cells behind)
   where
-    by_does : (it : Does) → stage.does ≡ it → length (files_teed it stage.tees texts) ≡ length stage.tees
-    by_does does.Skip same = sym (ap (λ (it : List Components). length it) (skips-files stage is same))
-    by_does (does.Util inv) same = mapped-many (λ (path : Components). (path, (tee_mode inv, only (texts_read inv texts)))) stage.tees
+    by_kind : (ins : List (List ℕ)) (others : List Write) (it : NodeKind) → length (texts_for (flat_map to_file others)) ≡ length (paths_written cells)
+        → length (texts_for (flat_map to_file (writes_of it ins ++ others))) ≡ length (cons_option (path_written it) (paths_written cells))
+    by_kind ins others (kind.Sink (to.File path mode)) same = ap suc same
+    by_kind ins others (kind.TeeFile path mode) same = ap suc same
+    by_kind ins others other same = same
 
-    by_out : (it : Out) → length (led_to_file it (stage.first ++ output_by stage.does texts)) ≡ length (file_out it)
-    by_out out.Next = refl
-    by_out (out.File path mode) = refl
-    by_out out.Null = refl
+-- a graph whose nodes are of their classes runs
+pub runs-all : (cells : List (Cell NodeKind)) → list_all (λ cell. has_its_class cell.kind) cells ≡ true → are_run cells ≡ true
+runs-all [] all = refl
+runs-all (cell ∷ cells) all =
+    let parts = and_parts (has_its_class cell.kind) (list_all (λ cell. has_its_class cell.kind) cells) all in
+    and_from (is_run cell.kind) (are_run cells) (runs-of_class cell.kind parts.0) (runs-all cells parts.1)
 
-pub chain-many : (segment : List Stage) → list_all is_stage segment ≡ true → (stream : List ℕ) (files : Components → List ℕ)
-    → length (texts_for (chain_means segment stream files).files) ≡ length (files_written segment)
-chain-many [] all stream files = refl
-chain-many (stage ∷ []) all stream files =
-    stage-many stage (and_parts (is_stage stage) true all).0 (map (text_in stream files) stage.ins) ∙ ap (λ (it : List Components). length it) (sym (append-nil (stage.tees ++ file_out stage.out)))
-chain-many (stage ∷ next ∷ stages) all stream files =
-    let parts = and_parts (is_stage stage) (list_all is_stage (next ∷ stages)) all in
-    let means : Outcome = stage_means stage stream files in
-    let others : Outcome = chain_means (next ∷ stages) means.output files in
-    let here = stage-many stage parts.0 (map (text_in stream files) stage.ins) in
-    let rest = chain-many (next ∷ stages) parts.1 means.output files in
-    let texts = ap (λ (it : List (List ℕ)). length it) (map-append (λ (file : Components × (Mode × List ℕ)). file.1.1) means.files others.files) ∙ length-append (texts_for means.files) (texts_for others.files) in
-    let paths = length-append (stage.tees ++ file_out stage.out) (files_written (next ∷ stages)) in
-    omega (arith, here, rest, texts, paths)
+-- the words of utilities that are noted once, at any width
+used-once : (width : ℕ) (words : List (List (List ℕ))) → used_at width (map (λ (it : List (List ℕ)). noted_as it false) words) ≡ words
+used-once width [] = refl
+used-once width (first ∷ rest) = by_test (nat_le 2 width) (used-once width rest)
+  where
+    by_test : (test : Bool) → used_at width (map (λ (it : List (List ℕ)). noted_as it false) rest) ≡ rest
+        → replicate (if test && false then width else 1) first ++ used_at width (map (λ (it : List (List ℕ)). noted_as it false) rest) ≡ first ∷ rest
+    by_test true same = ap (λ (it : List (List (List ℕ))). first ∷ it) same
+    by_test false same = ap (λ (it : List (List (List ℕ))). first ∷ it) same
+
+-- the engine's words are those of the utilities that are noted
+pub graph-noted : (graph : Graph) (told : Option Log) → then_used told graph ≡ option_map (with_noted (graph_asks graph).noted) told
+graph-noted graph None = refl
+graph-noted graph (Some log) = ap (λ (words : List (List (List ℕ))). Some (with_words words log)) (sym (used-once log.width (words_used graph.nodes)))
 
 -- as many are there as before they were numbered
 pub as-many : {End : Type 0} (one other : List (ℕ × End)) → map (λ entry. entry.1) one ≡ map (λ entry. entry.1) other → length one ≡ length other
@@ -326,15 +329,15 @@ empty-of (item ∷ items) none = absurd (omega (arith, none))
 
 module _ {R W I O : Type 0} (of_reader : R → Option (List ℕ)) (of_input : I → Option (List ℕ)) (of_writer : W → Option (List ℕ)) (of_output : O → Option (List ℕ))
     (reader_faults : R → ℕ) (writer_faults : W → ℕ) (input_faults : I → ℕ) (output_faults : O → ℕ)
-    (width : ℕ) (segment : List Stage) (from : First) (graph : Graph) (is : IsGraphOf width segment from graph)
-    (first lent : TreeState) (readers : List (ℕ × R)) (writers : List (ℕ × W)) (lends : Lends of_reader reader_faults of_writer writer_faults segment first lent readers writers)
+    (graph : Graph) (first lent : TreeState) (readers : List (ℕ × R)) (writers : List (ℕ × W))
+    (lends : Lends of_reader reader_faults of_writer writer_faults (paths_read graph.nodes) (paths_written graph.nodes) first lent readers writers)
     (input : I) (out : O) (used used' : Option Log) (how : Came) (back : Ends R W I O)
     (over : RunsOver of_reader of_input of_writer of_output reader_faults writer_faults input_faults output_faults graph readers writers input out used used' how back) where
   -- as many readers and writers come back
   pub readers-back : length back.readers.items ≡ length readers
   readers-back = as-numbered back.readers.items over.numbered.readers.items over.runs.readers ∙ as-many over.numbered.readers.items readers over.readers_are
 
-  pub writers-back : length back.writers.items ≡ length (files_written segment)
+  pub writers-back : length back.writers.items ≡ length (paths_written graph.nodes)
   writers-back =
       as-numbered back.writers.items over.numbered.writers.items over.runs.writers ∙ as-many over.numbered.writers.items writers over.writers_are ∙ lends.begins.count
 
@@ -342,41 +345,41 @@ module _ {R W I O : Type 0} (of_reader : R → Option (List ℕ)) (of_input : I 
   told-so text files told is_text =
       record {
         from_input = λ has. ap of_input over.input_is ∙ is_text;
-        from_files = each-same of_reader over.numbered.readers.items readers over.readers_are ∙ lends.opens.texts files told ∙ ap (map (λ path. Some (bytes_at files path))) (sym is.reads);
+        from_files = each-same of_reader over.numbered.readers.items readers over.readers_are ∙ lends.opens.texts files told;
       }
 
-  module _ (stages : list_all is_stage segment ≡ true) (apart : AreApart (files_written segment)) (returned last : TreeState) (before middle later now : ℕ) (calm_lent : middle ≡ before)
-      (outcome : Result Unit WorldErr) (returns : Returns of_writer writer_faults (files_written segment) back.writers.items lent returned middle later outcome)
+  module _ (apart : AreApart (paths_written graph.nodes)) (returned last : TreeState) (before middle later now : ℕ) (calm_lent : middle ≡ before)
+      (outcome : Result Unit WorldErr) (returns : Returns of_writer writer_faults (paths_written graph.nodes) back.writers.items lent returned middle later outcome)
       (given_back : (begun : TreeState) → AreOut (length back.readers.items) begun returned → Balanced begun last) (held_last : last.held ≡ returned.held) (more : later ≤ now)
-      (marks : (files : Files) → first.held ≡ Some files → marks_hold (bytes_at files) segment ≡ true) (is_width : IfSome used (λ log. width ≡ log.width)) (calm : has_count (each_of reader_faults back.readers.items) ≡ false → now ≡ later) (rises : has_count (each_of reader_faults back.readers.items) ≡ true → Rose later now) where
+      (calm : has_count (each_of reader_faults back.readers.items) ≡ false → now ≡ later) (rises : has_count (each_of reader_faults back.readers.items) ≡ true → Rose later now) where
     read-so : (reads : Bool) → has_input graph.nodes ≡ reads → IfDone (ended_by how outcome) (λ status. of_input back.input ≡ left_behind reads (of_input input))
     read-so true has = done-so how outcome (over.runs.read has) (λ status read. read ∙ ap (λ (it : I). option_map (λ _. []) (of_input it)) over.input_is)
     read-so false has = done-all how outcome (λ status. ap of_input (over.runs.input has ∙ over.input_is))
 
     -- the files
-    lent-held : lent.held ≡ option_map (out_at (files_written segment)) first.held
-    lent-held = lends.begins.held ∙ ap (option_map (out_at (files_written segment))) lends.held
+    lent-held : lent.held ≡ option_map (out_at (paths_written graph.nodes)) first.held
+    lent-held = lends.begins.held ∙ ap (option_map (out_at (paths_written graph.nodes))) lends.held
 
-    filled-so : Fills (files_written segment) (each_of of_writer back.writers.items) lent.held returned.held → AreFilled (files_written segment) first.held last.held
+    filled-so : Fills (paths_written graph.nodes) (each_of of_writer back.writers.items) lent.held returned.held → AreFilled (paths_written graph.nodes) first.held last.held
     filled-so fills =
-        let many : length fills.texts ≡ length (files_written segment) =
+        let many : length fills.texts ≡ length (paths_written graph.nodes) =
         told-count (each_of of_writer back.writers.items) fills.texts fills.told_are ∙ length-map back.writers.items (λ entry. of_writer entry.1) ∙ writers-back in
         record {
           texts = fills.texts;
           many = many;
-          is = held_last ∙ fills.is ∙ ap (option_map (filled (files_written segment) fills.texts)) lent-held ∙ out-filled-held first.held (files_written segment) fills.texts many;
+          is = held_last ∙ fills.is ∙ ap (option_map (filled (paths_written graph.nodes) fills.texts)) lent-held ∙ out-filled-held first.held (paths_written graph.nodes) fills.texts many;
         }
 
-    added-so : (text : List ℕ) (files : Files) → first.held ≡ Some files → (means : Outcome) → means ≡ chain_means segment (begins_with from text) (bytes_at files)
-        → each_of of_writer back.writers.items ≡ grown (each_of of_writer over.numbered.writers.items) (texts_for means.files)
-        → Fills (files_written segment) (each_of of_writer back.writers.items) lent.held returned.held
-        → last.held ≡ Some (all_added (files_written segment) (texts_for (chain_means segment (begins_with from text) (bytes_at files)).files) files)
-    added-so text files told means means_is grew fills =
-        let paths : List Components = files_written segment in
-        let texts : List (List ℕ) = texts_for (chain_means segment (begins_with from text) (bytes_at files)).files in
-        let many : length texts ≡ length paths = chain-many segment stages (begins_with from text) (bytes_at files) in
+    added-so : (text : List ℕ) (files : Files) → first.held ≡ Some files
+        → each_of of_writer back.writers.items ≡ grown (each_of of_writer over.numbered.writers.items) (texts_for (outcome_of graph (source_texts graph.nodes text (bytes_at files))).files)
+        → Fills (paths_written graph.nodes) (each_of of_writer back.writers.items) lent.held returned.held
+        → last.held ≡ Some (all_added (paths_written graph.nodes) (texts_for (outcome_of graph (source_texts graph.nodes text (bytes_at files))).files) files)
+    added-so text files told grew fills =
+        let paths : List Components = paths_written graph.nodes in
+        let texts : List (List ℕ) = texts_for (outcome_of graph (source_texts graph.nodes text (bytes_at files))).files in
+        let many : length texts ≡ length paths = files-many (source_texts graph.nodes text (bytes_at files)) 0 graph.nodes no_texts in
         let told_is : each_of of_writer back.writers.items ≡ grown (map (λ path. Some (bytes_at files path)) paths) texts =
-        grew ∙ ap (λ (it : Outcome). grown (each_of of_writer over.numbered.writers.items) (texts_for it.files)) means_is
+        grew
         ∙ ap (λ (it : List (Option (List ℕ))). grown it texts) (each-same of_writer over.numbered.writers.items writers over.writers_are ∙ lends.begins.texts files (lends.held ∙ told)) in
         let finals : fills.texts ≡ texts_begun files paths texts =
         grown-told files paths texts fills.texts many (subst (λ (it : List (Option (List ℕ))). AreTold it fills.texts) told_is fills.told_are) in
@@ -384,10 +387,10 @@ module _ {R W I O : Type 0} (of_reader : R → Option (List ℕ)) (of_input : I 
         ∙ ap (option_map (filled paths (texts_begun files paths texts))) (lent-held ∙ ap (option_map (out_at paths)) told)
         ∙ ap Some (filled-added paths texts files apart many)
 
-    held-so : files_written segment ≡ [] → last.held ≡ first.held
+    held-so : paths_written graph.nodes ≡ [] → last.held ≡ first.held
     held-so none =
         let empty : back.writers.items ≡ [] = empty-of back.writers.items (writers-back ∙ ap (λ (it : List Components). length it) none) in
-        held_last ∙ ap (λ (state : TreeState). state.held) (returns.none empty) ∙ lent-held ∙ held-none first.held (files_written segment) none
+        held_last ∙ ap (λ (state : TreeState). state.held) (returns.none empty) ∙ lent-held ∙ held-none first.held (paths_written graph.nodes) none
 
     -- the counts
     before-now : before ≤ now
@@ -436,31 +439,23 @@ module _ {R W I O : Type 0} (of_reader : R → Option (List ℕ)) (of_input : I 
         (let of_readers = readers-back in let of_writers = writers-back in let many = lends.begins.count in omega (arith, of_readers, of_writers, many))
         (lends.begins.out first (length readers) lends.opens.out)))
 
-    -- the engine's words are those of the utilities that are noted
-    noted-so : (told : Option Log) → IfSome told (λ log. width ≡ log.width) → then_used told graph ≡ option_map (with_noted (noted_in segment)) told
-    noted-so None is_width = refl
-    noted-so (Some log) is_width =
-        ap (λ words. Some (with_words words log)) (is.used ∙ used-so width segment ∙ ap (λ it. used_at it (noted_in segment)) is_width)
-
-    pub ran-so : Runs (segment_asks segment from) first last (of_input input) (of_input back.input) (of_output out) (of_output back.out)
+    pub ran-so : Runs (graph_asks graph) first last (of_input input) (of_input back.input) (of_output out) (of_output back.out)
         (counts_of (input_faults input) (output_faults out) before) (counts_of (input_faults back.input) (output_faults back.out) now) used used' (ended_by how outcome)
     ran-so =
         record {
           output = λ text files told is_text. done-so how outcome (over.runs.leaves text (bytes_at files) (told-so text files told is_text)) (λ status left.
-              left.output ∙ ap (λ (it : O). then_bytes (of_output it) (outcome_of graph (source_texts graph.nodes text (bytes_at files))).output) over.out_is
-              ∙ ap (λ (it : Outcome). then_bytes (of_output out) it.output) (is.outcome_is text (bytes_at files) (marks files told)));
-          status = λ text files told is_text. done-so how outcome (over.runs.leaves text (bytes_at files) (told-so text files told is_text)) (λ status left.
-              left.status ∙ ap (λ (it : Outcome). it.status) (is.outcome_is text (bytes_at files) (marks files told)));
-          read = read-so (reads_input segment from) is.input;
-          noted = done-so how outcome over.runs.used_whole (λ status noted. noted ∙ noted-so used is_width);
+              left.output
+              ∙ ap (λ (it : O). then_bytes (of_output it) (outcome_of graph (source_texts graph.nodes text (bytes_at files))).output) over.out_is);
+          status = λ text files told is_text. done-so how outcome (over.runs.leaves text (bytes_at files) (told-so text files told is_text)) (λ status left. left.status);
+          read = read-so (has_input graph.nodes) refl;
+          noted = done-so how outcome over.runs.used_whole (λ status noted. noted ∙ graph-noted graph used);
           added = λ text files told is_text. done-back how outcome
               (came-so how (over.runs.leaves text (bytes_at files) (told-so text files told is_text)) (λ status left. left.writers)) returns.fills
-              (added-so text files told (outcome_of graph (source_texts graph.nodes text (bytes_at files))) (is.outcome_is text (bytes_at files) (marks files told)));
+              (added-so text files told);
           filled = done-back how outcome (came-all {P = Unit {0}} how tt) returns.fills (λ nothing fills. filled-so fills);
           part = λ text files told is_text.
-              subst (λ (it : Outcome). GrewByPrefix (of_output out) (of_output back.out) it.output) (is.outcome_is text (bytes_at files) (marks files told))
-              (subst (λ (it : O). GrewByPrefix (of_output it) (of_output back.out) (outcome_of graph (source_texts graph.nodes text (bytes_at files))).output) over.out_is
-              (over.runs.part text (bytes_at files) (told-so text files told is_text)));
+              subst (λ (it : O). GrewByPrefix (of_output it) (of_output back.out) (outcome_of graph (source_texts graph.nodes text (bytes_at files))).output) over.out_is
+              (over.runs.part text (bytes_at files) (told-so text files told is_text));
           held = held-so;
           lent = lent-so;
           later = record {
@@ -470,3 +465,66 @@ module _ {R W I O : Type 0} (of_reader : R → Option (List ℕ)) (of_input : I 
           };
           cause = cause-so how over.runs.cause;
         }
+
+-- STAGES RAN where their graph did
+pub done-on : {One Other : ℕ → Type 0} (how : Ended) → ((status : ℕ) → One status → Other status) → IfDone how One → IfDone how Other
+done-on (ended.Done status) next holds = next status holds
+done-on ended.Input next holds = tt
+done-on ended.Output next holds = tt
+done-on ended.Tree next holds = tt
+done-on ended.Memory next holds = tt
+
+module _ (width : ℕ) (segment : List Stage) (from : First) (graph : Graph) (is : IsGraphOf width segment from graph) (used : Option Log) (is_width : IfSome used (λ log. width ≡ log.width))
+    (tree : TreeState) (marks : (files : Files) → tree.held ≡ Some files → marks_hold (bytes_at files) segment ≡ true) where
+  means-so : (text : List ℕ) (files : Files) → tree.held ≡ Some files
+      → outcome_of graph (source_texts graph.nodes text (bytes_at files)) ≡ chain_means segment (begins_with from text) (bytes_at files)
+  means-so text files told = is.outcome_is text (bytes_at files) (marks files told)
+
+  stages-noted : (told : Option Log) → IfSome told (λ log. width ≡ log.width)
+      → option_map (with_noted (graph_asks graph).noted) told ≡ option_map (with_noted (noted_in segment)) told
+  stages-noted None at = refl
+  stages-noted (Some log) at =
+      ap (λ (words : List (List (List ℕ))). Some (with_words words log))
+      (used-once log.width (words_used graph.nodes) ∙ is.used ∙ used-so width segment ∙ ap (λ (it : ℕ). used_at it (noted_in segment)) at)
+
+  pub stages-ran : (tree' : TreeState) (left left' taken taken' : Option (List ℕ)) (old new : Counts) (used' : Option Log) (how : Ended)
+      → Runs (graph_asks graph) tree tree' left left' taken taken' old new used used' how → Runs (segment_asks segment from) tree tree' left left' taken taken' old new used used' how
+  stages-ran tree' left left' taken taken' old new used' how ran =
+      record {
+        output = λ text files told is_text. done-on how (λ status output. output ∙ ap (λ (it : Outcome). then_bytes taken it.output) (means-so text files told)) (ran.output text files told is_text);
+        status = λ text files told is_text. done-on how (λ status so. so ∙ ap (λ (it : Outcome). it.status) (means-so text files told)) (ran.status text files told is_text);
+        read = done-on how (λ status read. read ∙ ap (λ (it : Bool). left_behind it left) is.input) ran.read;
+        noted = done-on how (λ status noted. noted ∙ stages-noted used is_width) ran.noted;
+        added = λ text files told is_text. done-on how (λ status added.
+            added
+            ∙ ap (λ (it : List Components). Some (all_added it (texts_for (outcome_of graph (source_texts graph.nodes text (bytes_at files))).files) files)) is.writes
+            ∙ ap (λ (it : Outcome). Some (all_added (files_written segment) (texts_for it.files) files)) (means-so text files told)) (ran.added text files told is_text);
+        filled = done-on how (λ status filled. subst (λ (it : List Components). AreFilled it tree.held tree'.held) is.writes filled) ran.filled;
+        part = λ text files told is_text. subst (λ (it : Outcome). GrewByPrefix taken taken' it.output) (means-so text files told) (ran.part text files told is_text);
+        held = λ none. ran.held (is.writes ∙ none);
+        lent = ran.lent;
+        later = ran.later;
+        cause = ran.cause;
+      }
+
+-- THE FILES OF STAGES
+in-there : (files : Files) (ins : List In) → AreThere files ins → AreFilesAt files (filter_map file_in ins)
+in-there files [] there = tt
+in-there files (inlet.Stream ∷ ins) there = in-there files ins there.1
+in-there files (inlet.File path closed ∷ ins) there = (there.0, in-there files ins there.1)
+in-there files (inlet.Empty ∷ ins) there = in-there files ins there.1
+
+both-there : (files : Files) (paths others : List Components) → AreFilesAt files paths → AreFilesAt files others → AreFilesAt files (paths ++ others)
+both-there files [] others there more = more
+both-there files (path ∷ paths) others there more = (there.0, both-there files paths others there.1 more)
+
+stages-there : (files : Files) (segment : List Stage) → AllThere files segment → AreFilesAt files (files_read segment)
+stages-there files [] there = tt
+stages-there files (stage ∷ segment) there =
+    both-there files (filter_map file_in (ins_of stage)) (files_read segment) (in-there files (ins_of stage) there.0) (stages-there files segment there.1)
+
+-- those that they read are there, and so are those that their graph reads
+pub read-there : (held : Option Files) (segment : List Stage) (paths : List Components) → paths ≡ files_read segment → IfSome held (λ files. AllThere files segment)
+    → IfSome held (λ files. AreFilesAt files paths)
+read-there None segment paths is there = tt
+read-there (Some files) segment paths is there = subst (AreFilesAt files) (sym is) (stages-there files segment there)

@@ -2,7 +2,7 @@
 use Rattle.std.proofs.Common.{◌≡◌, inl, inr, ℕ, zero, ◌≤◌, ◌<◌, ◌+◌, suc, List, [], ◌∷◌, ◌++◌, Bool, true, false, ◌||◌, ◌&&◌, not, nat_eq, nat_lt, length, map, Option, Some, None, Result, Ok, Err, OnOk, IfSome, IsErrOf, refl, sym, ap, subst, ◌∙◌, append_assoc, arith}
 use Rattle.std.specs.FinMap as map
 use Rattle.std.specs.Cmp.Lexicographic.{pointwise}
-use Rattle.std.specs.List.{list_any}
+use Rattle.std.specs.List.{cons_option, list_any}
 use Rattle.std.specs.Option.{option_map}
 use Rattle.std.specs.Ordering.{eq_by_cmp}
 use Rattle.std.proofs.lemmas.Bool.{false≢true, true≢false}
@@ -19,10 +19,10 @@ use Rattle.ps_world.specs.declared.error.WorldErr.{WorldErr}
 use Rattle.ps_world.specs.declared.error.WorldErr.TheVariants as error
 use Rattle.ps_world.proofs.TreeStateLemmas.{out-create, out-filled, out-take_back}
 use Rattle.ps_world.proofs.WritingLemmas.{set_at}
-use Rattle.fl_graph.specs.Paths.{are_distinct, is_among}
+use Rattle.fl_graph.specs.Paths.{are_distinct, is_among, path_written, paths_written}
+use Rattle.fl_graph.specs.declared.graphs.Cell.{Cell}
+use Rattle.fl_graph.specs.declared.kinds.NodeKind.{NodeKind}
 use Rattle.fl_engines.specs.OwnEnds.{each_of, grown}
-use Rattle.fl_segments.specs.Stages.{file_out, files_written}
-use Rattle.fl_segments.specs.declared.stages.Stage.{Stage}
 use Rattle.fl_commands.specs.Readers.{has_count}
 use Rattle.fl_commands.specs.Writers.{AreFilesAt, AreFilled, all_added, filled}
 use Rattle.fl_commands.specs.Inner.Writing.{AreApart, AreTold, Begins, Fills, Returns, earlier, out_at}
@@ -30,7 +30,7 @@ use Rattle.fl_commands.proofs.ReaderLemmas.{counted, each-more, either, fresh-op
 
 -- WHAT FILES HOLD
 -- two paths are one, or not
-by_path : {Says : Type 0} (at path : Components) → (at ≡ path → Says) → ((at ≡ path → ⊥) → Says) → Says
+pub by_path : {Says : Type 0} (at path : Components) → (at ≡ path → Says) → ((at ≡ path → ⊥) → Says) → Says
 by_path {Says} at path same other = by_test (eq_by_cmp path_cmp at path) refl
   where
     by_test : (test : Bool) → eq_by_cmp path_cmp at path ≡ test → Says
@@ -38,10 +38,10 @@ by_path {Says} at path same other = by_test (eq_by_cmp path_cmp at path) refl
     by_test false is = other (λ equal. false≢true (sym is ∙ ap (eq_by_cmp path_cmp at) (sym equal) ∙ (eq_by_cmp_equiv path_cmp_total).refl at))
 
 -- what is set at a path stands there, and changes nothing at another
-here : (files : Files) (path : Components) (node : Node) → map.get (map.insert files path node) path ≡ Some node
+pub here : (files : Files) (path : Components) (node : Node) → map.get (map.insert files path node) path ≡ Some node
 here files path node = (set_at files path node).here
 
-elsewhere : (files : Files) (path at : Components) (node : Node) → (at ≡ path → ⊥) → map.get (map.insert files path node) at ≡ map.get files at
+pub elsewhere : (files : Files) (path at : Components) (node : Node) → (at ≡ path → ⊥) → map.get (map.insert files path node) at ≡ map.get files at
 elsewhere files path at node apart = (set_at files path node).elsewhere at apart
 
 none-behind : (path : Components) (paths : List Components) (at : Components) → (at ≡ path → ⊥) → (IsOneOf paths at → ⊥) → IsOneOf (path ∷ paths) at → ⊥
@@ -124,13 +124,13 @@ filled-last (first ∷ paths) path (other ∷ texts) text files same =
     ap (λ (it : Files). map.insert it first (Bytes other)) (filled-last paths path texts text files (omega (arith, same)))
 
 -- paths of which none is there twice
-same-path : (one other : Components) → pointwise (pointwise nat_eq) one other ≡ true → one ≡ other
+pub same-path : (one other : Components) → pointwise (pointwise nat_eq) one other ≡ true → one ≡ other
 same-path one other is = (slice_eq-Decides (λ word other. slice_eq-Decides Decides-eqb word other _ refl) one other (pointwise (pointwise nat_eq) one other) refl).0 is
 
 equal-path : (one other : Components) → one ≡ other → pointwise (pointwise nat_eq) one other ≡ true
 equal-path one other is = (slice_eq-Decides (λ word other. slice_eq-Decides Decides-eqb word other _ refl) one other (pointwise (pointwise nat_eq) one other) refl).1 is
 
-among : (paths : List Components) (path : Components) → IsOneOf paths path → is_among paths path ≡ true
+pub among : (paths : List Components) (path : Components) → IsOneOf paths path → is_among paths path ≡ true
 among [] path one = absurd one
 among (other ∷ paths) path one =
     elim one [
@@ -441,10 +441,17 @@ begins-so of_writer faults paths opened old new none writers before none_is befo
       held = held;
     }
 
--- the paths of stages, from the first on
-pub paths-next : (all left rest : List Stage) (stage : Stage) → left ≡ stage ∷ rest → (before after : List Components) → files_written all ≡ before ++ files_written left
-    → after ≡ before ++ (stage.tees ++ file_out stage.out) → files_written all ≡ after ++ files_written rest
-paths-next all left rest stage is before after so more =
-    so ∙ ap (λ (it : List Stage). before ++ files_written it) is
-    ∙ sym (append_assoc before (stage.tees ++ file_out stage.out) (files_written rest))
-    ∙ ap (λ (it : List Components). it ++ files_written rest) (sym more)
+-- the path of a node, if it has one, and those of the rest
+path-more : (path : Option Components) (paths : List Components) → cons_option path paths ≡ cons_option path [] ++ paths
+path-more None paths = refl
+path-more (Some path) paths = refl
+
+-- the paths that nodes write, from the first on
+pub paths-next : (all left rest : List (Cell NodeKind)) (node : Cell NodeKind) → left ≡ node ∷ rest → (path : Option Components) → path ≡ path_written node.kind
+    → (before after : List Components) → paths_written all ≡ before ++ paths_written left → after ≡ before ++ cons_option path [] → paths_written all ≡ after ++ paths_written rest
+paths-next all left rest node is path path_is before after so more =
+    so ∙ ap (λ (it : List (Cell NodeKind)). before ++ paths_written it) is
+    ∙ ap (λ (it : Option Components). before ++ cons_option it (paths_written rest)) (sym path_is)
+    ∙ ap (λ (it : List Components). before ++ it) (path-more path (paths_written rest))
+    ∙ sym (append_assoc before (cons_option path []) (paths_written rest))
+    ∙ ap (λ (it : List Components). it ++ paths_written rest) (sym more)

@@ -4,3 +4,4 @@ pub mod Stages
 pub mod Segments
 pub mod Marks
 pub mod Overs
+pub mod Begun

@@ -4,4 +4,5 @@ pub mod Writers
 pub mod Inputs
 pub mod Members
 pub mod Runs
+pub mod Graphs
 pub mod Inner

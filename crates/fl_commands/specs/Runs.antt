@@ -1,5 +1,5 @@
 -- What comes of utilities that are run over their inputs (own).
-use Rattle.std.specs.Prelude.{◌≡◌, ◌≤◌, ℕ, List, [], ◌++◌, ◌&&◌, map, Bool, Option, Some, if◌then◌else◌}
+use Rattle.std.specs.Prelude.{◌≡◌, ◌≤◌, ℕ, List, [], ◌++◌, ◌&&◌, map, Bool, false, Option, Some, if◌then◌else◌}
 use Rattle.std.specs.List.{list_any}
 use Rattle.std.specs.Option.{option_map}
 use Rattle.ps_world.specs.Counts.{Rose}
@@ -11,9 +11,15 @@ use Rattle.ut_args.specs.Inputs.{operands_of}
 use Rattle.ut_args.specs.Invocations.{command_of}
 use Rattle.ut_args.specs.declared.invocations.Inv.{Inv}
 use Rattle.ut_streams.specs.Utilities.{Input}
+use Rattle.fl_graph.specs.Paths.{paths_written}
+use Rattle.fl_graph.specs.declared.graphs.Graph.{Graph}
+use Rattle.fl_classes.specs.Flow.{outcome}
+use Rattle.fl_classes.specs.Sources.{source_texts}
+use Rattle.fl_classes.specs.Used.{words_used}
 use Rattle.fl_engines.specs.Logs.{Log, with_words}
+use Rattle.fl_engines.specs.OwnEnds.{has_input, texts_for}
 use Rattle.fl_segments.specs.Chains.{begins_with}
-use Rattle.fl_segments.specs.Noted.{Noted, used_at}
+use Rattle.fl_segments.specs.Noted.{Noted, noted_as, used_at}
 use Rattle.fl_segments.specs.Stages.{is_shell_input, is_stream}
 use Rattle.fl_segments.specs.declared.stages.First.{First}
 use Rattle.fl_commands.specs.Inner.Stages.{command_left, inputs_with, some_lacks, run_noted}
@@ -129,3 +135,14 @@ pipeline_asks members from = record {
 abbrev pub RunsPipeline : List Member → First → TreeState → TreeState → Option (List ℕ) → Option (List ℕ) → Option (List ℕ) → Option (List ℕ) → Counts → Counts
     → Option Log → Option Log → Ended → Type 0
 RunsPipeline members from tree tree' left left' taken taken' old new used used' came = Runs (pipeline_asks members from) tree tree' left left' taken taken' old new used used' came
+
+-- a graph ran: what it leaves is written, for the texts of the input and of the files that its nodes read
+abbrev pub graph_asks : Graph → Asks
+graph_asks graph = record {
+  output = λ input files. (outcome graph (source_texts graph.nodes input (bytes_at files))).output;
+  status = λ input files. (outcome graph (source_texts graph.nodes input (bytes_at files))).status;
+  reads = has_input graph.nodes;
+  noted = map (λ words. noted_as words false) (words_used graph.nodes);
+  paths = paths_written graph.nodes;
+  texts = λ input files. texts_for (outcome graph (source_texts graph.nodes input (bytes_at files))).files;
+}

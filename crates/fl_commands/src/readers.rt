@@ -1,20 +1,21 @@
-//! The readers of the files that stages read.
+//! The readers of the files that a graph reads.
 ghost use Rattle.std.specs.Prelude.{◌≡◌, ℕ, ◌+◌, ◌≤◌, ◌∷◌, ◌++◌, [], false, true, length, map, Some, IfErr, IfOk, IfSome, OnErr, OnOk};
-ghost use Rattle.std.specs.List.{filter_map};
+ghost use Rattle.std.specs.List.{cons_option};
+ghost use Rattle.std.specs.Option.{option_copied};
 ghost use Rattle.ps_world.specs.Counts.{Counts, Rose};
 ghost use Rattle.ps_world.specs.Files.{Files, IsFileAt, bytes_at};
 ghost use Rattle.ps_world.specs.TreeState.{AreOut, Balanced, TreeState};
 ghost use Rattle.fl_engines.specs.OwnEnds.{each_of};
-ghost use Rattle.fl_segments.specs.Stages.{file_in, files_read, ins_of};
+ghost use Rattle.fl_graph.specs.Paths.{paths_read};
 ghost use Rattle.fl_commands.specs.Inner.Overs.{Opens};
-ghost use Rattle.fl_commands.specs.Inner.Segments.{AllThere};
-ghost use Rattle.fl_commands.specs.Readers.{AreThere, IsThere, has_count};
+ghost use Rattle.fl_commands.specs.Readers.{has_count};
+ghost use Rattle.fl_commands.specs.Writers.{AreFilesAt};
 
-use fl_segments::{Does, In, Stage};
+use fl_graph::{Node, path_read};
 use ps_world::{Path, Tree, WorldErr};
 use std::alloc::Global;
 
-/// Readers that a tree has lent, and the paths of their files, in the order of the inputs.
+/// Readers that a tree has lent, and the paths of their files, in order.
 pub(crate) struct Opened<R> {
     /// The readers. Each gets its number with the graph that it is read by.
     pub(crate) readers: Vec<(u32, R)>,
@@ -41,16 +42,16 @@ impl<R> Opened<R> {
     }
 }
 
-/// Opens the files that stages read, in their order.
+/// Opens the files that nodes read, in their order.
 ///
 /// An error leaves none out. A fault is the tree's.
 pub(crate) fn open_files<T: Tree>(
     alloc: Global,
-    segment: &[Stage],
+    nodes: &[Node],
     tree: &mut T,
 ) -> Result<Opened<T::Reader>, WorldErr>
-    requires there { IfSome (T.state tree.old).held (λ files. AllThere files segment.now) }
-    ensures opens { IfOk result (λ opened. Opens T.Reader.left T.Reader.faults segment.now (T.state tree.old) (T.state tree.new) opened.readers.items) }
+    requires there { IfSome (T.state tree.old).held (λ files. AreFilesAt files (paths_read nodes.now)) }
+    ensures opens { IfOk result (λ opened. Opens T.Reader.left T.Reader.faults (paths_read nodes.now) (T.state tree.old) (T.state tree.new) opened.readers.items) }
     ensures paths { IfOk result (λ opened. length opened.paths.items ≡ length opened.readers.items) }
     ensures back { OnErr result (Balanced (T.state tree.old) (T.state tree.new)) }
     ensures held { (T.state tree.new).held ≡ (T.state tree.old).held }
@@ -60,7 +61,7 @@ pub(crate) fn open_files<T: Tree>(
         readers: Vec::new(alloc),
         paths: Vec::new(alloc),
     };
-    match open_stages(segment, &mut opened, tree) {
+    match open_nodes(nodes, &mut opened, tree) {
         Ok(()) => Ok(opened),
         Err(error) => {
             let Opened { readers, paths } = opened;
@@ -70,94 +71,50 @@ pub(crate) fn open_files<T: Tree>(
     }
 }
 
-/// Opens the files that stages read, behind those that are open.
-fn open_stages<T: Tree>(
-    segment: &[Stage],
+/// Opens the files that nodes read, behind those that are open.
+fn open_nodes<T: Tree>(
+    nodes: &[Node],
     opened: &mut Opened<T::Reader>,
     tree: &mut T,
 ) -> Result<(), WorldErr>
-    requires there { IfSome (T.state tree.old).held (λ files. AllThere files segment.now) }
+    requires there { IfSome (T.state tree.old).held (λ files. AreFilesAt files (paths_read nodes.now)) }
     ensures texts { (files : Files) → (T.state tree.old).held ≡ Some files
-        → OnOk result (each_of T.Reader.left opened.new.readers.items ≡ each_of T.Reader.left opened.old.readers.items ++ map (λ path. Some (bytes_at files path)) (files_read segment.now)) }
-    ensures count { OnOk result (length opened.new.readers.items ≡ length opened.old.readers.items + length (files_read segment.now)) }
+        → OnOk result (each_of T.Reader.left opened.new.readers.items ≡ each_of T.Reader.left opened.old.readers.items ++ map (λ path. Some (bytes_at files path)) (paths_read nodes.now)) }
+    ensures count { OnOk result (length opened.new.readers.items ≡ length opened.old.readers.items + length (paths_read nodes.now)) }
     ensures fresh { has_count (each_of T.Reader.faults opened.old.readers.items) ≡ false → has_count (each_of T.Reader.faults opened.new.readers.items) ≡ false }
     ensures out { (first : TreeState) → AreOut (length opened.old.readers.items) first (T.state tree.old) → AreOut (length opened.new.readers.items) first (T.state tree.new) }
     ensures paths { length opened.old.paths.items ≡ length opened.old.readers.items → length opened.new.paths.items ≡ length opened.new.readers.items }
     ensures held { (T.state tree.new).held ≡ (T.state tree.old).held }
     ensures cause { Counts (T.faults tree.old) (T.faults tree.new) result }
 {
-    let mut left = segment;
-    while let [stage, rest @ ..] = left {
-        open_stage(stage, opened, tree)?;
+    let mut left = nodes;
+    while let [node, rest @ ..] = left {
+        open_at(path_read(&node.kind), opened, tree)?;
         left = rest;
     }
     Ok(())
 }
 
-/// Opens the files that a stage reads, behind those that are open.
-fn open_stage<T: Tree>(
-    stage: &Stage,
-    opened: &mut Opened<T::Reader>,
-    tree: &mut T,
-) -> Result<(), WorldErr>
-    requires there { IfSome (T.state tree.old).held (λ files. AreThere files (ins_of stage.now)) }
-    ensures texts { (files : Files) → (T.state tree.old).held ≡ Some files
-        → OnOk result (each_of T.Reader.left opened.new.readers.items ≡ each_of T.Reader.left opened.old.readers.items ++ map (λ path. Some (bytes_at files path)) (filter_map file_in (ins_of stage.now))) }
-    ensures count { OnOk result (length opened.new.readers.items ≡ length opened.old.readers.items + length (filter_map file_in (ins_of stage.now))) }
-    ensures fresh { has_count (each_of T.Reader.faults opened.old.readers.items) ≡ false → has_count (each_of T.Reader.faults opened.new.readers.items) ≡ false }
-    ensures out { (first : TreeState) → AreOut (length opened.old.readers.items) first (T.state tree.old) → AreOut (length opened.new.readers.items) first (T.state tree.new) }
-    ensures paths { length opened.old.paths.items ≡ length opened.old.readers.items → length opened.new.paths.items ≡ length opened.new.readers.items }
-    ensures held { (T.state tree.new).held ≡ (T.state tree.old).held }
-    ensures cause { Counts (T.faults tree.old) (T.faults tree.new) result }
-{
-    match stage.does {
-        Does::Util(_) => open_each(stage.ins.as_slice(), opened, tree),
-        Does::Skip => Ok(()),
-    }
-}
-
-/// Opens the files among inputs, behind those that are open.
-fn open_each<T: Tree>(
-    ins: &[In],
-    opened: &mut Opened<T::Reader>,
-    tree: &mut T,
-) -> Result<(), WorldErr>
-    requires there { IfSome (T.state tree.old).held (λ files. AreThere files ins.now) }
-    ensures texts { (files : Files) → (T.state tree.old).held ≡ Some files
-        → OnOk result (each_of T.Reader.left opened.new.readers.items ≡ each_of T.Reader.left opened.old.readers.items ++ map (λ path. Some (bytes_at files path)) (filter_map file_in ins.now)) }
-    ensures count { OnOk result (length opened.new.readers.items ≡ length opened.old.readers.items + length (filter_map file_in ins.now)) }
-    ensures fresh { has_count (each_of T.Reader.faults opened.old.readers.items) ≡ false → has_count (each_of T.Reader.faults opened.new.readers.items) ≡ false }
-    ensures out { (first : TreeState) → AreOut (length opened.old.readers.items) first (T.state tree.old) → AreOut (length opened.new.readers.items) first (T.state tree.new) }
-    ensures paths { length opened.old.paths.items ≡ length opened.old.readers.items → length opened.new.paths.items ≡ length opened.new.readers.items }
-    ensures held { (T.state tree.new).held ≡ (T.state tree.old).held }
-    ensures cause { Counts (T.faults tree.old) (T.faults tree.new) result }
-{
-    for input in ins {
-        open_input(input, opened, tree)?;
-    }
-    Ok(())
-}
-
-/// Opens the file of an input, if it has one, behind those that are open.
+/// Opens the file at a path, if there is one, behind those that are open.
 #[tactic(auto, using(crate::proofs::ReaderLemmas::reader_steps))]
-fn open_input<T: Tree>(
-    input: &In,
+fn open_at<T: Tree>(
+    path: Option<&Path>,
     opened: &mut Opened<T::Reader>,
     tree: &mut T,
 ) -> Result<(), WorldErr>
-    requires there { IfSome (T.state tree.old).held (λ files. IsThere files input.now) }
+    requires there { IfSome (T.state tree.old).held (λ files. IfSome (option_copied path) (λ it. IsFileAt files it)) }
     ensures texts { (files : Files) → (T.state tree.old).held ≡ Some files
-        → OnOk result (each_of T.Reader.left opened.new.readers.items ≡ each_of T.Reader.left opened.old.readers.items ++ map (λ path. Some (bytes_at files path)) (filter_map file_in (input.now ∷ []))) }
-    ensures count { OnOk result (length opened.new.readers.items ≡ length opened.old.readers.items + length (filter_map file_in (input.now ∷ []))) }
+        → OnOk result (each_of T.Reader.left opened.new.readers.items ≡ each_of T.Reader.left opened.old.readers.items ++ map (λ path. Some (bytes_at files path)) (cons_option (option_copied path.entry) [])) }
+    ensures count { OnOk result (length opened.new.readers.items ≡ length opened.old.readers.items + length (cons_option (option_copied path.entry) [])) }
     ensures fresh { has_count (each_of T.Reader.faults opened.old.readers.items) ≡ false → has_count (each_of T.Reader.faults opened.new.readers.items) ≡ false }
     ensures out { (first : TreeState) → AreOut (length opened.old.readers.items) first (T.state tree.old) → AreOut (length opened.new.readers.items) first (T.state tree.new) }
     ensures paths { length opened.old.paths.items ≡ length opened.old.readers.items → length opened.new.paths.items ≡ length opened.new.readers.items }
     ensures held { (T.state tree.new).held ≡ (T.state tree.old).held }
     ensures cause { Counts (T.faults tree.old) (T.faults tree.new) result }
 {
-    match input {
-        In::File(path, _) => open_file(path, opened, tree),
-        In::Stream | In::Empty => Ok(()),
+    match path {
+        Some(path) => open_file(path, opened, tree),
+        None => Ok(()),
     }
 }
 

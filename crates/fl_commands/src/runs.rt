@@ -14,7 +14,7 @@ ghost use Rattle.fl_commands.specs.Inner.Overs.{RunsOver, done_by, ended_by, end
 ghost use Rattle.fl_commands.specs.Inner.Segments.{AllThere, segment_asks};
 ghost use Rattle.fl_commands.specs.Members.{AllCanRun, AllNamesStand, files_named, files_teed};
 ghost use Rattle.fl_commands.specs.Operands.{AllStand, AreNamed, deals, ins_of as ins_of_lem};
-ghost use Rattle.fl_commands.specs.Runs.{Runs, RunsCommand, RunsPipeline, counts_of};
+ghost use Rattle.fl_commands.specs.Runs.{Runs, RunsCommand, RunsPipeline, counts_of, graph_asks};
 ghost use Rattle.fl_commands.specs.Writers.{AreBegun, AreFilesAt, AreWrittenApart, MayWrite};
 
 use crate::lending::{Lent, lend};
@@ -185,7 +185,31 @@ fn run_segment<T: Tree, I: Source + Send, O: Sink + Send, G: Gate, X: Engine>(
             out,
         };
     };
-    let lent = match lend(alloc, segment, tree) {
+    run_graph(alloc, &graph, tree, input, out, gate, engine)
+}
+
+/// Runs a graph over the files that its nodes read and write, which are there, the input and the output.
+///
+/// A file that is written gets its text behind what it holds, whatever its node's mode; where it's to be begun anew, the caller does that. Done
+/// leaves the graph's outcome, for the texts of the input and of the files as they were, and its words behind those that the engine has noted.
+/// What is said of a utility (`run_command`) holds of a graph: of a front of the output, of what the tree lent, and of faults.
+pub fn run_graph<T: Tree, I: Source + Send, O: Sink + Send, G: Gate, X: Engine>(
+    alloc: Global,
+    graph: &Graph,
+    tree: &mut T,
+    input: I,
+    out: O,
+    gate: &G,
+    engine: &mut X,
+) -> Commanded<I, O>
+    requires valid { Valid graph.now.nodes graph.now.status }
+    requires there { IfSome (T.state tree.old).held (λ files. AreFilesAt files (paths_read graph.now.nodes)) }
+    requires begun { IfSome (T.state tree.old).held (λ files. AreFilesAt files (paths_written graph.now.nodes)) }
+    ensures { Runs (graph_asks graph.now) (T.state tree.old) (T.state tree.new) (I.left input) (I.left result.input) (O.taken out) (O.taken result.out)
+        (counts_of (I.faults input) (O.faults out) (T.faults tree.old)) (counts_of (I.faults result.input) (O.faults result.out) (T.faults tree.new))
+        (X.used engine.old) (X.used engine.new) result.ended }
+{
+    let lent = match lend(alloc, graph.nodes.as_slice(), tree) {
         Ok(lent) => lent,
         Err(error) => {
             return Commanded {
@@ -202,7 +226,7 @@ fn run_segment<T: Tree, I: Source + Send, O: Sink + Send, G: Gate, X: Engine>(
         written,
     } = lent;
     let Over { came, ends } = run_over::<T, I, O, G, X>(
-        alloc, &graph, readers, writers, input, out, gate, engine,
+        alloc, graph, readers, writers, input, out, gate, engine,
     );
     let Ends {
         readers,
@@ -244,7 +268,7 @@ fn done(status: u8, returned: Result<(), WorldErr>) -> Ended
 }
 
 /// How it came out where a file can't be opened.
-fn of_tree(error: WorldErr) -> Ended
+pub(crate) fn of_tree(error: WorldErr) -> Ended
     ensures { result ≡ ended_of error }
 {
     match error {

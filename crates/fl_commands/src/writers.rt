@@ -1,16 +1,17 @@
-//! The writers of the files that stages write.
+//! The writers of the files that a graph writes.
 ghost use Rattle.std.specs.Prelude.{◌≡◌, ℕ, List, ◌+◌, ◌≤◌, ◌∷◌, ◌++◌, [], false, length, map, Some, IfErr, IfOk, IfSome, IsErrOf, OnErr, OnOk};
-ghost use Rattle.std.specs.Option.{option_map};
+ghost use Rattle.std.specs.List.{cons_option};
+ghost use Rattle.std.specs.Option.{option_copied, option_map};
 ghost use Rattle.ps_world.specs.Counts.{Rose};
 ghost use Rattle.ps_world.specs.Files.{Files, IsFileAt, bytes_at};
 ghost use Rattle.ps_world.specs.TreeState.{AreOut, TreeState};
 ghost use Rattle.fl_engines.specs.OwnEnds.{each_of};
-ghost use Rattle.fl_segments.specs.Stages.{file_out, files_written};
+ghost use Rattle.fl_graph.specs.Paths.{paths_written as paths_written_lem};
 ghost use Rattle.fl_commands.specs.Inner.Writing.{AreApart, Begins, Returns, earlier, out_at};
 ghost use Rattle.fl_commands.specs.Readers.{has_count};
 ghost use Rattle.fl_commands.specs.Writers.{AreFilesAt};
 
-use fl_segments::{Out, Stage};
+use fl_graph::{Node, path_written};
 use ps_lines::Memory;
 use ps_world::{Mode, Path, Tree, WorldErr};
 use std::alloc::Global;
@@ -43,25 +44,31 @@ impl<W> Begun<W> {
     }
 }
 
-/// The paths of the files that stages write, in their order.
-pub(crate) fn paths_written(alloc: Global, segment: &[Stage]) -> Result<Vec<Path>, Memory>
-    ensures { IfOk result (λ paths. paths.items ≡ files_written segment.now) }
+/// The paths of the files that nodes write, in their order.
+pub(crate) fn paths_written(alloc: Global, nodes: &[Node]) -> Result<Vec<Path>, Memory>
+    ensures { IfOk result (λ paths. paths.items ≡ paths_written_lem nodes.now) }
 {
     let mut paths = Vec::new(alloc);
-    let mut left = segment;
-    while let [stage, rest @ ..] = left {
-        add_paths(stage, &mut paths)?;
+    let mut left = nodes;
+    while let [node, rest @ ..] = left {
+        add_copy(path_written(&node.kind), &mut paths)?;
         left = rest;
     }
     Ok(paths)
 }
 
-/// Puts the paths of the files that a stage writes behind others.
-fn add_paths(stage: &Stage, paths: &mut Vec<Path>) -> Result<(), Memory>
-    ensures { OnOk result (paths.new.items ≡ paths.old.items ++ (stage.now.tees ++ file_out stage.now.out)) }
+/// Puts a copy of a path behind others, if there is one.
+fn add_copy(path: Option<&Path>, paths: &mut Vec<Path>) -> Result<(), Memory>
+    ensures { OnOk result (paths.new.items ≡ paths.old.items ++ cons_option (option_copied path.entry) []) }
 {
-    add_copies(stage.tees.as_slice(), paths)?;
-    add_out(&stage.out, paths)
+    match path {
+        Some(path) => {
+            let copy = path.copy()?;
+            paths.push(copy)?;
+            Ok(())
+        }
+        None => Ok(()),
+    }
 }
 
 /// Copies of paths.
@@ -82,20 +89,6 @@ fn add_copies(copied: &[Path], paths: &mut Vec<Path>) -> Result<(), Memory>
         paths.push(copy)?;
     }
     Ok(())
-}
-
-/// Puts the path of the file that output goes to behind others, if it goes to one.
-fn add_out(out: &Out, paths: &mut Vec<Path>) -> Result<(), Memory>
-    ensures { OnOk result (paths.new.items ≡ paths.old.items ++ file_out out.now) }
-{
-    match out {
-        Out::File(path, _) => {
-            let copy = path.copy()?;
-            paths.push(copy)?;
-            Ok(())
-        }
-        Out::Next | Out::Null => Ok(()),
-    }
 }
 
 /// Opens files, in their order, to write behind what they hold.

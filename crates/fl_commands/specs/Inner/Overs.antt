@@ -1,6 +1,7 @@
 -- A graph that is run over the readers and writers of its files.
 use Rattle.std.specs.Prelude.{◌≡◌, ℕ, List, false, length, map, Option, Some, Result, Ok, Err}
 use Rattle.ps_world.specs.Files.{Files, bytes_at}
+use Rattle.ps_world.specs.Paths.{Components}
 use Rattle.ps_world.specs.TreeState.{AreOut, TreeState}
 use Rattle.ps_world.specs.declared.error.WorldErr.{WorldErr}
 use Rattle.ps_world.specs.declared.error.WorldErr.TheVariants as error
@@ -10,8 +11,6 @@ use Rattle.fl_engines.specs.OwnEnds.{RunsOwn, each_of}
 use Rattle.fl_core.specs.declared.end_lists.Ends.{Ends}
 use Rattle.fl_engines.specs.declared.own_ends.Came.{Came}
 use Rattle.fl_engines.specs.declared.own_ends.Came.TheVariants as came
-use Rattle.fl_segments.specs.Stages.{files_read, files_written}
-use Rattle.fl_segments.specs.declared.stages.Stage.{Stage}
 use Rattle.fl_commands.specs.Inner.Writing.{Begins}
 use Rattle.fl_commands.specs.Readers.{has_count}
 use Rattle.fl_commands.specs.declared.runs.Ended.{Ended}
@@ -35,20 +34,20 @@ ended_by came.Reader back = ended.Tree
 ended_by came.Writer back = ended.Tree
 ended_by came.Memory back = ended.Memory
 
--- these readers of the files of stages are out, and have failed never
-pub record Opens {R : Type 0} (of_reader : R → Option (List ℕ)) (reader_faults : R → ℕ) (segment : List Stage) (tree tree' : TreeState) (readers : List (ℕ × R)) : Type 0 where
-  pub texts : (files : Files) → tree.held ≡ Some files → each_of of_reader readers ≡ map (λ path. Some (bytes_at files path)) (files_read segment)
-  pub count : length readers ≡ length (files_read segment)
+-- these readers of the files at these paths are out, and have failed never
+pub record Opens {R : Type 0} (of_reader : R → Option (List ℕ)) (reader_faults : R → ℕ) (paths : List Components) (tree tree' : TreeState) (readers : List (ℕ × R)) : Type 0 where
+  pub texts : (files : Files) → tree.held ≡ Some files → each_of of_reader readers ≡ map (λ path. Some (bytes_at files path)) paths
+  pub count : length readers ≡ length paths
   pub fresh : has_count (each_of reader_faults readers) ≡ false
   pub out : AreOut (length readers) tree tree'
 
--- they are, and the writers of the files that stages write, behind what these hold
+-- they are, and the writers of the files that are written, behind what these hold
 pub record Lends {R W : Type 0} (of_reader : R → Option (List ℕ)) (reader_faults : R → ℕ) (of_writer : W → Option (List ℕ)) (writer_faults : W → ℕ)
-    (segment : List Stage) (old new : TreeState) (readers : List (ℕ × R)) (writers : List (ℕ × W)) : Type 0 where
+    (read written : List Components) (old new : TreeState) (readers : List (ℕ × R)) (writers : List (ℕ × W)) : Type 0 where
   pub mid : TreeState
-  pub opens : Opens of_reader reader_faults segment old mid readers
+  pub opens : Opens of_reader reader_faults read old mid readers
   pub held : mid.held ≡ old.held
-  pub begins : Begins of_writer writer_faults (files_written segment) mid new writers
+  pub begins : Begins of_writer writer_faults written mid new writers
 
 -- the graph ran over them, under some numbers
 pub record RunsOver {R W I O : Type 0} (of_reader : R → Option (List ℕ)) (of_input : I → Option (List ℕ)) (of_writer : W → Option (List ℕ)) (of_output : O → Option (List ℕ))

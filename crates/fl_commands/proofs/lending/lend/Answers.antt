@@ -1,7 +1,7 @@
 use Rattle.std.proofs.Common.{◌∙◌, List, Option, IfSome, subst, sym}
 use Rattle.ps_world.specs.Files.{Files}
 use Rattle.ps_world.specs.Paths.{Components}
-use Rattle.fl_segments.specs.Stages.{files_written}
+use Rattle.fl_graph.specs.Paths.{paths_written}
 use Rattle.fl_commands.specs.Inner.Writing.{AreApart, Begins}
 use Rattle.fl_commands.specs.Writers.{AreFilesAt}
 use Rattle.fl_commands.proofs.lending.lend.Goals as goal
@@ -9,7 +9,7 @@ use Rattle.fl_commands.proofs.lending.lend.Goals as goal
 pub open_writers-requires-clause-there : goal.open_writers-requires-clause-there
 open_writers-requires-clause-there g c κs within =
     subst (λ (it : List Components). IfSome (g.T.Tree.state c.open_files.new.tree).held (λ files. AreFilesAt files it)) (sym (c.as_slice.ensures.value ∙ c.in_ok-written.ensures))
-    (subst (λ (it : Option Files). IfSome it (λ files. AreFilesAt files (files_written c.args.segment.now))) (sym c.in_ok-opened.ensures.held) c.requires.begun)
+    (subst (λ (it : Option Files). IfSome it (λ files. AreFilesAt files (paths_written c.args.nodes.now))) (sym c.in_ok-opened.ensures.held) c.requires.begun)
 
 pub open_writers-requires-clause-apart : goal.open_writers-requires-clause-apart
 open_writers-requires-clause-apart g c κs within = subst AreApart (sym (c.as_slice.ensures.value ∙ c.in_ok-written.ensures)) c.requires.apart

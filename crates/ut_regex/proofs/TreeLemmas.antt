@@ -1,9 +1,10 @@
 -- A program spans what its expression spans.
-use Rattle.std.proofs.Common.{ℕ, zero, suc, ◌≡◌, ◌+◌, ◌-◌, ◌≤◌, inl, inr, Bool, List, Option, Some, None, IfSome, refl, ap, sym, subst, arith}
+use Rattle.std.proofs.Common.{ℕ, zero, suc, ◌≡◌, ◌+◌, ◌-◌, ◌≤◌, ◌==◌, if◌then◌else◌, inl, inr, Bool, true, false, List, Option, Some, None, IfSome, refl, ap, sym, subst, arith}
+use Rattle.std.proofs.lemmas.Bool.{eqb-true}
 use Rattle.std.proofs.lemmas.Bool.Decides.{leb_tells}
 use Rattle.ut_regex.specs.Tree.{Tree, leaf, line_begin, line_end, empty, group, sequence, alternative, repetition}
 use Rattle.ut_regex.specs.Spans.{Copies, Spans}
-use Rattle.ut_regex.specs.Inner.Program.{Core, nothing, both, many, copies, options, repeated, core}
+use Rattle.ut_regex.specs.Inner.Program.{Core, both, many, maybe, copies, options, at_most_once, repeated, core}
 use Rattle.ut_regex.proofs.Marks.{Runs, shape}
 
 -- copies of what spans less are copies of what spans more
@@ -33,6 +34,10 @@ Copies-parts One first (suc second) from to h =
     let k = subst (λ n. Copies One n from to) e h in
     let t = Copies-parts One first second from k.0 k.1 in
     (t.0, t.1, (k.0, t.2, k.2))
+
+-- a part as often as bounds with a greatest number say, where it is told whether that is 1
+limited : ℕ → ℕ → Core → Bool → Core
+limited low high part once = if once then at_most_once low part else options (copies part low) part (high - low)
 
 module _ (fold : Bool) (line : List ℕ) where
   -- copies that are written out
@@ -85,29 +90,46 @@ module _ (fold : Bool) (line : List ℕ) where
       let t = Copies-parts (Runs fold line part) low (count - low) from to (subst (λ n. Copies (Runs fold line part) n from to) e h) in
       (t.0, copies_complete part low from t.0 t.1, (count - low, t.2))
 
+  -- copies with a greatest number
+  limited_sound : (low high : ℕ) (part : Core) → low ≤ high → (once : Bool) → (high == 1) ≡ once → (from to : ℕ) → Runs fold line (limited low high part once) from to
+      → (count : ℕ) × ((low ≤ count) × (count ≤ high)) × Copies (Runs fold line part) count from to
+  unfolding Between limited
+  limited_sound zero high part ordered true is from to (inl none) = (0, (omega arith, omega arith), none)
+  limited_sound zero high part ordered true is from to (inr one) = (1, (omega arith, omega (arith, eqb-true high 1 is)), (from, refl, one))
+  limited_sound (suc low) high part ordered true is from to one =
+      let high_one = eqb-true high 1 is in (1, (omega (arith, ordered, high_one), omega (arith, high_one)), (from, refl, one))
+  limited_sound low high part ordered false is from to h =
+      let t = options_sound part low (high - low) from to h in (t.0, (t.1, omega (arith, t.2, ordered)), t.3)
+
+  limited_complete : (low high : ℕ) (part : Core) (once : Bool) → (high == 1) ≡ once → (from to count : ℕ)
+      → (low ≤ count) × (count ≤ high) → Copies (Runs fold line part) count from to → Runs fold line (limited low high part once) from to
+  unfolding Between limited
+  limited_complete zero high part true is from to zero allowed h = inl h
+  limited_complete zero high part true is from to (suc zero) allowed (middle, same, one) = inr (subst (λ at. Runs fold line part at to) same one)
+  limited_complete zero high part true is from to (suc (suc count)) allowed h = absurd (omega (arith, allowed.1, eqb-true high 1 is))
+  limited_complete (suc low) high part true is from to zero allowed h = absurd (omega (arith, allowed.0))
+  limited_complete (suc low) high part true is from to (suc zero) allowed (middle, same, one) = subst (λ at. Runs fold line part at to) same one
+  limited_complete (suc low) high part true is from to (suc (suc count)) allowed h = absurd (omega (arith, allowed.1, eqb-true high 1 is))
+  limited_complete low high part false is from to count allowed h =
+      options_complete part low (high - low) from to (count, allowed.0, omega (arith, allowed.1, allowed.0), h)
+
   -- a part as often as bounds say
   repeated_sound : (low : ℕ) (high : Option ℕ) (part : Core) → ((most : ℕ) → high ≡ Some most → low ≤ most) → (from to : ℕ)
       → Runs fold line (repeated high low part) from to
       → (count : ℕ) × ((low ≤ count) × IfSome high (λ most. count ≤ most)) × Copies (Runs fold line part) count from to
-  unfolding Between
+  unfolding limited
   repeated_sound zero None part ordered from to (count, h) = (count, (omega arith, tt), h)
   repeated_sound (suc low) None part ordered from to h =
       let t = open_sound part (suc low) from to h in (t.0, (t.1, tt), t.2)
-  repeated_sound zero (Some high) part ordered from to h =
-      let t = options_sound part zero (high - zero) from to h in (t.0, (t.1, omega (arith, t.2)), t.3)
-  repeated_sound (suc low) (Some high) part ordered from to h =
-      let t = options_sound part (suc low) (high - suc low) from to h in (t.0, (t.1, omega (arith, t.2, ordered high refl)), t.3)
+  repeated_sound low (Some high) part ordered from to h = limited_sound low high part (ordered high refl) (high == 1) refl from to h
 
   repeated_complete : (low : ℕ) (high : Option ℕ) (part : Core) → (from to count : ℕ)
       → (low ≤ count) × IfSome high (λ most. count ≤ most) → Copies (Runs fold line part) count from to
       → Runs fold line (repeated high low part) from to
-  unfolding Between
+  unfolding limited
   repeated_complete zero None part from to count allowed h = (count, h)
   repeated_complete (suc low) None part from to count allowed h = open_complete part (suc low) count from to allowed.0 h
-  repeated_complete zero (Some high) part from to count allowed h =
-      options_complete part zero (high - zero) from to (count, allowed.0, omega (arith, allowed.1), h)
-  repeated_complete (suc low) (Some high) part from to count allowed h =
-      options_complete part (suc low) (high - suc low) from to (count, allowed.0, omega (arith, allowed.1, allowed.0), h)
+  repeated_complete low (Some high) part from to count allowed h = limited_complete low high part (high == 1) refl from to count allowed h
 
   -- the program of an expression spans exactly what the expression spans
   pub core_sound : (re : Tree) (from to : ℕ) → Runs fold line (core re) from to → Spans fold line re from to
@@ -146,13 +168,17 @@ shape-options : (front part : Core) (more : ℕ) → shape front ≡ front → s
 shape-options front part zero g h = g
 shape-options front part (suc more) g h = let a = shape-options front part more g h in cc
 
+shape-limited : (low high : ℕ) (part : Core) (once : Bool) → shape part ≡ part → shape (limited low high part once) ≡ limited low high part once
+unfolding limited
+shape-limited zero high part true h = ap maybe h
+shape-limited (suc low) high part true h = h
+shape-limited low high part false h = shape-options (copies part low) part (high - low) (shape-copies part low h) h
+
 shape-repeated : (low : ℕ) (high : Option ℕ) (part : Core) → shape part ≡ part → shape (repeated high low part) ≡ repeated high low part
+unfolding limited
 shape-repeated zero None part h = ap many h
 shape-repeated (suc low) None part h = let a = shape-copies part low h in cc
-shape-repeated zero (Some high) part h = shape-options nothing part (high - zero) refl h
-shape-repeated (suc low) (Some high) part h =
-    let a : shape (both (copies part low) part) ≡ both (copies part low) part = let k = shape-copies part low h in cc in
-    shape-options (both (copies part low) part) part (high - suc low) a h
+shape-repeated low (Some high) part h = shape-limited low high part (high == 1) h
 
 pub shape-core : (re : Tree) → shape (core re) ≡ core re
 shape-core (leaf one) = refl

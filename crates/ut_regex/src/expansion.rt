@@ -4,12 +4,21 @@ ghost use Rattle.ut_regex.specs.Tree.{Tree, alternative, tree, last_tree, trees_
 ghost use Rattle.ut_regex.specs.Several.{any_of, or_any, trees_of};
 ghost use Rattle.ut_regex.specs.Inner.Program.{Core, core, copies, options, repeated, steps, parts_of, programs};
 
+use crate::needed::needed_nodes;
 use crate::program::Op;
 use crate::tree::{Bounds, Leaf, Node, Regex};
 use std::alloc::{AllocError, Global};
 
 /// The steps of the expression that the nodes make.
 pub(crate) fn program_of(alloc: Global, nodes: &[Node]) -> Result<Vec<Op>, AllocError>
+    ensures { IfOk result (λ made. made.items ≡ steps (core (last_tree (with_nodes [] nodes.now)))) }
+{
+    let needed = needed_nodes(alloc, nodes)?;
+    written_out(alloc, &needed)
+}
+
+/// The steps of the expression that the nodes make, each of them written out.
+fn written_out(alloc: Global, nodes: &[Node]) -> Result<Vec<Op>, AllocError>
     ensures { IfOk result (λ made. made.items ≡ steps (core (last_tree (with_nodes [] nodes.now)))) }
 {
     let mut parts = Vec::new(alloc);
@@ -108,8 +117,8 @@ fn joined(alloc: Global, parts: &mut Vec<Vec<Op>>, step: Op) -> Result<Vec<Op>, 
     Ok(first)
 }
 
-/// A part as often as the bounds say. Where it may stand any number of times it isn't copied, so that stars behind one another cost a step
-/// each.
+/// A part as often as the bounds say. A part that stands once at most, or any number of times, isn't copied, so that such repetitions
+/// behind one another cost a step each.
 fn repetition(alloc: Global, part: Vec<Op>, bounds: Bounds) -> Result<Vec<Op>, AllocError>
     ensures { IfOk result (λ made. (whole : Core) → part.items ≡ steps whole
         → made.items ≡ steps (repeated bounds.high bounds.low whole)) }
@@ -125,6 +134,13 @@ fn repetition(alloc: Global, part: Vec<Op>, bounds: Bounds) -> Result<Vec<Op>, A
             made.extend_from_slice(&part)?;
             made.push(Op::Many)?;
             made.push(Op::Both)?;
+            Ok(made)
+        }
+        Some(1) => {
+            let mut made = part;
+            if bounds.low == 0 {
+                made.push(Op::Maybe)?;
+            }
             Ok(made)
         }
         Some(high) => {

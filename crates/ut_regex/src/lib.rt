@@ -28,6 +28,7 @@ pub mod laws;
 mod literals;
 mod machine;
 mod matcher;
+mod needed;
 mod pieces;
 pub mod plain;
 mod program;

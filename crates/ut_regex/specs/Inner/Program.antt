@@ -1,5 +1,5 @@
 -- Programs of a matcher: expressions whose repetitions are written out, with a mark at each byte that was just read.
-use Rattle.std.specs.Prelude.{ℕ, zero, suc, ◌-◌, Bool, false, List, [], ◌∷◌, ◌++◌, map, reverse, Option, Some, None, Vec}
+use Rattle.std.specs.Prelude.{ℕ, zero, suc, ◌-◌, ◌==◌, if◌then◌else◌, Bool, false, List, [], ◌∷◌, ◌++◌, map, reverse, Option, Some, None, Vec}
 use Rattle.ut_regex.specs.declared.tree.Leaf.{Leaf}
 use Rattle.std.specs.declared.alloc.Global.{Global}
 use Rattle.ut_regex.specs.declared.program.Op.{Op}
@@ -27,11 +27,16 @@ abbrev pub options : Core → Core → ℕ → Core
 options front part zero = front
 options front part (suc count) = both (options front part count) (maybe part)
 
+-- a part that may stand once at most
+abbrev pub at_most_once : ℕ → Core → Core
+at_most_once zero part = maybe part
+at_most_once (suc low) part = part
+
 -- a part as often as bounds say
 abbrev pub repeated : Option ℕ → ℕ → Core → Core
 repeated None zero part = many part
 repeated None (suc low) part = both (copies part (suc low)) (many part)
-repeated (Some high) low part = options (copies part low) part (high - low)
+repeated (Some high) low part = if high == 1 then at_most_once low part else options (copies part low) part (high - low)
 
 -- the program of an expression, without a mark
 abbrev pub core : Tree → Core
@@ -43,6 +48,10 @@ core (group part) = core part
 core (sequence first second) = both (core first) (core second)
 core (alternative first second) = either (core first) (core second)
 core (repetition bounds part) = repeated bounds.high bounds.low (core part)
+
+-- the programs of trees
+abbrev pub cores : List Tree → List Core
+cores trees = map (λ re. core re) trees
 
 -- the steps of a program, in postfix
 abbrev pub steps : Core → List Op

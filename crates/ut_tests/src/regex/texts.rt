@@ -25,7 +25,8 @@ i;zoo;zo\nzoo\nZOo\nxZo\noZOO\n;zoo\nZOo\noZOO\n
 i;a.*Z9;z9A\nAz9\naZ\n;Az9\n
 i;[a]b;xB\nAB\nb\n;AB\n
 x;ab*;a\nabc\nabb\n;a\nabb\n
--;[^a];a\n\xc3\xa9\na!\n;\xc3\xa9\na!\n";
+-;[^a];a\n\xc3\xa9\na!\n;\xc3\xa9\na!\n
+E;(a{0,9}b{200}){0}c|d(e{0}f){1};abc\nd\nxdfx\nef\n;abc\nxdfx\n";
 
 /// What is read of an expression.
 fn read(alloc: Global, options: &str, expression: &str) -> Result<Regex, ReFault> {

@@ -1,7 +1,7 @@
 use Rattle.std.proofs.Common.{◌∙◌, ap, sym}
 use Rattle.ut_regex.specs.Inner.Program.{programs}
 use Rattle.ut_regex.proofs.NodeLemmas.{with_nodes-take}
-use Rattle.ut_regex.proofs.expansion.program_of.Goals as goal
+use Rattle.ut_regex.proofs.expansion.written_out.Goals as goal
 
 pub loop-node-preserved : goal.loop-node-preserved
 loop-node-preserved c =

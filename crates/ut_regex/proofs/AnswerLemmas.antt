@@ -1,7 +1,8 @@
 -- What a matcher answers, as a value.
 use Rattle.std.proofs.Common.{◌≡◌, ℕ, ◌↔◌, Bool, true, false, List, [], ◌∷◌, IfSome, Option, refl, ap, sym, ◌∙◌, subst}
 use mathlib.Core.Logic.{∥∥₁_elim, ∥∥₁_map}
-use Rattle.std.specs.List.{list_any}
+use Rattle.std.specs.List.{list_any, AllByRecursion}
+use Rattle.std.proofs.lemmas.Bool.{true≢false}
 use Rattle.std.proofs.Math.Bool.{Bool-set}
 use Rattle.ut_regex.specs.Answers.{answered, answers, is_had}
 use Rattle.ut_regex.specs.Finds.{Finds, Stays}
@@ -57,6 +58,26 @@ lack-answers matcher fold whole re seeks [] lack = refl
 lack-answers matcher fold whole re seeks (line ∷ texts) lack =
     rw (no_answer (answers matcher line) (Has fold whole line re) (answers-has matcher fold whole re line seeks) lack.0)
     (lack-answers matcher fold whole re seeks texts lack.1)
+
+pub same-on : (first second third : Machine) → Same first second → Same second third → Same first third
+same-on first second third one other =
+    record { steps = other.steps ∙ one.steps; fold = other.fold ∙ one.fold; whole = other.whole ∙ one.whole }
+
+pub stays-on : (first second third : Matcher) → Stays first second → Stays second third → Stays first third
+stays-on first second third one other = record {
+  machine = same-on first.machine second.machine third.machine one.machine other.machine;
+  table = other.table ∙ one.table;
+  literal = other.literal ∙ one.literal;
+}
+
+-- lines for which there is no answer lack the expression
+pub lack-unanswered : (matcher : Matcher) (fold whole : Bool) (re : Tree) → Seeks matcher.machine fold whole re → (texts : List (List ℕ))
+    → AllByRecursion (λ line. answers matcher line ≡ false) texts → Lack fold whole re texts
+lack-unanswered matcher fold whole re seeks [] none = tt
+lack-unanswered matcher fold whole re seeks (line ∷ texts) none = (
+  λ has. true≢false (sym ((answers-has matcher fold whole re line seeks).1 has) ∙ none.0),
+  lack-unanswered matcher fold whole re seeks texts none.1,
+)
 
 -- a matcher finds some expression, and what holds of its answers for each such expression holds
 pub by_finder : (matcher : Matcher) (one other : Bool) → ((fold whole : Bool) (re : Tree) → Finds matcher fold whole re → one ≡ other) → one ≡ other

@@ -121,6 +121,15 @@ bytes-part (byte ∷ front) line back bytes = bytes-part front line back bytes.1
 bytes-lines : (text : List ℕ) → AreBytes text → AllByRecursion AreBytes (lines text)
 bytes-lines text bytes = parts-lines AreBytes text (λ front line back is. bytes-part front line back (subst AreBytes is bytes))
 
+-- a text with a byte has a line
+pub some-lines : (byte : ℕ) (rest : List ℕ) → 0 < length (lines (byte ∷ rest))
+some-lines byte rest = by_end (byte == 10) (lines rest)
+  where
+    by_end : (ends : Bool) (texts : List (List ℕ)) → 0 < length (if ends then [] ∷ texts else onto_first byte texts)
+    by_end true texts = omega arith
+    by_end false [] = omega arith
+    by_end false (line ∷ others) = omega arith
+
 -- a table that shows nothing in a closed text has no answer for any of its lines
 module _ (next : List ℕ) (ends : List Bool) (entries : List ℕ) (for_texts : IsForTexts next ends entries) where
   -- no answer for these lines, of which the first goes on from a state
@@ -137,14 +146,6 @@ module _ (next : List ℕ) (ends : List Bool) (entries : List ℕ) (for_texts : 
   quiet-onto byte state [] some goes quiet = absurd (omega (arith, some))
   quiet-onto byte state (line ∷ others) some goes quiet =
       (cond-false (slice_index_or next (256 * state + byte) FOUND == FOUND) true (runs next ends (slice_index_or next (256 * state + byte) FOUND) line) goes ∙ quiet.0, quiet.1)
-
-  some-lines : (byte : ℕ) (rest : List ℕ) → 0 < length (lines (byte ∷ rest))
-  some-lines byte rest = by_end (byte == 10) (lines rest)
-    where
-      by_end : (ends : Bool) (texts : List (List ℕ)) → 0 < length (if ends then [] ∷ texts else onto_first byte texts)
-      by_end true texts = omega arith
-      by_end false [] = omega arith
-      by_end false (line ∷ others) = omega arith
 
   entry-plain : (state byte : ℕ) → byte < 256 → (byte == 10) ≡ false
       → slice_index_or entries (256 * state + byte) FOUND ≡ slice_index_or next (256 * state + byte) FOUND

@@ -24,6 +24,7 @@ pub mod LiteralLemmas
 pub mod FoldedLemmas
 pub mod TextLemmas
 pub mod HavingLemmas
+pub mod FilledLemmas
 pub mod IdleLemmas
 pub mod StuckLemmas
 pub mod StartLemmas

@@ -3,6 +3,8 @@ pub mod Sweeps
 pub mod Held
 pub mod Seeks
 pub mod Tables
+pub mod Filled
+pub mod Caches
 pub mod Reached
 pub mod Idling
 pub mod Starts

@@ -61,10 +61,11 @@ impl Bits {
         self.items.extend_from_slice(bits)
     }
 
-    /// The bits, of which the last is on top.
-    pub(crate) fn copy(&self, alloc: Global) -> Result<Vec<bool>, AllocError>
-        ensures { IfOk result (λ copy. reverse copy.items ≡ self.now.bits) }
+    /// Makes of other bits these, of which the last is on top.
+    pub(crate) fn copy_to(&self, bits: &mut Vec<bool>) -> Result<(), AllocError>
+        ensures { OnOk result (reverse bits.new.items ≡ self.now.bits) }
     {
-        Vec::from_slice(alloc, &self.items)
+        bits.clear();
+        bits.extend_from_slice(&self.items)
     }
 }

@@ -2,7 +2,8 @@
 //!
 //! `read_bre` and `read_ere` read a text as a basic or an extended expression, or tell its first fault. `compile` makes a
 //! matcher of an expression, and `Matcher::has` answers whether a line has it. The matcher carries a set of places along the
-//! line, so no expression makes it go back, and it takes no memory for a line. `Matcher::first_having` finds the first line of a
+//! line, so no expression makes it go back, and it takes no memory for a line. Which set follows which at a byte stands in a table, which
+//! is made whole where it is small, and else filled as lines are run over. `Matcher::first_having` finds the first line of a
 //! text that has it, and looks for the ends of lines only where a line may; where the bytes at which a match may begin are rare, it
 //! looks for the next of them, and a line that can't have it any more is left for its end.
 //!
@@ -16,6 +17,7 @@
 mod bits;
 mod brackets;
 mod building;
+mod cache;
 mod cuts;
 mod expansion;
 mod fault;

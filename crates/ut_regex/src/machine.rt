@@ -1,5 +1,5 @@
 //! The machine of an expression.
-ghost use Rattle.std.specs.Prelude.{◌≡◌, ◌+◌, ◌*◌, ◌≤◌, ◌↔◌, ◌||◌, Bool, IfOk, IsTrue, not, vec_len};
+ghost use Rattle.std.specs.Prelude.{◌≡◌, ◌+◌, ◌*◌, ◌≤◌, ◌↔◌, ◌||◌, Bool, IfOk, OnOk, IsTrue, not, vec_len};
 
 use crate::bits::Bits;
 use crate::program::Op;
@@ -129,13 +129,24 @@ impl Machine {
         ensures next { IfOk result (λ next. state_of next ≡ after self.old.steps.items self.old.fold self.old.whole (state_of row.now) byte) }
         ensures same { Same self.old self.new }
     {
+        let mut next = Row {
+            begins: false,
+            marks: Vec::new(alloc),
+        };
+        self.step_to(row, byte, &mut next)?;
+        Ok(next)
+    }
+
+    /// Makes of a row the state behind a byte. It takes no memory where the row has room for its marks.
+    pub(crate) fn step_to(&mut self, row: &Row, byte: u8, next: &mut Row) -> Result<(), AllocError>
+        ensures next { OnOk result (state_of next.new ≡ after self.old.steps.items self.old.fold self.old.whole (state_of row.now) byte) }
+        ensures same { Same self.old self.new }
+    {
         self.marks.load(&row.marks)?;
         let _ = self.leads_on(row.begins, false);
         self.read(row.begins, byte);
-        Ok(Row {
-            begins: false,
-            marks: self.marks.copy(alloc)?,
-        })
+        next.begins = false;
+        self.marks.copy_to(&mut next.marks)
     }
 
     /// Whether the expression may end in a state, at a place that is or isn't the line's end.

@@ -4,11 +4,14 @@ ghost use Rattle.memchr.specs.Find.{Nowhere};
 ghost use Rattle.std.specs.Prelude.{◌≡◌, ℕ, List};
 ghost use Rattle.ut_regex.specs.Answers.{answers, is_had};
 ghost use Rattle.ut_regex.specs.Finds.{Finds};
+ghost use Rattle.ut_regex.specs.Inner.Caches.{Serves};
+ghost use Rattle.ut_regex.specs.declared.machine.Machine.{Machine};
 ghost use Rattle.ut_regex.specs.Inner.Literals.{StandsAt};
 ghost use Rattle.ut_regex.specs.Inner.Searches.{bytes_of, folds};
 ghost use Rattle.ut_regex.specs.Several.{any_of, trees_of};
 ghost use Rattle.ut_regex.specs.Tree.{tree};
 
+use crate::cache::Cache;
 use crate::cuts::{Cut, cut_around};
 use crate::expansion::{program_of, program_of_any};
 use crate::finder::Matcher;
@@ -18,7 +21,7 @@ use crate::search::Search;
 use crate::table::Table;
 use crate::tree::Regex;
 use ps_lines::Memory;
-use std::alloc::Global;
+use std::alloc::{AllocError, Global};
 
 /// A matcher for an expression: with `fold` letters are compared in both cases, and with `whole` the expression has to be
 /// the whole line.
@@ -29,10 +32,12 @@ pub fn compile(alloc: Global, re: &Regex, fold: bool, whole: bool) -> Result<Mat
     let steps = program_of(alloc, &re.nodes)?;
     let mut machine = Machine::running(alloc, steps, fold, whole)?;
     let table = Table::of(alloc, &mut machine)?;
+    let cache = cache_beside(alloc, &table, machine.steps.len())?;
     let literal = Search::of(alloc, literal_of(alloc, &re.nodes)?, fold)?;
     Ok(Matcher {
         machine,
         table,
+        cache,
         literal,
     })
 }
@@ -55,11 +60,27 @@ pub fn compile_any(
     let steps = program_of_any(alloc, expressions)?;
     let mut machine = Machine::running(alloc, steps, fold, whole)?;
     let table = Table::of(alloc, &mut machine)?;
+    let cache = cache_beside(alloc, &table, machine.steps.len())?;
     Ok(Matcher {
         machine,
         table,
+        cache,
         literal: None,
     })
+}
+
+/// A table to be filled, where there is no whole one.
+fn cache_beside(
+    alloc: Global,
+    table: &Option<Table>,
+    steps: usize,
+) -> Result<Option<Cache>, AllocError>
+    ensures { IfOk result (λ made. (machine : Machine) → IfSome made (λ cache. Serves machine cache)) }
+{
+    match table {
+        Some(_) => Ok(None),
+        None => Ok(Some(Cache::of(alloc, steps)?)),
+    }
 }
 
 /// Whether the line is known to lack what is searched for.
@@ -110,7 +131,21 @@ impl Matcher {
     {
         match &self.table {
             Some(table) => table.has(line),
-            None => self.machine.has(line),
+            None => match self.told_by_cache(line) {
+                Some(has) => has,
+                None => self.machine.has(line),
+            },
+        }
+    }
+
+    /// Whether the line has the expression, where the table that is filled tells it.
+    fn told_by_cache(&mut self, line: &[u8]) -> Option<bool>
+        ensures has { IfSome result (λ has. has ≡ answers self.old line.now) }
+        ensures stays { Stays self.old self.new }
+    {
+        match &mut self.cache {
+            Some(cache) => cache.has(&mut self.machine, line),
+            None => None,
         }
     }
 
@@ -149,10 +184,11 @@ impl Matcher {
     }
 
     /// A place of a closed text such that no line that ends before it has the expression, or the text's length where no line has it.
-    fn passed(&self, text: &[u8], by_literal: bool) -> usize
+    fn passed(&mut self, text: &[u8], by_literal: bool) -> usize
         requires closed { is_closed text.now ≡ true }
         ensures within { result ≤ length text.now }
-        ensures passed { (fold whole : Bool) (re : Tree) → Finds self.now fold whole re → IsPassed fold whole re text.now result }
+        ensures passed { (fold whole : Bool) (re : Tree) → Finds self.old fold whole re → IsPassed fold whole re text.now result }
+        ensures stays { Stays self.old self.new }
     {
         match &self.literal {
             Some(search) if by_literal => search.first_place(text),
@@ -161,8 +197,20 @@ impl Matcher {
                     Some(left) => text.len() - left,
                     None => text.len(),
                 },
-                None => 0,
+                None => self.passed_by_cache(text),
             },
+        }
+    }
+
+    /// The same by the table that is filled.
+    fn passed_by_cache(&mut self, text: &[u8]) -> usize
+        ensures within { result ≤ length text.now }
+        ensures passed { (fold whole : Bool) (re : Tree) → Finds self.old fold whole re → IsPassed fold whole re text.now result }
+        ensures stays { Stays self.old self.new }
+    {
+        match &mut self.cache {
+            Some(cache) => cache.passed(&mut self.machine, text),
+            None => 0,
         }
     }
 }

@@ -220,7 +220,7 @@ fn entry_to(machine: &mut Machine, rows: &mut Vec<Row>, row: Row) -> Result<u16,
 }
 
 /// The place of a state, if it is there.
-fn place_of(rows: &[Row], row: &Row) -> Option<usize>
+pub(crate) fn place_of(rows: &[Row], row: &Row) -> Option<usize>
     ensures none { IfNone result ((place : ℕ) → place < length rows.now → state_at (states_of rows.now) place ≡ state_of row.now → ⊥) }
     ensures place { IfSome result (λ place. (place < length rows.now) × (state_at (states_of rows.now) place ≡ state_of row.now)) }
 {

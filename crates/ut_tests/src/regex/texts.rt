@@ -26,6 +26,8 @@ i;a.*Z9;z9A\nAz9\naZ\n;Az9\n
 i;[a]b;xB\nAB\nb\n;AB\n
 x;ab*;a\nabc\nabb\n;a\nabb\n
 -;[^a];a\n\xc3\xa9\na!\n;\xc3\xa9\na!\n
+E;a[ab]{9}c;abababababc\nabababababac\nbbababababc\nbabababababc\n;abababababc\nbabababababc\n
+x;a*b\{1,2\}c\{0,150\};ab\nabbcc\naabbbc\n\nbd\nb\n;ab\nabbcc\nb\n
 E;(a{0,9}b{200}){0}c|d(e{0}f){1};abc\nd\nxdfx\nef\n;abc\nxdfx\n";
 
 /// What is read of an expression.

@@ -1,11 +1,11 @@
-use Rattle.std.proofs.Common.{◌+◌, true, false, arith, refl, rules, length, length-drop, take}
+use Rattle.std.proofs.Common.{◌+◌, true, false, arith, refl, length, length-drop, take}
 use Rattle.std.proofs.lemmas.Bool.{false≢true}
 use Rattle.std.proofs.lemmas.List.{take_rest}
 use Rattle.ps_lines.proofs.ClosedLemmas.{closed-drop}
 use Rattle.std.specs.List.{list_any}
 use Rattle.ps_lines.specs.Lines.{lines}
 use Rattle.ut_regex.specs.Answers.{answers}
-use Rattle.ut_regex.proofs.AnswerLemmas.{answers-has, by_finder, lack-answers}
+use Rattle.ut_regex.proofs.AnswerLemmas.{answers-has, by_finder, lack-answers, stays-on}
 use Rattle.ut_regex.proofs.HavingLemmas.{finds-stays, passed-all, passed-before, walked-all, walked-cut, walked-ends, walked-having, walked-lack, walked-rest}
 use Rattle.ut_regex.proofs.finder.Matcher.first_having.Goals as goal
 
@@ -29,7 +29,7 @@ returns-then-runs_over-clause-found c = λ fold whole re finds.
     walked-having c.args.text.now c.in-Some.cut.before.now c.in-Some.cut.line.now c.in-Some.cut.rest.now l.from l.invariant.within l.invariant.ends cut fold whole re
     (l.invariant.passed fold whole re finds)
     (passed-before fold whole re _ c.in-Some.cut.before.now c.in-Some.cut.line.now c.in-Some.cut.rest.now c.passed-place.result here cut c.in-Some.ensures.here)
-    ((c.if-runs_over.ensures.has fold whole re now).0 refl)
+    ((c.if-runs_over.ensures.has fold whole re (finds-stays l.self c.passed-place.new.self fold whole re c.passed-place.ensures.stays now)).0 refl)
 
 pub returns-then-runs_over-clause-rest : goal.returns-then-runs_over-clause-rest
 returns-then-runs_over-clause-rest c =
@@ -46,14 +46,16 @@ loop-cut-preserved c =
       within = omega arith;
       counted = omega (arith, shorter, size, l.invariant.counted);
       ends = walked-ends c.args.text.now c.in-Some.cut.before.now c.in-Some.cut.line.now c.in-Some.cut.rest.now l.from l.invariant.within l.invariant.ends cut;
-      stays = search (rules, l.invariant.stays, c.if-runs_over.ensures.stays);
+      stays =
+          stays-on c.args.self.now l.self c.runs_over.new.self l.invariant.stays
+          (stays-on l.self c.passed-place.new.self c.runs_over.new.self c.passed-place.ensures.stays c.if-runs_over.ensures.stays);
       passed = λ fold whole re finds.
           let now = finds-stays c.args.self.now l.self fold whole re l.invariant.stays finds in
           let here = rw take_rest at c.passed-place.ensures.passed fold whole re now in
           walked-lack c.args.text.now c.in-Some.cut.before.now c.in-Some.cut.line.now c.in-Some.cut.rest.now l.from l.invariant.within l.invariant.ends cut fold whole re
           (l.invariant.passed fold whole re finds)
           (passed-before fold whole re _ c.in-Some.cut.before.now c.in-Some.cut.line.now c.in-Some.cut.rest.now c.passed-place.result here cut c.in-Some.ensures.here)
-          (λ has. false≢true ((c.if-runs_over.ensures.has fold whole re now).1 has));
+          (λ has. false≢true ((c.if-runs_over.ensures.has fold whole re (finds-stays l.self c.passed-place.new.self fold whole re c.passed-place.ensures.stays now)).1 has));
     }
 
 pub returns-in_default-clause-no_line : goal.returns-in_default-clause-no_line

@@ -2,7 +2,7 @@
 use Rattle.std.proofs.Common.{◌≡◌, ℕ, ◌↔◌, Bool, true, false, List, [], ◌∷◌, IfSome, Option, refl, ap, sym, ◌∙◌, subst}
 use mathlib.Core.Logic.{∥∥₁_elim, ∥∥₁_map}
 use Rattle.std.specs.List.{list_any, AllByRecursion}
-use Rattle.std.proofs.lemmas.Bool.{true≢false}
+use Rattle.std.proofs.lemmas.Bool.{or_parts, true≢false}
 use Rattle.std.proofs.Math.Bool.{Bool-set}
 use Rattle.ut_regex.specs.Answers.{answered, answers, is_had}
 use Rattle.ut_regex.specs.Finds.{Finds, Stays}
@@ -51,6 +51,16 @@ answers-stays old new stays line =
     ap (λ ops. answered ops new.machine.fold new.machine.whole first_state line) same.steps
     ∙ ap (λ folds. answered old.machine.steps.items folds new.machine.whole first_state line) same.fold
     ∙ ap (λ wholes. answered old.machine.steps.items old.machine.fold wholes first_state line) same.whole
+
+-- a test that holds of none of some lines
+pub none-any : (test : List ℕ → Bool) (texts : List (List ℕ)) → AllByRecursion (λ line. ¬ (test line ≡ true)) texts → list_any test texts ≡ false
+none-any test [] none = refl
+none-any test (line ∷ texts) none = rw (no_answer (test line) (test line ≡ true) (λ h. h, λ h. h) none.0) (none-any test texts none.1)
+
+pub any-none : (test : List ℕ → Bool) (texts : List (List ℕ)) → list_any test texts ≡ false → AllByRecursion (λ line. ¬ (test line ≡ true)) texts
+any-none test [] none = tt
+any-none test (line ∷ texts) none =
+    let parts = or_parts (test line) (list_any test texts) none in (λ is. true≢false (sym is ∙ parts.0), any-none test texts parts.1)
 
 pub lack-answers : (matcher : Matcher) (fold whole : Bool) (re : Tree) → Seeks matcher.machine fold whole re → (texts : List (List ℕ))
     → Lack fold whole re texts → list_any (answers matcher) texts ≡ false

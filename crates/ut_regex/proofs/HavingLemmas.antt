@@ -13,7 +13,7 @@ use Rattle.ut_regex.specs.declared.finder.Matcher.{Matcher}
 use Rattle.ut_regex.specs.declared.table.Table.{Table}
 use Rattle.ut_regex.specs.declared.table.TheConstants.{FOUND}
 use Rattle.ut_regex.specs.Finds.{Finds, Stays}
-use Rattle.ut_regex.specs.Having.{Lack, CutsOut, IsFirstHaving}
+use Rattle.ut_regex.specs.Having.{Lack, CutsOut, IsFirst}
 use Rattle.ut_regex.specs.Inner.Passed.{IsPassed}
 use Rattle.ut_regex.specs.Inner.Literals.{StandsAt, Contains}
 use Rattle.ut_regex.specs.Inner.Searches.{bytes_of, folds, Looks}
@@ -307,7 +307,7 @@ module _ (text before line rest : List ℕ) (from : ℕ) (within : from ≤ leng
         (all-append (λ line. ¬ Has fold whole line re) (lines (take from text) ++ lines before) (line ∷ [])
         (all-append (λ line. ¬ Has fold whole line re) (lines (take from text)) (lines before) done passed) (lacking, tt))
 
-    pub walked-having : Has fold whole line re → IsFirstHaving fold whole re text (take (from + length before) text) line rest
+    pub walked-having : Has fold whole line re → IsFirst (λ line. Has fold whole line re) text (take (from + length before) text) line rest
     walked-having has = record { cut = walked-cut; passed = walked-passed; has = has }
 
 -- nothing is left

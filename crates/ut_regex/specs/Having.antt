@@ -1,7 +1,7 @@
 -- The lines of a text that have an expression (XCU grep). The code looks in the whole text for what such a line needs, and for the ends
 -- of a line only around where that stands; the definition asks of each line.
 use Rattle.std.specs.Prelude.{◌≡◌, ℕ, List, ◌∷◌, ◌++◌, Bool, true, false}
-use Rattle.std.specs.List.{AllByRecursion, list_any}
+use Rattle.std.specs.List.{AllByRecursion}
 use Rattle.ps_lines.specs.Lines.{has_newline, is_closed, lines}
 use Rattle.ps_lines.specs.declared.newlines.TheConstants.{NEWLINE}
 use Rattle.ut_regex.specs.Spans.{Has}
@@ -17,14 +17,8 @@ pub record CutsOut (text before line rest : List ℕ) : Type 0 where
   pub plain : has_newline line ≡ false
   pub whole : text ≡ before ++ (line ++ NEWLINE ∷ rest)
 
--- of the text's lines this one is the first that has the expression
-pub record IsFirstHaving (fold whole : Bool) (re : Tree) (text before line rest : List ℕ) : Type 0 where
+-- of the text's lines this one is the first of which something holds
+pub record IsFirst (Holds : List ℕ → Type 0) (text before line rest : List ℕ) : Type 0 where
   pub cut : CutsOut text before line rest
-  pub passed : Lack fold whole re (lines before)
-  pub has : Has fold whole line re
-
--- the same where a test answers which lines have it
-pub record IsFirst (test : List ℕ → Bool) (text before line rest : List ℕ) : Type 0 where
-  pub cut : CutsOut text before line rest
-  pub passed : list_any test (lines before) ≡ false
-  pub has : test line ≡ true
+  pub passed : AllByRecursion (λ line. ¬ Holds line) (lines before)
+  pub has : Holds line

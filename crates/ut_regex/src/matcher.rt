@@ -105,7 +105,7 @@ impl Matcher {
     ghost use Rattle.ps_lines.specs.Lines.{is_closed, lines};
     ghost use Rattle.ut_regex.specs.Answers.{answers};
     ghost use Rattle.ut_regex.specs.Finds.{Finds, Stays};
-    ghost use Rattle.ut_regex.specs.Having.{CutsOut, IsFirst, IsFirstHaving, Lack};
+    ghost use Rattle.ut_regex.specs.Having.{CutsOut, IsFirst, Lack};
     ghost use Rattle.ut_regex.specs.Inner.Passed.{IsPassed};
     ghost use Rattle.ut_regex.specs.Spans.{Has};
     ghost use Rattle.ut_regex.specs.Tree.{Tree};
@@ -154,9 +154,9 @@ impl Matcher {
     pub fn first_having<'t>(&mut self, text: &'t [u8]) -> Option<Cut<'t>>
         requires closed { is_closed text.now ≡ true }
         ensures found { (fold whole : Bool) (re : Tree) → Finds self.old fold whole re
-            → IfSome result (λ cut. IsFirstHaving fold whole re text.now cut.before.now cut.line.now cut.rest.now) }
+            → IfSome result (λ cut. IsFirst (λ line. Has fold whole line re) text.now cut.before.now cut.line.now cut.rest.now) }
         ensures none { (fold whole : Bool) (re : Tree) → Finds self.old fold whole re → IfNone result (Lack fold whole re (lines text.now)) }
-        ensures first { IfSome result (λ cut. IsFirst (answers self.old) text.now cut.before.now cut.line.now cut.rest.now) }
+        ensures first { IfSome result (λ cut. IsFirst (λ line. answers self.old line ≡ true) text.now cut.before.now cut.line.now cut.rest.now) }
         ensures no_line { IfNone result (list_any (answers self.old) (lines text.now) ≡ false) }
         ensures shorter { IfSome result (λ cut. length cut.rest.now < length text.now) }
         ensures rest { IfSome result (λ cut. is_closed cut.rest.now ≡ true) }

@@ -3,6 +3,7 @@ use Rattle.std.specs.Result.{is_ok}
 use Rattle.ps_lines.specs.Lines.{lines}
 use Rattle.ut_streams.proofs.StreamLemmas.{OnOk-then, Wrote-trans}
 use Rattle.ut_regex.specs.Answers.{answers}
+use Rattle.ut_regex.proofs.AnswerLemmas.{none-any}
 use Rattle.ut_grep.specs.Output.{picked_by}
 use Rattle.ut_grep.specs.Tallies.{due_of, selects_of}
 use Rattle.ut_grep.proofs.SelectionLemmas.{found-picked, lacking-same, selects-found, selects-tested, Wrote-found, Wrote-found_stopped, Wrote-tested}
@@ -40,7 +41,8 @@ returns-in-Err-clause-wrote c =
     (due_of l.tally test) (due_of c.take_found.new.tally test)
     c.args.out.now.items l.out.items c.take_found.new.out.items l.invariant.wrote
     (c.in-Err.ensures.wrote test
-    (lacking-same c.args.inverts had (answers l.matcher) (lines c.in-Some.cut.before.now) l.invariant.same first.passed)
+    (lacking-same c.args.inverts had (answers l.matcher) (lines c.in-Some.cut.before.now) l.invariant.same
+    (none-any (answers l.matcher) (lines c.in-Some.cut.before.now) first.passed))
     (found-picked c.args.inverts had c.in-Some.cut.line.now (sym (l.invariant.same c.in-Some.cut.line.now) ∙ first.has)))
 
 pub loop-left-preserved : goal.loop-left-preserved
@@ -49,7 +51,8 @@ loop-left-preserved c =
     let had = answers c.args.matcher.now in
     let test = picked_by c.args.inverts had in
     let first = c.in-Some.ensures.first in
-    let lacking = lacking-same c.args.inverts had (answers l.matcher) (lines c.in-Some.cut.before.now) l.invariant.same first.passed in
+    let lacking = lacking-same c.args.inverts had (answers l.matcher) (lines c.in-Some.cut.before.now) l.invariant.same
+    (none-any (answers l.matcher) (lines c.in-Some.cut.before.now) first.passed) in
     let found = found-picked c.args.inverts had c.in-Some.cut.line.now (sym (l.invariant.same c.in-Some.cut.line.now) ∙ first.has) in
     record {
       closed = c.in-Some.ensures.rest;

@@ -5,7 +5,7 @@ use Rattle.ps_lines.proofs.ClosedLemmas.{closed-drop}
 use Rattle.std.specs.List.{list_any}
 use Rattle.ps_lines.specs.Lines.{lines}
 use Rattle.ut_regex.specs.Answers.{answers}
-use Rattle.ut_regex.proofs.AnswerLemmas.{answers-has, by_finder, lack-answers, stays-on}
+use Rattle.ut_regex.proofs.AnswerLemmas.{answers-has, any-none, by_finder, lack-answers, stays-on}
 use Rattle.ut_regex.proofs.HavingLemmas.{finds-stays, passed-all, passed-before, walked-all, walked-cut, walked-ends, walked-having, walked-lack, walked-rest}
 use Rattle.ut_regex.proofs.finder.Matcher.first_having.Goals as goal
 
@@ -71,8 +71,9 @@ returns-then-runs_over-clause-first c =
       cut =
           walked-cut c.args.text.now c.in-Some.cut.before.now c.in-Some.cut.line.now c.in-Some.cut.rest.now l.from l.invariant.within l.invariant.ends
           (rw take_rest at c.in-Some.ensures.cut);
-      passed = by_finder c.args.self.now (list_any (answers c.args.self.now) (lines before)) false (λ fold whole re finds.
-          lack-answers c.args.self.now fold whole re finds.seeks (lines before) (returns-then-runs_over-clause-found c fold whole re finds).passed);
+      passed = any-none (answers c.args.self.now) (lines before)
+          (by_finder c.args.self.now (list_any (answers c.args.self.now) (lines before)) false (λ fold whole re finds.
+          lack-answers c.args.self.now fold whole re finds.seeks (lines before) (returns-then-runs_over-clause-found c fold whole re finds).passed));
       has = by_finder c.args.self.now (answers c.args.self.now c.in-Some.cut.line.now) true (λ fold whole re finds.
           (answers-has c.args.self.now fold whole re c.in-Some.cut.line.now finds.seeks).1 (returns-then-runs_over-clause-found c fold whole re finds).has);
     }

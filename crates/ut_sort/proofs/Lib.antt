@@ -7,6 +7,7 @@ pub mod MergeLemmas
 pub mod MergingLemmas
 pub mod PrefixLemmas
 pub mod PlaceLemmas
+pub mod ArrangingLemmas
 pub mod UtilityLemmas
 pub mod SideLemmas
 pub mod ChoiceLemmas

@@ -22,6 +22,10 @@ line_in text span =
 abbrev pub lines_in : List ℕ → List Place → List (List ℕ)
 lines_in text places = map (λ place. line_in text place.span) places
 
+-- the same line with another number
+abbrev pub with_number : ℕ → Place → Place
+with_number number place = record { number = number; span = place.span }
+
 -- the order of the lines at two places: by their numbers, and then as lines
 abbrev pub tie_cmp : LineOrder → List ℕ → Place → Place → Ordering
 tie_cmp order text one other =

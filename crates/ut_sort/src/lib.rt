@@ -6,6 +6,7 @@
 //! sort.
 #![tactic(auto)]
 
+mod arranging;
 mod choices;
 mod keys;
 pub mod laws;

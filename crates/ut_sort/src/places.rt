@@ -4,6 +4,7 @@ ghost use Rattle.ps_lines.specs.Lines.{lines as lines_lem};
 ghost use Rattle.ut_sort.specs.LineOrders.{sorted_by};
 ghost use Rattle.ut_sort.specs.Places.{ArePlaces, RiseTo, first_line as first_line_lem, line_in as line_in_lem, lines_in, place_cmp, tie_cmp};
 
+use crate::arranging::arrange;
 use crate::keys::behind_bytes;
 use crate::line_orders::LineOrder;
 use ps_lines::{Memory, cut_line};
@@ -23,7 +24,7 @@ const MOST_BYTES: u64 = 281_474_976_710_656;
 #[derive(Clone, Copy)]
 pub(crate) struct Place {
     /// What its first key begins with.
-    number: u64,
+    pub(crate) number: u64,
     /// Where it begins, times `SIZES`, and its length or `LONG`.
     pub(crate) span: u64,
 }
@@ -93,6 +94,7 @@ fn sort_places(order: &LineOrder, text: &[u8], places: &mut Vec<Place>)
     requires rise { RiseTo (SIZES * (length text.now + 1)) places.old.items }
     ensures { lines_in text.now places.new.items ≡ sorted_by order.now (lines_in text.now places.old.items) }
 {
+    arrange(order, text, places.as_mut_slice());
     places.sort_unstable_by(|one, other| compare_places(order, text, one, other));
     if order.unique {
         places.dedup_by(|one, first| compare_ties(order, text, one, first) == Ordering::Equal);

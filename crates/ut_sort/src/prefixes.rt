@@ -33,14 +33,14 @@ pub(crate) fn number_of_key(separator: Option<u8>, key: &Key, line: &[u8]) -> u6
 }
 
 /// A number, or where the order is reversed the one as far from the other end.
-fn directed_number(reverse: bool, number: u64) -> u64
+pub(crate) fn directed_number(reverse: bool, number: u64) -> u64
     ensures { result ≡ directed_number_lem reverse number }
 {
     if reverse { u64::MAX - number } else { number }
 }
 
 /// The number of a key's text.
-fn letters_number(letters: Letters, text: &[u8]) -> u64
+pub(crate) fn letters_number(letters: Letters, text: &[u8]) -> u64
     ensures number { result ≡ letters_number_lem letters text.now }
     ensures bytes { AreBytes text.now }
 {

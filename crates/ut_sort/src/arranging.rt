@@ -30,11 +30,12 @@ struct Stage<'o> {
     passed: u64,
 }
 
-/// Puts places in the order of their lines, where keys have to be sought in them and the first isn't a number.
+/// Puts places in the order of their lines, where keys have to be sought in them and the first isn't a number. With `-u` no line is looked
+/// at where the number of its only key says all, so places are left as they are.
 pub(crate) fn arrange(order: &LineOrder, text: &[u8], places: &mut [Place])
     ensures { IsPermutation places.old places.new }
 {
-    if order.whole || order.letters.numeric {
+    if order.whole || order.letters.numeric || order.unique {
         return;
     }
     let first = Stage {
@@ -104,15 +105,10 @@ fn arrange_equal(
 fn next_stage<'o>(order: &LineOrder, stage: Stage<'o>, number: u64) -> Option<Stage<'o>> {
     let letters = letters_at(order, stage);
     match stage.keys {
-        [_, others @ ..] if is_exact(letters, number) => {
-            if order.unique && others.is_empty() {
-                return None;
-            }
-            Some(Stage {
-                keys: others,
-                passed: 0,
-            })
-        }
+        [_, others @ ..] if is_exact(letters, number) => Some(Stage {
+            keys: others,
+            passed: 0,
+        }),
         [] if is_exact(letters, number) => None,
         _ if letters.numeric => None,
         _ => Some(Stage {

@@ -196,7 +196,7 @@ fn expect_all(
     Ok(())
 }
 
-static VALID: [(&str, &str); 24] = [
+static VALID: [(&str, &str); 25] = [
     ("input - 0|output 0 -", "-"),
     ("read=/f - 0|write=/g 0 -", "-"),
     ("text - 0|drain 0 -", "-"),
@@ -236,6 +236,7 @@ static VALID: [(&str, &str); 24] = [
         "23",
     ),
     ("input - 0|tee=/f 0 1|tee=/g 1 2|output 2 -", "-"),
+    ("input - 0|whole=tee 0 1|output 1 -", "-"),
 ];
 
 #[test]
@@ -343,7 +344,7 @@ fn invocations_read_one_input_and_have_their_class(rt: HostRuntime) -> Result<()
 
 static BUILT: [(&str, &str); 2] = [
     ("text - 0|drain 0 -|whole=echo - 1|output 1 -", "-"),
-    ("input - 0|whole=tee 0 1|output 1 -", "-"),
+    ("text - 0|drain 0 -|whole=true - 1|output 1 -", "-"),
 ];
 
 #[test]

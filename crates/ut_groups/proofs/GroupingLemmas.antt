@@ -1,14 +1,13 @@
 -- Groups that are open, as further lines come.
-use Rattle.std.proofs.Common.{◌≡◌, ℕ, ◌+◌, ◌<◌, ◌==◌, nat_lt, Bool, true, false, List, [], ◌∷◌, ◌++◌, map, decimal, if◌then◌else◌, refl, ap, sym, ◌∙◌, append_assoc, append-nil, arith}
-use Rattle.std.proofs.lemmas.Bool.{cond-true, cond-false, ltb-true, lt-ltb, eqb-true, eq-eqb, true≢false}
-use Rattle.std.proofs.lemmas.Bool.Decides.{nat_tests}
+use Rattle.std.proofs.Common.{◌≡◌, ℕ, ◌+◌, ◌==◌, nat_lt, Bool, true, false, List, [], ◌∷◌, ◌++◌, map, decimal, if◌then◌else◌, refl, ap, sym, ◌∙◌, append_assoc, append-nil, arith}
+use Rattle.std.proofs.lemmas.Bool.{cond-true, cond-false, ltb-true, lt-ltb, eqb-true, eq-eqb}
 use Rattle.std.proofs.lemmas.Slice.Eq.{bytes_eq-Decides}
 use Rattle.std.specs.List.{flat_map}
 use Rattle.std.specs.Str.{bytes_eq}
 use Rattle.ut_args.specs.declared.commands.Groups.{Groups}
 use Rattle.ut_args.specs.declared.commands.Groups.TheVariants as groups
 use Rattle.ut_streams.specs.Streams.{Put, Wrote}
-use Rattle.ut_streams.proofs.StreamLemmas.{Put-after, Put-broken, Wrote-at, Wrote-put, Wrote-same, Wrote-trans}
+use Rattle.ut_streams.proofs.StreamLemmas.{Wrote-at, Wrote-put, Wrote-same, Wrote-trans}
 use Rattle.ut_groups.specs.declared.grouping.Grouping.{Grouping}
 use Rattle.ut_groups.specs.declared.skips.Skip.{Skip}
 use Rattle.ut_groups.specs.Counting.{saturated}
@@ -133,7 +132,7 @@ left-first skip groups group (next ∷ others) = by_next (is_same skip group.fir
     by_next true = first-text (group.count + next.count) others
     by_next false = first-text group.count (next ∷ others)
 
--- a line is passed: one that is the same, one that isn't, and one that isn't where memory is wanted
+-- a line is passed: one that is the same, and one that isn't
 module _ (grouping : Grouping) (group next : Group) (line : List ℕ) (is : next ≡ group_of grouping.form line) where
   due-same : is_same grouping.skip group.first next.first ≡ true → (count : ℕ) → count ≡ saturated (group.count + next.count) → (more : List (List ℕ))
       → due_behind grouping (group_held group.first count) more ≡ due_behind grouping group (line ∷ more)
@@ -153,18 +152,12 @@ module _ (grouping : Grouping) (group next : Group) (line : List ℕ) (is : next
   passed-same same count sum old =
       Wrote-same (λ more. due_behind grouping group (line ∷ more)) (due_behind grouping (group_held group.first count)) old true (λ ok more. due-same same count sum more)
 
-  pub passed-other : is_same grouping.skip group.first next.first ≡ false → (old half new : List ℕ) (whole : Bool)
-      → Put (ending grouping.groups group) old half true → Put (opening grouping.groups next.first) half new whole
-      → Wrote (λ more. due_behind grouping group (line ∷ more)) (due_behind grouping next) old new whole
-  passed-other other old half new whole first second =
-      Wrote-put (λ more. due_behind grouping group (line ∷ more)) (due_behind grouping next) (ending grouping.groups group ++ opening grouping.groups next.first) old new whole
-      (due-other other) (Put-after (ending grouping.groups group) (opening grouping.groups next.first) old half new whole first second)
-
-  pub passed-stopped : is_same grouping.skip group.first next.first ≡ false → (old new : List ℕ) → Put (ending grouping.groups group) old new false
-      → Wrote (λ more. due_behind grouping group (line ∷ more)) (due_behind grouping next) old new false
-  passed-stopped other old new broken =
-      Wrote-put (λ more. due_behind grouping group (line ∷ more)) (due_behind grouping next) (ending grouping.groups group ++ opening grouping.groups next.first) old new false
-      (due-other other) (Put-broken (ending grouping.groups group) (opening grouping.groups next.first) old new broken)
+  pub passed-other : is_same grouping.skip group.first next.first ≡ false → (now : Group) (old new : List ℕ) (whole : Bool) → now ≡ next
+      → Put (ending grouping.groups group ++ opening grouping.groups next.first) old new whole
+      → Wrote (λ more. due_behind grouping group (line ∷ more)) (due_behind grouping now) old new whole
+  passed-other other now old new whole same put =
+      Wrote-put (λ more. due_behind grouping group (line ∷ more)) (due_behind grouping now) (ending grouping.groups group ++ opening grouping.groups next.first) old new whole
+      (λ more. due-other other more ∙ ap (λ now. (ending grouping.groups group ++ opening grouping.groups next.first) ++ due_behind grouping now more) (sym same)) put
 
 -- the first line opens a group
 pub due-first : (grouping : Grouping) (group next : Group) (line : List ℕ) → next ≡ group_of grouping.form line → (more : List (List ℕ))

@@ -2,6 +2,8 @@ pub mod CountingLemmas
 pub mod ColumnLemmas
 pub mod NamedLemmas
 pub mod GroupingLemmas
+pub mod CommonLemmas
+pub mod RunLemmas
 pub mod UniqLemmas
 pub mod WcLemmas
 pub mod SeriesLemmas

@@ -1,11 +1,11 @@
 -- The groups of two parts, joined, are those of the whole: also where each part's are written and read again between.
-use Rattle.std.proofs.Common.{◌≡◌, ℕ, ◌+◌, ◌-◌, ◌^◌, ◌<◌, ◌==◌, ◌&&◌, ◌||◌, Bool, true, false, not, List, [], ◌∷◌, ◌++◌, map, drop, decimal, zero, suc, if◌then◌else◌, refl, ap, sym, ◌∙◌, append_assoc, append-nil, arith, subst}
+use Rattle.std.proofs.Common.{◌≡◌, ℕ, ◌+◌, ◌==◌, ◌&&◌, ◌||◌, Bool, true, false, not, List, [], ◌∷◌, ◌++◌, map, drop, decimal, zero, suc, if◌then◌else◌, refl, ap, sym, ◌∙◌, append_assoc, append-nil, arith, subst}
 use Rattle.std.proofs.lemmas.Bool.{and_parts, cond-true, cond-false, true≢false}
 use Rattle.std.proofs.lemmas.Bool.Decides.{nat_tests}
 use Rattle.std.proofs.lemmas.List.{map-append}
 use Rattle.std.specs.Prelude.{⊤}
 use Rattle.std.specs.Char.{is_ascii_digit}
-use Rattle.std.specs.List.{flat_map, list_all, list_any, position_or_len}
+use Rattle.std.specs.List.{flat_map, position_or_len}
 use Rattle.std.specs.Str.{all_ascii_digits}
 use Rattle.ps_lines.specs.Lines.{are_lines, has_newline, is_cutlist, lines, text_of_lines}
 use Rattle.ps_lines.proofs.LineLemmas.{are_lines-lines, lines-text_of_lines, lines_of_cut}
@@ -26,7 +26,7 @@ use Rattle.ut_groups.proofs.GroupingLemmas.{same-others, text-alike}
 
 -- groups may be joined with those before them in any order
 module _ (skip : Skip) where
-  joins-before : (group next : Group) → is_same skip group.first next.first ≡ true → (coming : List Group)
+  pub joins-before : (group next : Group) → is_same skip group.first next.first ≡ true → (coming : List Group)
       → before_groups skip (group_held group.first (group.count + next.count)) coming ≡ before_groups skip group (before_groups skip next coming)
   joins-before group next same [] = sym (cond-true (is_same skip group.first next.first) (group_held group.first (group.count + next.count) ∷ []) (group ∷ next ∷ []) same)
   joins-before group next same (third ∷ others) = by_third (is_same skip next.first third.first) refl

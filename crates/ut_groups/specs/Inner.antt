@@ -1,3 +1,4 @@
 pub mod Columns
 pub mod Open
 pub mod Series
+pub mod Runs

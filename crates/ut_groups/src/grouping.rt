@@ -1,18 +1,22 @@
 //! Groups of lines, one after another.
 ghost use Rattle.std.specs.Prelude.{◌≡◌, ◌∷◌, ◌++◌, [], true, decimal as decimal_lem, if◌then◌else◌};
+ghost use Rattle.std.specs.Bool.{Decides};
 ghost use Rattle.std.specs.Result.{is_ok};
-ghost use Rattle.ps_lines.specs.Lines.{is_closed, lines};
+ghost use Rattle.ps_lines.specs.Lines.{is_closed};
 ghost use Rattle.ut_streams.specs.Streams.{Put, Wrote};
 ghost use Rattle.ut_args.specs.declared.commands.Groups.TheVariants as groups;
 ghost use Rattle.ut_groups.specs.Counting.{saturated};
 ghost use Rattle.ut_groups.specs.Groups.{group_text, line_of};
-ghost use Rattle.ut_groups.specs.Inner.Open.{due_behind, ending, group_at, opening};
+ghost use Rattle.ut_groups.specs.Inner.Open.{PassesLines, due_behind, ending, group_at, opening};
+ghost use Rattle.ut_groups.specs.Inner.Runs.{BeginsOther, IsExact};
 
 use crate::counting::{SPACE, add_sat};
 use crate::forms::{Form, Group};
+use crate::runs::first_run;
 use crate::skips::{Skip, is_same};
 use ps_lines::{Memory, cut_line, decimal};
 use ut_args::Groups;
+use ut_fields::up_to;
 use ut_streams::{put, put_line};
 
 /// Which lines make a group, and what is written for it.
@@ -32,7 +36,125 @@ impl Grouping {
         out: &mut Vec<u8>,
     ) -> Result<(), Memory>
         requires { is_closed text.now ≡ true }
-        ensures { Wrote (λ more. due_behind self (group_at group.old) (lines text.now ++ more)) (due_behind self (group_at group.new)) out.old.items out.new.items (is_ok result) }
+        ensures { PassesLines self (group_at group.old) text.now (group_at group.new) out.old.items out.new.items (is_ok result) }
+    {
+        if self.is_exact() {
+            return self.pass_exact(group, text, out);
+        }
+        self.pass_each(group, text, out)
+    }
+
+    /// The same where lines are groups of one, and the same where all of their bytes are.
+    fn pass_exact<'t>(
+        self,
+        group: &mut Group<'t>,
+        text: &'t [u8],
+        out: &mut Vec<u8>,
+    ) -> Result<(), Memory>
+        requires exact { IsExact self }
+        requires closed { is_closed text.now ≡ true }
+        ensures { PassesLines self (group_at group.old) text.now (group_at group.new) out.old.items out.new.items (is_ok result) }
+    {
+        let Some(run) = first_run(text) else {
+            return Ok(());
+        };
+        if is_same(self.skip, group.first, run.group.first) {
+            group.count = add_sat(group.count, run.group.count);
+            return self.pass_others(group, run.behind, out);
+        }
+        self.pass_others(group, text, out)
+    }
+
+    /// Whether lines are groups of one, and the same where all of their bytes are.
+    fn is_exact(self) -> bool
+        ensures { Decides result (IsExact self) }
+    {
+        match self.form {
+            Form::Plain => self.skip.fields == 0 && self.skip.bytes == 0,
+            Form::Counted => false,
+        }
+    }
+
+    /// Takes the lines of a closed text that begins with another line than those of the group.
+    fn pass_others<'t>(
+        self,
+        group: &mut Group<'t>,
+        text: &'t [u8],
+        out: &mut Vec<u8>,
+    ) -> Result<(), Memory>
+        requires exact { IsExact self }
+        requires closed { is_closed text.now ≡ true }
+        requires other { BeginsOther self.skip group.old.first.now text.now }
+        ensures { PassesLines self (group_at group.old) text.now (group_at group.new) out.old.items out.new.items (is_ok result) }
+    {
+        match self.groups {
+            Groups::All => self.pass_slices(group, text, out),
+            Groups::Counted | Groups::Repeated | Groups::Single => self.pass_runs(group, text, out),
+        }
+    }
+
+    /// The same where of each group its first line is written: lines that stand behind one another are written together.
+    fn pass_slices<'t>(
+        self,
+        group: &mut Group<'t>,
+        text: &'t [u8],
+        out: &mut Vec<u8>,
+    ) -> Result<(), Memory>
+        requires all { self.groups ≡ groups.All }
+        requires exact { IsExact self }
+        requires closed { is_closed text.now ≡ true }
+        requires other { BeginsOther self.skip group.old.first.now text.now }
+        ensures { PassesLines self (group_at group.old) text.now (group_at group.new) out.old.items out.new.items (is_ok result) }
+    {
+        let mut unwritten = text;
+        let mut left = text;
+        while let Some(run) = first_run(left) {
+            *group = run.group;
+            left = run.behind;
+            if run.group.count == 1 {
+                continue;
+            }
+            let written = put(up_to(unwritten, run.behind_first), out);
+            unwritten = run.behind;
+            match written {
+                Ok(()) => {}
+                Err(memory) => return Err(memory),
+            }
+        }
+        put(unwritten, out)
+    }
+
+    /// The same where groups are written as they end.
+    fn pass_runs<'t>(
+        self,
+        group: &mut Group<'t>,
+        text: &'t [u8],
+        out: &mut Vec<u8>,
+    ) -> Result<(), Memory>
+        requires exact { IsExact self }
+        requires closed { is_closed text.now ≡ true }
+        requires other { BeginsOther self.skip group.old.first.now text.now }
+        ensures { PassesLines self (group_at group.old) text.now (group_at group.new) out.old.items out.new.items (is_ok result) }
+    {
+        let mut left = text;
+        while let Some(run) = first_run(left) {
+            match self.change(group, run.group, out) {
+                Ok(()) => left = run.behind,
+                Err(memory) => return Err(memory),
+            }
+        }
+        Ok(())
+    }
+
+    /// Takes the lines of a closed text one after another.
+    fn pass_each<'t>(
+        self,
+        group: &mut Group<'t>,
+        text: &'t [u8],
+        out: &mut Vec<u8>,
+    ) -> Result<(), Memory>
+        requires { is_closed text.now ≡ true }
+        ensures { PassesLines self (group_at group.old) text.now (group_at group.new) out.old.items out.new.items (is_ok result) }
     {
         let mut left = text;
         while let Some((line, rest)) = cut_line(left) {
@@ -52,13 +174,28 @@ impl Grouping {
         line: &'t [u8],
         out: &mut Vec<u8>,
     ) -> Result<(), Memory>
-        ensures { Wrote (λ more. due_behind self (group_at group.old) (line.now ∷ more)) (due_behind self (group_at group.new)) out.old.items out.new.items (is_ok result) }
+        ensures { Wrote (λ more. due_behind self (group_at group.old) (line.now ∷ more)) (due_behind self (group_at group.new))
+            out.old.items out.new.items (is_ok result) }
     {
         let next = self.form.group_of(line);
         if is_same(self.skip, group.first, next.first) {
             group.count = add_sat(group.count, next.count);
             return Ok(());
         }
+        self.change(group, next, out)
+    }
+
+    /// The group that is open has ended, and the next one is open.
+    #[inline]
+    fn change<'t>(
+        self,
+        group: &mut Group<'t>,
+        next: Group<'t>,
+        out: &mut Vec<u8>,
+    ) -> Result<(), Memory>
+        ensures changed { group_at group.new ≡ group_at next.entry }
+        ensures wrote { Put (ending self.groups (group_at group.old) ++ opening self.groups next.entry.first.now) out.old.items out.new.items (is_ok result) }
+    {
         let ended = self.put_ending(group, out);
         *group = next;
         match ended {

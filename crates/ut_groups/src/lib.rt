@@ -11,6 +11,7 @@ mod forms;
 mod grouping;
 mod kept;
 mod named;
+mod runs;
 mod skips;
 mod uniq;
 mod wc;

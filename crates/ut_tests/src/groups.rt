@@ -173,7 +173,7 @@ fn words_are_counted_across_blocks(rt: HostRuntime) -> Result<(), Fail> {
 }
 
 /// Words, text, and what is written for the one input.
-static GROUPS: [(&str, &str, &str); 22] = [
+static GROUPS: [(&str, &str, &str); 27] = [
     ("uniq", "a\na\nb\na\n", "a\nb\na\n"),
     ("uniq", "a\na", "a\n"),
     ("uniq", "\n\na\n", "\na\n"),
@@ -195,6 +195,23 @@ static GROUPS: [(&str, &str, &str); 22] = [
     ("uniq -f 1 -s 2", "a xb\nc yb\n", "a xb\n"),
     ("uniq -d -f 1", "1 a\n2 a\n3 b\n", "1 a\n"),
     ("uniq -u -s 1", "1a\n2a\n3b\n", "3b\n"),
+    ("uniq", "a\nb\nb\nc\nd\nd\nd\ne\n", "a\nb\nc\nd\ne\n"),
+    ("uniq -c", "a\na\nab\na\n", "2 a\n1 ab\n1 a\n"),
+    (
+        "uniq",
+        "sixteen bytes: abc\nsixteen bytes: abd\nsixteen bytes: abd\n",
+        "sixteen bytes: abc\nsixteen bytes: abd\n",
+    ),
+    (
+        "uniq -c",
+        "a\na\na\na\na\na\na\na\na\na\na\na\na\na\na\na\na\na\na\na\na\na\na\na\na\na\na\na\na\na\na\na\na\na\na\na\na\na\na\na\na\na\na\na\na\na\na\na\nb\n",
+        "48 a\n1 b\n",
+    ),
+    (
+        "uniq -d",
+        "bcd\nabc\nabc\nabc\nabc\nabc\nabc\nabc\nabc\nabc\nabc\nabc\nabc\nabc\nabc\nabc\nabc\nabc\nabc\nabc\nabc\nabc\nabc\nabc\nabc\nabc\nabc\nabd",
+        "abc\n",
+    ),
     ("uniq f", "a\na\n", "a\n"),
 ];
 

@@ -1,6 +1,8 @@
 -- A group that is open: its first line has come, and more of it may come.
 use Rattle.std.specs.Prelude.{ℕ, List, [], ◌∷◌, ◌++◌, map, Bool, if◌then◌else◌}
 use Rattle.std.specs.List.{flat_map}
+use Rattle.ps_lines.specs.Lines.{lines}
+use Rattle.ut_streams.specs.Streams.{Wrote}
 use Rattle.ut_args.specs.declared.commands.Groups.{Groups}
 use Rattle.ut_args.specs.declared.commands.Groups.TheVariants as groups
 use Rattle.ut_groups.specs.declared.forms.Group.{Group as GroupAt}
@@ -41,3 +43,7 @@ due_behind grouping open_group coming =
 abbrev pub due_of : Grouping → Bool → Group → List (List ℕ) → List ℕ
 due_of grouping is_open open_group coming =
     if is_open then due_behind grouping open_group coming else groups_of_lines grouping.skip grouping.form grouping.groups coming
+
+-- the lines of a text come where one group is open, and then the next one is; old grew to new
+abbrev pub PassesLines : Grouping → Group → List ℕ → Group → List ℕ → List ℕ → Bool → Type 0
+PassesLines grouping group text next old new whole = Wrote (λ more. due_behind grouping group (lines text ++ more)) (due_behind grouping next) old new whole

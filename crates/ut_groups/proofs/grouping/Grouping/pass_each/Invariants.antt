@@ -2,7 +2,7 @@ use Rattle.std.proofs.Common.{◌≡◌, ◌++◌, true, length}
 use Rattle.ps_lines.specs.Lines.{is_closed, lines}
 use Rattle.ut_streams.specs.Streams.{Wrote}
 use Rattle.ut_groups.specs.Inner.Open.{due_behind, group_at}
-use Rattle.ut_groups.proofs.grouping.Grouping.pass_lines.Given as goal
+use Rattle.ut_groups.proofs.grouping.Grouping.pass_each.Given as goal
 
 abbrev pub invariant-loop-line : goal.invariant-loop-line
 invariant-loop-line l =

@@ -2,7 +2,7 @@ use Rattle.std.proofs.Common.{◌++◌, true}
 use Rattle.ps_lines.specs.Lines.{lines}
 use Rattle.ut_streams.proofs.StreamLemmas.{closed-rest, Wrote-last_line, Wrote-line_stopped, Wrote-next_line}
 use Rattle.ut_groups.specs.Inner.Open.{due_behind, group_at}
-use Rattle.ut_groups.proofs.grouping.Grouping.pass_lines.Goals as goal
+use Rattle.ut_groups.proofs.grouping.Grouping.pass_each.Goals as goal
 
 pub loop-line-preserved : goal.loop-line-preserved
 loop-line-preserved c = (

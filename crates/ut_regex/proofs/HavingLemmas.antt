@@ -15,9 +15,12 @@ use Rattle.ut_regex.specs.declared.table.TheConstants.{FOUND}
 use Rattle.ut_regex.specs.Finds.{Finds, Stays}
 use Rattle.ut_regex.specs.Having.{Lack, CutsOut, IsFirst}
 use Rattle.ut_regex.specs.Inner.Passed.{IsPassed}
-use Rattle.ut_regex.specs.Inner.Literals.{StandsAt, Contains}
-use Rattle.ut_regex.specs.Inner.Searches.{bytes_of, folds, Looks}
+use Rattle.ut_regex.specs.Inner.Fronts.{FitAt}
+use Rattle.ut_regex.specs.Inner.Literals.{StandsAt}
+use Rattle.ut_regex.specs.Inner.Searches.{IsSoughtAt, Looks}
 use Rattle.ut_regex.specs.declared.search.Search.{Search}
+use Rattle.ut_regex.specs.declared.search.Search.TheVariants.{Exact, Folded, Front}
+use Rattle.ut_regex.specs.declared.tree.Leaf.{Leaf}
 use Rattle.ut_regex.specs.declared.tree.Leaf.TheVariants.{Byte}
 use Rattle.ut_regex.specs.Inner.Seeks.{Seeks}
 use Rattle.ut_regex.specs.Spans.{fits, Has}
@@ -25,7 +28,7 @@ use Rattle.ut_regex.specs.Inner.Tables.{runs, left_at_found, IsForTexts}
 use Rattle.ut_regex.specs.Inner.Made.{IsMade}
 use Rattle.ut_regex.specs.Tree.{Tree}
 use Rattle.ps_lines.proofs.ClosedLemmas.{closed-append, closed-behind, closed-tail}
-use Rattle.ut_regex.proofs.LiteralLemmas.{has_literal, stands_long}
+use Rattle.ut_regex.proofs.LiteralLemmas.{has_sought}
 use Rattle.ut_regex.proofs.RunLemmas.{AreBytes, made_has}
 use Rattle.ut_regex.proofs.TextLemmas.{some-same, some≢none, goes-on, shows}
 
@@ -95,19 +98,39 @@ stands-part fold front line back (byte ∷ bytes) place (within, is, more) =
       subst (λ place. StandsAt fold (front ++ (line ++ back)) bytes place) next (stands-part fold front line back bytes (place + 1) more),
     )
 
--- no line that ends before the first place where the bytes stand contains them
-literal-passed : (fold : Bool) (text before more bytes : List ℕ) (place : ℕ) → text ≡ before ++ more → length before ≤ place → 0 < length bytes
-    → Nowhere (StandsAt fold text bytes) 0 place → AllByRecursion (λ line. ¬ Contains fold line bytes) (lines before)
-literal-passed fold text before more bytes place whole low some nowhere =
-    parts-lines (λ line. ¬ Contains fold line bytes) before (λ front line back is has.
-    let at = length front + has.0 in
+fit-part : (fold : Bool) (front line back : List ℕ) (leaves : List Leaf) (place : ℕ) → FitAt fold line leaves place
+    → FitAt fold (front ++ (line ++ back)) leaves (length front + place)
+fit-part fold front line back [] place h = tt
+fit-part fold front line back (one ∷ leaves) place (within, is, more) =
+    let size : length (front ++ (line ++ back)) ≡ length front + (length line + length back) =
+    length-append front (line ++ back) ∙ ap (λ size. length front + size) (length-append line back) in
+    let same : slice_index (front ++ (line ++ back)) (length front + place) ≡ slice_index line place =
+    get_or-append-add front (line ++ back) place 0 ∙ get_or-append line back 0 place within in
+    let next : length front + (place + 1) ≡ length front + place + 1 = omega arith in (
+      omega (arith, size, within),
+      ap (fits fold one) same ∙ is,
+      subst (λ place. FitAt fold (front ++ (line ++ back)) leaves place) next (fit-part fold front line back leaves (place + 1) more),
+    )
+
+sought-part : (search : Search) (front line back : List ℕ) (place : ℕ) → IsSoughtAt search line place
+    → IsSoughtAt search (front ++ (line ++ back)) (length front + place)
+sought-part (Exact bytes) front line back place h = stands-part false front line back bytes place h
+sought-part (Folded folded) front line back place h = stands-part true front line back folded.bytes.items place h
+sought-part (Front found) front line back place h = fit-part found.fold front line back found.leaves.items place h
+
+-- in no line that ends before the first place where it stands stands what is searched for
+sought-passed : (search : Search) (fold : Bool) (re : Tree) (text before more : List ℕ) (place : ℕ) → Looks search fold re → text ≡ before ++ more
+    → length before ≤ place → Nowhere (IsSoughtAt search text) 0 place → AllByRecursion (λ line. (at : ℕ) → ¬ IsSoughtAt search line at) (lines before)
+sought-passed search fold re text before more place looks whole low nowhere =
+    parts-lines (λ line. (at : ℕ) → ¬ IsSoughtAt search line at) before (λ front line back is offset has.
+    let at = length front + offset in
     let all : text ≡ front ++ (line ++ (back ++ more)) =
     whole ∙ ap (λ before. before ++ more) is ∙ append_assoc front (line ++ back) more ∙ ap (λ rest. front ++ rest) (append_assoc line back more) in
     let size : length before ≡ length front + (length line + length back) =
     ap length is ∙ length-append front (line ++ back) ∙ ap (λ size. length front + size) (length-append line back) in
-    let within = stands_long fold line bytes has.0 has.1 some in
+    let within = looks.some line offset has in
     nowhere at (omega arith) (omega (arith, size, within, low))
-    (subst (λ text. StandsAt fold text bytes at) (sym all) (stands-part fold front line (back ++ more) bytes has.0 has.1)))
+    (subst (λ text. IsSoughtAt search text at) (sym all) (sought-part search front line (back ++ more) offset has)))
 
 -- bytes of a part are bytes
 bytes-front : (front back : List ℕ) → AreBytes (front ++ back) → AreBytes front
@@ -209,14 +232,12 @@ module _ (next : List ℕ) (ends : List Bool) (entries : List ℕ) (for_texts : 
 -- a line that lacks what its expression requires lacks the expression
 pub lack-literal : (fold whole : Bool) (re : Tree) (literal : Option Search) (search : Search) (text before more : List ℕ) (place : ℕ) → literal ≡ Some search
     → IfSome literal (λ search. Looks search fold re) → text ≡ before ++ more → length before ≤ place
-    → Nowhere (StandsAt (folds search) text (bytes_of search)) 0 place → Lack fold whole re (lines before)
+    → Nowhere (IsSoughtAt search text) 0 place → Lack fold whole re (lines before)
 lack-literal fold whole re literal search text before more place is looked cut low nowhere =
     let looks : Looks search fold re = subst (λ literal. IfSome literal (λ search. Looks search fold re)) is looked in
-    let here : Nowhere (StandsAt fold text (bytes_of search)) 0 place =
-    subst (λ fold. Nowhere (StandsAt fold text (bytes_of search)) 0 place) looks.cases nowhere in
-    all-map (λ line. ¬ Contains fold line (bytes_of search)) (λ line. ¬ Has fold whole line re)
-    (λ line lacking has. lacking (has_literal fold whole re line (bytes_of search) looks.required has)) (lines before)
-    (literal-passed fold text before more (bytes_of search) place cut low looks.some here)
+    all-map (λ line. (at : ℕ) → ¬ IsSoughtAt search line at) (λ line. ¬ Has fold whole line re)
+    (λ line lacking has. let there = has_sought fold whole re line search looks has in lacking there.0 there.1) (lines before)
+    (sought-passed search fold re text before more place looks cut low nowhere)
 
 -- a line for which a table has no answer lacks the expression
 pub lack-table : (machine : Machine) (fold whole : Bool) (re : Tree) (table : Table) (text before more : List ℕ) → Seeks machine fold whole re

@@ -20,6 +20,8 @@ pub mod RunLemmas
 pub mod TwinLemmas
 pub mod LineLemmas
 pub mod CutLemmas
+pub mod FrontLemmas
+pub mod LaneLemmas
 pub mod LiteralLemmas
 pub mod FoldedLemmas
 pub mod TextLemmas

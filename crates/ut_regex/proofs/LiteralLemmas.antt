@@ -6,30 +6,38 @@ use Rattle.std.proofs.lemmas.Bool.Decides.{nat_tests}
 use Rattle.memchr.specs.Find.{FindsNeedle, Nowhere, OccursAt, is_byte2}
 use Rattle.ut_regex.specs.declared.literals.Required.{Required}
 use Rattle.ut_regex.specs.declared.search.Search.{Search}
-use Rattle.ut_regex.specs.declared.search.Search.TheVariants.{Exact}
+use Rattle.ut_regex.specs.declared.folded.Folded.{Folded}
+use Rattle.ut_regex.specs.declared.front.Front.{Front}
+use Rattle.ut_regex.specs.declared.front_search.FrontSearch.{FrontSearch}
+use Rattle.ut_regex.specs.declared.search.Search.TheVariants as search
+use Rattle.ut_regex.specs.declared.tree.Leaf.{Leaf}
 use Rattle.ut_regex.specs.declared.tree.Leaf.TheVariants.{Byte}
 use Rattle.ut_regex.specs.declared.tree.Node.{Node}
 use Rattle.ut_regex.specs.Tree.{Tree, last_tree, trees_before, with_node, with_nodes, sequence}
 use Rattle.ut_regex.specs.Spans.{is_from, other_case, fits, Spans, Has}
-use Rattle.ut_regex.specs.Inner.Searches.{bytes_of, folds, Looks}
+use Rattle.ut_regex.specs.Inner.Fronts.{FitAt, IsFront}
+use Rattle.ut_regex.specs.Inner.Searches.{IsSoughtAt, Looks}
 use Rattle.ut_regex.specs.Inner.Literals.{StandsAt, Contains, StandsBefore, IsLiteral, Requires, AreRequired}
 
 -- nothing at all is required of any expression
 pub nothing_required : (required : Required) → required.inner.items ≡ [] → required.suffix.items ≡ [] → required.exact ≡ false
-    → (fold : Bool) (re : Tree) → Requires fold re required
-nothing_required required inner suffix exact fold re = record {
+    → (fold : Bool) (re : Tree) → IsFront fold re required.front → Requires fold re required
+nothing_required required inner suffix exact fold re front = record {
   inner = λ line from to h. subst (λ bytes. Contains fold line bytes) (sym inner) (0, tt);
   suffix = λ line from to h. subst (λ bytes. StandsBefore fold line bytes to) (sym suffix) (to, omega arith, tt);
   exact = λ is. absurd (false≢true (sym exact ∙ is));
+  front = front;
 }
 
 -- what spans no bytes is spanned exactly by none
 pub no_bytes_required : (required : Required) → required.inner.items ≡ [] → required.suffix.items ≡ []
-    → (fold : Bool) (re : Tree) → ((line : List ℕ) (from to : ℕ) → Spans fold line re from to → to ≡ from) → Requires fold re required
-no_bytes_required required inner suffix fold re nowhere = record {
+    → (fold : Bool) (re : Tree) → ((line : List ℕ) (from to : ℕ) → Spans fold line re from to → to ≡ from) → IsFront fold re required.front
+    → Requires fold re required
+no_bytes_required required inner suffix fold re nowhere front = record {
   inner = λ line from to h. subst (λ bytes. Contains fold line bytes) (sym inner) (0, tt);
   suffix = λ line from to h. subst (λ bytes. StandsBefore fold line bytes to) (sym suffix) (to, omega arith, tt);
   exact = λ is line from to h. let no : length required.suffix.items ≡ 0 = ap length suffix in omega (arith, nowhere line from to h, no);
+  front = front;
 }
 
 -- bytes stand behind others
@@ -42,8 +50,9 @@ stands-append fold line (byte ∷ front) back place (within, is, more) k =
 -- an exact part behind another one makes its suffix longer
 pub exact_followed : (fold : Bool) (re last : Tree) (first second required : Required) → Requires fold re first → Requires fold last second → second.exact ≡ true
     → ((line : List ℕ) → Contains fold line first.inner.items → Contains fold line second.inner.items → Contains fold line required.inner.items)
-    → required.suffix.items ≡ first.suffix.items ++ second.suffix.items → required.exact ≡ first.exact → Requires fold (sequence re last) required
-exact_followed fold re last first second required front back second_exact longer suffix exact =
+    → required.suffix.items ≡ first.suffix.items ++ second.suffix.items → required.exact ≡ first.exact → IsFront fold (sequence re last) required.front
+    → Requires fold (sequence re last) required
+exact_followed fold re last first second required front back second_exact longer suffix exact begins =
     let size : length required.suffix.items ≡ length first.suffix.items + length second.suffix.items =
     ap length suffix ∙ length-append first.suffix.items second.suffix.items in
     record {
@@ -60,6 +69,7 @@ exact_followed fold re last first second required front back second_exact longer
           );
       exact = λ is line from to h.
           omega (arith, front.exact (sym exact ∙ is) line from h.0 h.1, back.exact second_exact line h.0 to h.2, size);
+      front = begins;
     }
 
 -- what is required of a node's tree, and of the trees before it
@@ -130,29 +140,72 @@ pub stands_where_occurs : (line bytes : List ℕ) (place : ℕ) → OccursAt lin
 stands_where_occurs line bytes place occurs = stands_all false line bytes place occurs.fits (λ offset low.
     ap (λ same. same || false) (eq-eqb (slice_index line (place + offset)) (slice_index bytes offset) (occurs.reads offset low)))
 
--- a line that has an expression contains its literal
-pub has_literal : (fold whole : Bool) (re : Tree) (line bytes : List ℕ) → IsLiteral fold re bytes → Has fold whole line re → Contains fold line bytes
-has_literal fold true re line bytes literal h = literal line 0 (length line) h
-has_literal fold false re line bytes literal (from, to, within, h) = literal line from to h
+-- in a line that has an expression stands what is searched for
+pub has_sought : (fold whole : Bool) (re : Tree) (line : List ℕ) (search : Search) → Looks search fold re → Has fold whole line re
+    → (place : ℕ) × IsSoughtAt search line place
+has_sought fold true re line search looks h = looks.required line 0 (length line) h
+has_sought fold false re line search looks (from, to, within, h) = looks.required line from to h
+
+-- searches for a literal and for a front
+pub looks-exact : (fold : Bool) (re : Tree) (bytes found : List ℕ) → found ≡ bytes → fold ≡ false → 0 < length bytes → IsLiteral fold re bytes
+    → Looks (search.Exact found) fold re
+looks-exact fold re bytes found same plain some literal = record {
+  required = λ line from to h.
+      let there = literal line from to h in
+      (there.0, subst (λ bytes. StandsAt false line bytes there.0) (sym same) (subst (λ fold. StandsAt fold line bytes there.0) plain there.1));
+  some = λ line place h. stands_long false line found place h (subst (λ bytes. 0 < length bytes) (sym same) some);
+}
+
+pub looks-folded : (fold : Bool) (re : Tree) (bytes : List ℕ) (folded : Folded) → folded.bytes.items ≡ bytes → fold ≡ true → 0 < length bytes → IsLiteral fold re bytes
+    → Looks (search.Folded folded) fold re
+looks-folded fold re bytes folded same both some literal = record {
+  required = λ line from to h.
+      let there = literal line from to h in
+      (there.0, subst (λ bytes. StandsAt true line bytes there.0) (sym same) (subst (λ fold. StandsAt fold line bytes there.0) both there.1));
+  some = λ line place h. stands_long true line folded.bytes.items place h (subst (λ bytes. 0 < length bytes) (sym same) some);
+}
+
+fit-long : (fold : Bool) (line : List ℕ) (leaves : List Leaf) (place : ℕ) → FitAt fold line leaves place → 0 < length leaves → place < length line
+fit-long fold line [] place h some = absurd (omega (arith, some))
+fit-long fold line (one ∷ leaves) place (within, is, more) some = within
+
+pub looks-front : (fold : Bool) (re : Tree) (front : Front) (found : FrontSearch) → found.leaves.items ≡ front.leaves.items → found.fold ≡ fold
+    → 0 < length found.leaves.items → IsFront fold re front → Looks (search.Front found) fold re
+looks-front fold re front found same folds some begun = record {
+  required = λ line from to h.
+      (from, subst (λ leaves. FitAt found.fold line leaves from) (sym same) (subst (λ fold. FitAt fold line front.leaves.items from) (sym folds) (begun.begins line from to h)));
+  some = λ line place h. fit-long found.fold line found.leaves.items place h some;
+}
+
+-- what is searched for is required of an expression
+pub front-looks : (made : Option Search) (fold : Bool) (required : Required) → IfSome made (λ search. (re : Tree) → IsFront fold re required.front → Looks search fold re)
+    → IfSome made (λ search. (re : Tree) → Requires fold re required → Looks search fold re)
+front-looks (Some search) fold required looks = λ re h. looks re h.front
+front-looks None fold required looks = tt
+
+pub looks-made : (made : Option Search) (fold : Bool) (required : Required) (re : Tree) → IfSome made (λ search. (re : Tree) → Requires fold re required → Looks search fold re)
+    → Requires fold re required → IfSome made (λ search. Looks search fold re)
+looks-made (Some search) fold required re looks h = looks re h
+looks-made None fold required re looks h = tt
 
 -- the nodes that a walk has come over at its end are all of them
 pub all_taken : (nodes : List Node) (count : ℕ) → length nodes ≤ count → with_nodes [] (take count nodes) ≡ with_nodes [] nodes
 all_taken nodes count h = ap (λ all. with_nodes [] all) (take_all count nodes h)
 
 -- a search for bytes as they are
-pub exact-first : (search : Search) (bytes text : List ℕ) (place : ℕ) → search ≡ Exact bytes → FindsNeedle text bytes 0 (Some place)
-    → Nowhere (StandsAt (folds search) text (bytes_of search)) 0 place
-exact-first search bytes text place is found = rw is (λ at low before stands.
+pub exact-first : (sought : Search) (bytes text : List ℕ) (place : ℕ) → sought ≡ search.Exact bytes → FindsNeedle text bytes 0 (Some place)
+    → Nowhere (IsSoughtAt sought text) 0 place
+exact-first sought bytes text place is found = rw is (λ at low before stands.
     let within = found.0.high in
     found.0.before at low before (occurs_there text bytes at (omega (arith, within, before)) stands))
 
-pub exact-stands : (search : Search) (bytes text : List ℕ) (place : ℕ) → search ≡ Exact bytes → FindsNeedle text bytes 0 (Some place)
-    → StandsAt (folds search) text (bytes_of search) place
-exact-stands search bytes text place is found = rw is (stands_where_occurs text bytes place found.1)
+pub exact-stands : (sought : Search) (bytes text : List ℕ) (place : ℕ) → sought ≡ search.Exact bytes → FindsNeedle text bytes 0 (Some place)
+    → IsSoughtAt sought text place
+exact-stands sought bytes text place is found = rw is (stands_where_occurs text bytes place found.1)
 
-pub exact-none : (search : Search) (bytes text : List ℕ) → search ≡ Exact bytes → FindsNeedle text bytes 0 None
-    → Nowhere (StandsAt (folds search) text (bytes_of search)) 0 (length text)
-exact-none search bytes text is none = rw is (λ at low before stands.
+pub exact-none : (sought : Search) (bytes text : List ℕ) → sought ≡ search.Exact bytes → FindsNeedle text bytes 0 None
+    → Nowhere (IsSoughtAt sought text) 0 (length text)
+exact-none sought bytes text is none = rw is (λ at low before stands.
     none at low (omega (arith, before)) (occurs_there text bytes at (omega (arith, before)) stands))
 
 -- a letter's other case has that letter as its other case
@@ -168,18 +221,16 @@ fits_either wanted byte h = by_test (byte == wanted) refl h
     by_test true is h = refl
     by_test false is h = eq-eqb byte (other_case wanted) (sym (other_case_twice byte) ∙ ap other_case (eqb-true (other_case byte) wanted h))
 
--- a line in which the literal of an expression stands nowhere lacks the expression
+-- a line in which what is searched for stands nowhere lacks the expression
 pub lacking_literal : (fold whole : Bool) (re : Tree) (line : List ℕ) (literal : Option Search) → IfSome literal (λ search. Looks search fold re)
-    → MatchOption literal ⊥ (λ search. Nowhere (StandsAt (folds search) line (bytes_of search)) 0 (length line)) → ¬ Has fold whole line re
+    → MatchOption literal ⊥ (λ search. Nowhere (IsSoughtAt search line) 0 (length line)) → ¬ Has fold whole line re
 lacking_literal fold whole re line (Some search) looks nowhere has =
-    let there = has_literal fold whole re line (bytes_of search) looks.required has in
-    let same : StandsAt (folds search) line (bytes_of search) there.0 = subst (λ fold. StandsAt fold line (bytes_of search) there.0) (sym looks.cases) there.1 in
-    nowhere there.0 (omega arith) (stands_long fold line (bytes_of search) there.0 there.1 looks.some) same
+    let there = has_sought fold whole re line search looks has in
+    nowhere there.0 (omega arith) (looks.some line there.0 there.1) there.1
 lacking_literal fold whole re line None looks nowhere has = absurd nowhere
 
--- where the first place is the line's end, the bytes stand nowhere in it
+-- where the first place is the line's end, what is searched for stands nowhere in it
 pub nowhere_there : (literal : Option Search) (search : Search) (line : List ℕ) (place : ℕ) → literal ≡ Some search → (place == length line) ≡ true
-    → Nowhere (StandsAt (folds search) line (bytes_of search)) 0 place
-    → MatchOption literal ⊥ (λ search. Nowhere (StandsAt (folds search) line (bytes_of search)) 0 (length line))
+    → Nowhere (IsSoughtAt search line) 0 place → MatchOption literal ⊥ (λ search. Nowhere (IsSoughtAt search line) 0 (length line))
 nowhere_there literal search line place is same nowhere =
-    rw is (subst (λ end. Nowhere (StandsAt (folds search) line (bytes_of search)) 0 end) (eqb-true place (length line) same) nowhere)
+    rw is (subst (λ end. Nowhere (IsSoughtAt search line) 0 end) (eqb-true place (length line) same) nowhere)

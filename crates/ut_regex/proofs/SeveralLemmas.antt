@@ -87,6 +87,14 @@ side_more (first ∷ left) re other is some =
     ∙ ap (λ rest. or_any (alternative re (tree other)) (trees_of rest)) (all-take left)
     ∙ ap (λ other. or_any (alternative re (tree other)) (trees_of left)) is
 
+pub any_more : (all : List Regex) (first : Regex) → first ≡ get_or all 0 first → 1 ≤ length all
+    → or_any (tree first) (trees_of (take (length all - 1) (drop 1 all))) ≡ any_of (trees_of all)
+any_more [] first is some = absurd (omega (arith, some))
+any_more (one ∷ others) first is some =
+    let size : length (one ∷ others) - 1 ≡ length others = omega arith in
+    ap (λ count. or_any (tree first) (trees_of (take count others))) size ∙ ap (λ rest. or_any (tree first) (trees_of rest)) (all-take others)
+    ∙ ap (λ first. or_any (tree first) (trees_of others)) is
+
 pub byte_more : (left : List ℕ) (re : Tree) → 1 ≤ length left
     → then_bytes (sequence re (leaf (Byte (get_or left 0 0)))) (take (length left - 1) (drop 1 left)) ≡ then_bytes re left
 byte_more [] re some = absurd (omega (arith, some))

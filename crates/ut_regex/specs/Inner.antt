@@ -10,6 +10,8 @@ pub mod Idling
 pub mod Starts
 pub mod Made
 pub mod Twins
+pub mod Fronts
+pub mod Lanes
 pub mod Literals
 pub mod Searches
 pub mod Passed

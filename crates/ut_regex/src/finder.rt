@@ -8,7 +8,7 @@ use crate::machine::Machine;
 use crate::search::Search;
 use crate::table::Table;
 
-/// Seeks one expression in lines. A line without the bytes that the expression needs lacks it. Of the others a table of the
+/// Seeks one expression in lines. A line without the bytes that the expression needs or begins with lacks it. Of the others a table of the
 /// machine's states answers where they are few, and else one that is filled with the states to which the lines lead; where that has no
 /// more room, the machine itself.
 #[derive(Drop)]

@@ -4,8 +4,9 @@
 //! matcher of an expression, and `Matcher::has` answers whether a line has it. The matcher carries a set of places along the
 //! line, so no expression makes it go back, and it takes no memory for a line. Which set follows which at a byte stands in a table, which
 //! is made whole where it is small, and else filled as lines are run over. `Matcher::first_having` finds the first line of a
-//! text that has it, and looks for the ends of lines only where a line may; where the bytes at which a match may begin are rare, it
-//! looks for the next of them, and a line that can't have it any more is left for its end.
+//! text that has it, and looks for the ends of lines only where a line may: where bytes stand that each match has in a row, or else bytes
+//! with which a match may begin, of which up to four are told at 64 places at a time, so that many words are sought together. Where
+//! these are frequent, a table looks for the next byte at which a match may begin, and leaves a line that can't have one for its end.
 //!
 //! `specs/Spans.antt` says which places of a line an expression spans, and which lines have it; `specs/Having.antt` says which
 //! line of a text is the first that has it; `specs/Reading.antt` says which texts are expressions, of which tree, and what the
@@ -24,8 +25,11 @@ mod fault;
 mod finder;
 mod fixed;
 mod folded;
+mod front;
+mod front_search;
 mod idle;
 mod intervals;
+mod lanes;
 pub mod laws;
 mod literals;
 mod machine;

@@ -1,9 +1,12 @@
-//! Bytes that every line with an expression has in a row.
+//! What every line with an expression has: bytes in a row, and bytes that it begins with.
 ghost use Rattle.std.specs.Prelude.{◌≡◌, ℕ, Bool, List, [], IfOk, OnOk, reverse};
-ghost use Rattle.ut_regex.specs.Tree.{Tree, leaf, line_begin, line_end, empty, group, sequence, repetition, last_tree, trees_before, with_node, with_nodes};
-ghost use Rattle.ut_regex.specs.Inner.Literals.{AreRequired, Contains, IsLiteral, Requires};
+ghost use Rattle.ut_regex.specs.Inner.Fronts.{IsFront};
+ghost use Rattle.ut_regex.specs.Several.{any_of, or_any, trees_of};
+ghost use Rattle.ut_regex.specs.Tree.{Tree, leaf, line_begin, line_end, empty, group, sequence, alternative, repetition, last_tree, trees_before, tree, with_node, with_nodes};
+ghost use Rattle.ut_regex.specs.Inner.Literals.{AreRequired, Contains, Requires};
 
-use crate::tree::{Bounds, Leaf, Node};
+use crate::front::Front;
+use crate::tree::{Bounds, Leaf, Node, Regex};
 use std::alloc::{AllocError, Global};
 
 /// What is required of all that an expression spans.
@@ -15,6 +18,8 @@ pub(crate) struct Required {
     pub suffix: Vec<u8>,
     /// Whether the suffix is all of it.
     pub exact: bool,
+    /// What it begins with.
+    pub front: Front,
 }
 
 impl Required {
@@ -26,6 +31,19 @@ impl Required {
             inner: Vec::new(alloc),
             suffix: Vec::new(alloc),
             exact: false,
+            front: Front::unknown(alloc),
+        }
+    }
+
+    /// Nothing but the front is known.
+    fn of_front(alloc: Global, front: Front) -> Required
+        ensures { (fold : Bool) (re : Tree) → IsFront fold re front → Requires fold re result }
+    {
+        Required {
+            inner: Vec::new(alloc),
+            suffix: Vec::new(alloc),
+            exact: false,
+            front,
         }
     }
 
@@ -39,6 +57,7 @@ impl Required {
             inner: Vec::new(alloc),
             suffix: Vec::new(alloc),
             exact: true,
+            front: Front::no_bytes(alloc),
         }
     }
 
@@ -46,13 +65,15 @@ impl Required {
     fn of_leaf(alloc: Global, one: Leaf) -> Result<Required, AllocError>
         ensures { IfOk result (λ required. (fold : Bool) → Requires fold (leaf one) required) }
     {
+        let front = Front::of_leaf(alloc, one)?;
         match one {
             Leaf::Byte(byte) => Ok(Required {
                 inner: Vec::new(alloc),
                 suffix: vec![in alloc; byte]?,
                 exact: true,
+                front,
             }),
-            Leaf::Any | Leaf::Among(_) | Leaf::NotAmong(_) => Ok(Required::nothing(alloc)),
+            Leaf::Any | Leaf::Among(_) | Leaf::NotAmong(_) => Ok(Required::of_front(alloc, front)),
         }
     }
 
@@ -61,6 +82,7 @@ impl Required {
         ensures { IfOk result (λ required. (fold : Bool) (re last : Tree) → Requires fold re self → Requires fold last second
             → Requires fold (sequence re last) required) }
     {
+        let front = self.front.followed_by(second.front)?;
         if second.exact {
             let mut suffix = self.suffix;
             suffix.extend_from_slice(&second.suffix)?;
@@ -68,6 +90,7 @@ impl Required {
                 inner: longer(self.inner, second.inner),
                 suffix,
                 exact: self.exact,
+                front,
             });
         }
         let before = longer(self.inner, self.suffix);
@@ -75,7 +98,17 @@ impl Required {
             inner: longer(before, second.inner),
             suffix: second.suffix,
             exact: false,
+            front,
         })
+    }
+
+    /// A part or another one.
+    fn or(self, alloc: Global, second: Required) -> Result<Required, AllocError>
+        ensures { IfOk result (λ required. (fold : Bool) (re other : Tree) → Requires fold re self → Requires fold other second
+            → Requires fold (alternative re other) required) }
+    {
+        let front = self.front.or(alloc, second.front)?;
+        Ok(Required::of_front(alloc, front))
     }
 
     /// A part some number of times. Where it may be left out nothing is required.
@@ -89,12 +122,13 @@ impl Required {
             inner: self.inner,
             suffix: self.suffix,
             exact: false,
+            front: self.front.repeated(),
         }
     }
 }
 
 /// The longer one of two literals.
-fn longer(first: Vec<u8>, second: Vec<u8>) -> Vec<u8>
+pub(crate) fn longer(first: Vec<u8>, second: Vec<u8>) -> Vec<u8>
     ensures { (fold : Bool) (line : List ℕ) → Contains fold line first.items → Contains fold line second.items → Contains fold line result.items }
 {
     if first.len() < second.len() {
@@ -104,16 +138,42 @@ fn longer(first: Vec<u8>, second: Vec<u8>) -> Vec<u8>
     }
 }
 
-/// Bytes that a line has in a row wherever it has the expression of these nodes. There are none where none are known.
-pub(crate) fn literal_of(alloc: Global, nodes: &[Node]) -> Result<Vec<u8>, AllocError>
-    ensures { IfOk result (λ literal. (fold : Bool) → IsLiteral fold (last_tree (with_nodes [] nodes.now)) literal.items) }
+/// What is required of all that one of several expressions spans.
+pub(crate) fn required_of_any(alloc: Global, expressions: &[Regex]) -> Result<Required, AllocError>
+    ensures { IfOk result (λ required. (fold : Bool) → Requires fold (any_of (trees_of expressions.now)) required) }
+{
+    match expressions {
+        [] => Ok(Required::nothing(alloc)),
+        [first, others @ ..] => {
+            let required = required_of(alloc, &first.nodes)?;
+            with_sides(alloc, required, others)
+        }
+    }
+}
+
+/// What is required of all that an expression or one of others spans.
+fn with_sides(alloc: Global, first: Required, others: &[Regex]) -> Result<Required, AllocError>
+    ensures { IfOk result (λ made. (fold : Bool) (re : Tree) → Requires fold re first → Requires fold (or_any re (trees_of others.now)) made) }
+{
+    let mut required = first;
+    let mut left = others;
+    while let [other, rest @ ..] = left {
+        let side = required_of(alloc, &other.nodes)?;
+        required = required.or(alloc, side)?;
+        left = rest;
+    }
+    Ok(required)
+}
+
+/// What is required of all that the expression of these nodes spans.
+pub(crate) fn required_of(alloc: Global, nodes: &[Node]) -> Result<Required, AllocError>
+    ensures { IfOk result (λ required. (fold : Bool) → Requires fold (last_tree (with_nodes [] nodes.now)) required) }
 {
     let mut parts = Vec::new(alloc);
     for node in nodes {
         add_node(alloc, &mut parts, *node)?;
     }
-    let last = last_part(alloc, &mut parts);
-    Ok(longer(last.inner, last.suffix))
+    Ok(last_part(alloc, &mut parts))
 }
 
 /// Makes one part of the last parts, as a node says.
@@ -140,9 +200,8 @@ fn part_of(alloc: Global, parts: &mut Vec<Required>, node: Node) -> Result<Requi
             last_part(alloc, parts).followed_by(second)
         }
         Node::Alternative => {
-            let _second = last_part(alloc, parts);
-            let _first = last_part(alloc, parts);
-            Ok(Required::nothing(alloc))
+            let second = last_part(alloc, parts);
+            last_part(alloc, parts).or(alloc, second)
         }
         Node::Repetition(bounds) => Ok(last_part(alloc, parts).repeated(alloc, bounds)),
     }

@@ -6,8 +6,7 @@ ghost use Rattle.ut_regex.specs.Answers.{answers, is_had};
 ghost use Rattle.ut_regex.specs.Finds.{Finds};
 ghost use Rattle.ut_regex.specs.Inner.Caches.{Serves};
 ghost use Rattle.ut_regex.specs.declared.machine.Machine.{Machine};
-ghost use Rattle.ut_regex.specs.Inner.Literals.{StandsAt};
-ghost use Rattle.ut_regex.specs.Inner.Searches.{bytes_of, folds};
+ghost use Rattle.ut_regex.specs.Inner.Searches.{IsSoughtAt};
 ghost use Rattle.ut_regex.specs.Several.{any_of, trees_of};
 ghost use Rattle.ut_regex.specs.Tree.{tree};
 
@@ -15,7 +14,7 @@ use crate::cache::Cache;
 use crate::cuts::{Cut, cut_around};
 use crate::expansion::{program_of, program_of_any};
 use crate::finder::Matcher;
-use crate::literals::literal_of;
+use crate::literals::{required_of, required_of_any};
 use crate::machine::Machine;
 use crate::search::Search;
 use crate::table::Table;
@@ -33,7 +32,8 @@ pub fn compile(alloc: Global, re: &Regex, fold: bool, whole: bool) -> Result<Mat
     let mut machine = Machine::running(alloc, steps, fold, whole)?;
     let table = Table::of(alloc, &mut machine)?;
     let cache = cache_beside(alloc, &table, machine.steps.len())?;
-    let literal = Search::of(alloc, literal_of(alloc, &re.nodes)?, fold)?;
+    let required = required_of(alloc, &re.nodes)?;
+    let literal = Search::of(alloc, required, fold)?;
     Ok(Matcher {
         machine,
         table,
@@ -61,11 +61,13 @@ pub fn compile_any(
     let mut machine = Machine::running(alloc, steps, fold, whole)?;
     let table = Table::of(alloc, &mut machine)?;
     let cache = cache_beside(alloc, &table, machine.steps.len())?;
+    let required = required_of_any(alloc, expressions)?;
+    let literal = Search::of(alloc, required, fold)?;
     Ok(Matcher {
         machine,
         table,
         cache,
-        literal: None,
+        literal,
     })
 }
 
@@ -85,7 +87,7 @@ fn cache_beside(
 
 /// Whether the line is known to lack what is searched for.
 fn lacks(literal: &Option<Search>, line: &[u8]) -> bool
-    ensures { result ≡ true → MatchOption literal.now ⊥ (λ search. Nowhere (StandsAt (folds search) line.now (bytes_of search)) 0 (length line.now)) }
+    ensures { result ≡ true → MatchOption literal.now ⊥ (λ search. Nowhere (IsSoughtAt search line.now) 0 (length line.now)) }
 {
     match literal {
         Some(search) => search.first_place(line) == line.len(),

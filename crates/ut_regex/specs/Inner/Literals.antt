@@ -1,6 +1,7 @@
 -- Bytes that a line has in a row wherever it has an expression. The code looks for them first.
 use Rattle.std.specs.Prelude.{ℕ, ◌≡◌, ◌+◌, ◌<◌, Bool, true, List, [], ◌∷◌, length, slice_index}
 use Rattle.ut_regex.specs.declared.literals.Required.{Required}
+use Rattle.ut_regex.specs.Inner.Fronts.{IsFront}
 use Rattle.ut_regex.specs.Tree.{Tree, last_tree, trees_before}
 use Rattle.ut_regex.specs.declared.tree.Leaf.TheVariants.{Byte}
 use Rattle.ut_regex.specs.Spans.{fits, Spans}
@@ -27,6 +28,7 @@ pub record Requires (fold : Bool) (re : Tree) (required : Required) : Type 0 whe
   pub inner : IsLiteral fold re required.inner.items
   pub suffix : (line : List ℕ) (from to : ℕ) → Spans fold line re from to → StandsBefore fold line required.suffix.items to
   pub exact : required.exact ≡ true → (line : List ℕ) (from to : ℕ) → Spans fold line re from to → to ≡ from + length required.suffix.items
+  pub front : IsFront fold re required.front
 
 -- each of a list is required of its tree
 abbrev pub AreRequired : Bool → List Required → List Tree → Type 0

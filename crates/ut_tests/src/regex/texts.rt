@@ -1,7 +1,7 @@
 //! Lines of texts that have an expression; what is wanted is what GNU grep prints in the C locale.
 
 use crate::columns::unescaped;
-use ps_lines::{Memory, is_closed};
+use ps_lines::{Memory, cut_line, is_closed};
 use std::alloc::{AllocError, Global};
 use std::test::Fail;
 use ut_regex::{Matcher, ReFault, Regex, compile, compile_any, read_bre, read_ere};
@@ -194,6 +194,91 @@ i;[xyz]q*[12];X1\nx\nyQq2\nq1\n;X1\nyQq2\n
 x;[xyz]b*;axb\nxb\nxbx\ny\n;xb\ny\n
 -;[^ -~]1*;x\n\t\nx1\n\xc3\xa91\n;\t\n\xc3\xa91\n
 -;[^a-d ]e*f;af\nf\nef\nxeef\n;ef\nxeef\n";
+
+/// The same of several words, which are sought by the bytes at their first places.
+static WORDS: &str = r"E;q|xyz|wv;xy\nq\nxyz\nw\nzwv\nxq\nx y z\n;q\nxyz\nzwv\nxq\n
+E;fo|foot|fool;fo\nf\noo\nfoot\nxxfoolxx\nof\n;fo\nfoot\nxxfoolxx\n
+E;foot|fool|for;foo\nfoot\nxfor\nfo\nroof\n;foot\nxfor\n
+E;one|three|seventeen;xone\nthre\n  three\nseventee\nseventeen\non\ne\n;xone\n  three\nseventeen\n
+E;(x|yz)f|w[12]g*;xf\nyf\nyzf\nw\nw3\n w1\nzf\n;xf\nyzf\n w1\n
+E;(xy){2,3}z|[vw]+f;xyz\nxyxyz\nv\nwvf\nf\n xyxyxyz\n;xyxyz\nwvf\n xyxyxyz\n
+E;x..y|v.w;x\nvw\nv w\nxy\nx  y\nx y\n;v w\nx  y\n
+E;^xy|yz$;xyz\n xy\nyzx\nyz\n;xyz\nyz\n
+i;[xy]Of[12];xof1\nOf1\nYoF2x\nzof1\nxof\n;xof1\nYoF2x\n
+x;[xy]f[12]*;xf\nxf12\nxfx\nzxf\nyf3\n;xf\nxf12\n
+-;[^ -~][^ -~]t;\xc3\xa9t\n\xe9t\nxc3\n\xc3\xa9\n \xc3\xa9\xa9t\n;\xc3\xa9t\n \xc3\xa9\xa9t\n
+-;[pq][pq][pq]f;pqp\n\xf0\xf1\xf0f\npqpf\nqf\n qqqqf\n;pqpf\n qqqqf\n";
+
+/// Whether exactly what a row wants is printed of its lines, behind some numbers of others.
+fn holds_at(alloc: Global, row: &str) -> Result<bool, Fail> {
+    let mut all = true;
+    for distance in [0, 1, 2, 3, 4, 5, 9, 100] {
+        all &= holds(alloc, row, distance)?;
+    }
+    Ok(all)
+}
+
+#[test]
+fn one_of_several_words_is_found(rt: HostRuntime) -> Result<(), Fail> {
+    for row in WORDS.lines() {
+        assert!(rt; holds_at(rt.alloc(), row)?, "{row}");
+    }
+    Ok(())
+}
+
+/// A text in which a word stands behind so many other bytes of its line, with other lines behind it.
+fn text_around(alloc: Global, word: &[u8], before: usize) -> Result<Vec<u8>, AllocError> {
+    let mut text = Vec::new(alloc);
+    for _ in 0..before {
+        text.push(b'-')?;
+    }
+    text.extend_from_slice(word)?;
+    for _ in 0..5 {
+        text.extend_from_slice(b"\n---------------")?;
+    }
+    text.push(b'\n')?;
+    Ok(text)
+}
+
+/// Whether this is the first line of a text, with its newline.
+fn is_first_line(found: &[u8], text: &[u8]) -> bool {
+    match (cut_line(found), cut_line(text)) {
+        (Some((line, rest)), Some((first, _))) => line == first && rest.is_empty(),
+        _ => false,
+    }
+}
+
+/// Whether the line of a word behind so many bytes is printed alone.
+fn finds_behind(
+    alloc: Global,
+    matcher: &mut Matcher,
+    word: &[u8],
+    before: usize,
+) -> Result<bool, AllocError> {
+    let text = text_around(alloc, word, before)?;
+    let found = printed(alloc, matcher, text.as_slice())?;
+    Ok(is_first_line(found.as_slice(), text.as_slice()))
+}
+
+/// Whether words are found behind any number of bytes up to two blocks.
+fn finds_anywhere(alloc: Global, matcher: &mut Matcher) -> Result<bool, AllocError> {
+    let mut all = true;
+    for before in 0..140 {
+        for word in [b"q".as_slice(), b"foot", b"xyz"] {
+            all &= finds_behind(alloc, matcher, word, before)?;
+        }
+    }
+    Ok(all)
+}
+
+#[test]
+fn words_are_found_at_each_place_of_a_block(rt: HostRuntime) -> Result<(), Fail> {
+    let mut matcher = matcher_of(rt.alloc(), "E", "q|foot|xyz")?;
+    let holds = finds_anywhere(rt.alloc(), &mut matcher);
+    drop(matcher);
+    assert!(rt; holds?);
+    Ok(())
+}
 
 #[test]
 fn lines_far_apart_are_found(rt: HostRuntime) -> Result<(), Fail> {

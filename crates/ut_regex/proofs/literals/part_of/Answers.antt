@@ -17,10 +17,10 @@ returns-in-Sequence c = if_ok_map c.followed_by.result (λ made followed fold tr
     at_node fold trees made _ c.args.node node.Sequence c.in-Sequence.is (followed fold _ _ first.0 second.0) first.1) c.followed_by.ensures
 
 pub returns-in-Alternative : goal.returns-in-Alternative
-returns-in-Alternative c = λ fold trees are.
+returns-in-Alternative c = if_ok_map c.or.result (λ made either fold trees are.
     let second = c.last_part-second-in-Alternative.ensures fold trees are in
-    let first = c.last_part-first.ensures fold _ second.1 in
-    at_node fold trees _ _ c.args.node node.Alternative c.in-Alternative.is (c.nothing.ensures fold _) first.1
+    let first = c.last_part-in-Alternative.ensures fold _ second.1 in
+    at_node fold trees made _ c.args.node node.Alternative c.in-Alternative.is (either fold _ _ first.0 second.0) first.1) c.or.ensures
 
 pub returns-in-Repetition : goal.returns-in-Repetition
 returns-in-Repetition c = λ fold trees are.

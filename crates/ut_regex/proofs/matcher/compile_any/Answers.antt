@@ -2,6 +2,7 @@ use Rattle.std.proofs.Common.{rules}
 use Rattle.std.proofs.lemmas.Grind.{merely}
 use Rattle.ut_regex.specs.Several.{any_of, trees_of}
 use Rattle.ut_regex.proofs.FilledLemmas.{serves-held}
+use Rattle.ut_regex.proofs.LiteralLemmas.{looks-made}
 use Rattle.ut_regex.proofs.matcher.compile_any.Goals as goal
 
 pub invariant_of-result : goal.invariant_of-result
@@ -13,6 +14,8 @@ invariant_of-result c = record {
     re = any_of (trees_of c.args.expressions.now);
     seeks = search rules;
     made = search rules;
-    looks = tt;
+    looks =
+        looks-made c.in_ok-literal.literal c.args.fold c.in_ok-required.required (any_of (trees_of c.args.expressions.now)) c.in_ok-literal.ensures
+        (c.in_ok-required.ensures c.args.fold);
   });
 }

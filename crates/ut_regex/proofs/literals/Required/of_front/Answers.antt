@@ -1,0 +1,6 @@
+use Rattle.std.proofs.Common.{refl}
+use Rattle.ut_regex.proofs.LiteralLemmas.{nothing_required}
+use Rattle.ut_regex.proofs.literals.Required.of_front.Goals as goal
+
+pub returns : goal.returns
+returns c = λ fold re front. nothing_required _ c.new.ensures.items c.new-2.ensures.items refl fold re front

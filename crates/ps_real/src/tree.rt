@@ -1,5 +1,5 @@
 //! The machine's tree of files.
-ghost use Rattle.std.specs.Prelude.{◌≡◌, ◌≤◌, IfOk, IsTrue};
+ghost use Rattle.std.specs.Prelude.{◌≡◌, ◌≤◌, None, IfOk, IfSome, IsTrue};
 ghost use Rattle.std.specs.List.{list_all};
 ghost use Rattle.ps_lines.specs.Texts.{texts_of};
 ghost use Rattle.ps_world.specs.Counts.{Counts, one_more};
@@ -24,6 +24,18 @@ pub struct RealTree {
     faults: u64,
     lent: u64,
     back: u64,
+    /// The path of the last writer that was lent to append, while it is out.
+    appending: Option<Path>,
+    kept: Option<Kept>,
+}
+
+/// A file that was appended to, and stays open until the tree is asked for something else: commands in a loop whose output goes to
+/// one file append to it in turn.
+#[derive(Drop)]
+struct Kept {
+    path: Path,
+    writer: Writing<File>,
+    ghost calm: { writer.faults ≡ 0 },
 }
 
 impl RealTree {
@@ -38,6 +50,57 @@ impl RealTree {
             faults: 0,
             lent: 0,
             back: 0,
+            appending: None,
+            kept: None,
+        }
+    }
+
+    /// Closes the file that was kept open, if there is one.
+    fn let_go(&mut self)
+        ensures { self.new ≡ record self.old { kept = None } }
+    {
+        self.kept = None;
+    }
+
+    /// The file that was kept open, where it is the one to append to. It isn't kept then.
+    fn kept_for(&mut self, path: &Path, mode: Mode) -> Option<Writing<File>>
+        ensures calm { IfSome result (λ writer. writer.faults ≡ 0) }
+        ensures kept { self.new ≡ record self.old { kept = None } }
+    {
+        match (mode, self.kept.take()) {
+            (Mode::Append, Some(kept)) if kept.path == *path => Some(kept.writer),
+            _ => None,
+        }
+    }
+
+    /// Opens a file to write it.
+    fn open_writer(&mut self, path: &Path, mode: Mode) -> Result<Writing<File>, WorldErr>
+        ensures calm { IfOk result (λ writer. writer.faults ≡ 0) }
+        ensures kept { self.new ≡ record self.old { faults = self.new.faults } }
+        ensures cause { Counts self.old.faults self.new.faults result }
+    {
+        let name = self.name(path)?;
+        let mut options = OpenOptions::new();
+        options.create(true);
+        match mode {
+            Mode::Fresh => options.write(true).truncate(true),
+            Mode::Append => options.append(true),
+        };
+        match options.open(&self.rt, name.as_str()) {
+            Ok(file) => Ok(Writing::over(file)),
+            Err(_) => Err(self.fail()),
+        }
+    }
+
+    /// Keeps a writer open that was lent to append to this path.
+    fn keep(&mut self, path: &Path, writer: Writing<File>)
+        requires { writer.faults ≡ 0 }
+        ensures { self.new ≡ record self.old { appending = self.new.appending; kept = self.new.kept } }
+    {
+        if let Some(own) = self.appending.take() {
+            if own == *path {
+                self.kept = Some(Kept { path: own, writer });
+            }
         }
     }
 
@@ -140,6 +203,7 @@ impl Tree for RealTree {
     }
 
     fn kind(&mut self, path: &Path) -> Result<Kind, WorldErr> {
+        self.let_go();
         let name = self.name(path)?;
         match fs::metadata(&self.rt, name.as_str()) {
             Ok(found) if found.is_dir() => Ok(Kind::Dir),
@@ -150,6 +214,7 @@ impl Tree for RealTree {
     }
 
     fn list(&mut self, dir: &Path) -> Result<Vec<Vec<u8>>, WorldErr> {
+        self.let_go();
         let name = self.name(dir)?;
         match fs::read_dir(&self.rt, name.as_str()) {
             Ok(entries) => self.names_of(entries),
@@ -159,6 +224,7 @@ impl Tree for RealTree {
 
     /// A file that isn't a regular one, as a pipe, isn't opened for this, and doesn't end in a newline that is known.
     fn ends_line(&mut self, path: &Path) -> Result<bool, WorldErr> {
+        self.let_go();
         let name = self.name(path)?;
         let rest = match last_part(&self.rt, name.as_str()) {
             Ok(Some(rest)) => rest,
@@ -173,6 +239,7 @@ impl Tree for RealTree {
     }
 
     fn open(&mut self, path: &Path) -> Result<Reading<File>, WorldErr> {
+        self.let_go();
         let name = self.name(path)?;
         match File::open(&self.rt, name.as_str()) {
             Ok(file) => {
@@ -185,20 +252,16 @@ impl Tree for RealTree {
 
     /// A file that is made has the mode 0666 without the bits of the process's mask, and Append is the system's.
     fn create(&mut self, path: &Path, mode: Mode) -> Result<Writing<File>, WorldErr> {
-        let name = self.name(path)?;
-        let mut options = OpenOptions::new();
-        options.create(true);
-        match mode {
-            Mode::Fresh => options.write(true).truncate(true),
-            Mode::Append => options.append(true),
+        let writer = match self.kept_for(path, mode) {
+            Some(writer) => writer,
+            None => self.open_writer(path, mode)?,
         };
-        match options.open(&self.rt, name.as_str()) {
-            Ok(file) => {
-                self.count_lent();
-                Ok(Writing::over(file))
-            }
-            Err(_) => Err(self.fail()),
-        }
+        self.appending = match mode {
+            Mode::Fresh => None,
+            Mode::Append => path.copy().ok(),
+        };
+        self.count_lent();
+        Ok(writer)
     }
 
     fn end_read(&mut self, _path: &Path, reader: Reading<File>) {
@@ -208,12 +271,14 @@ impl Tree for RealTree {
         }
     }
 
-    fn end_write(&mut self, _path: &Path, writer: Writing<File>) -> Result<(), WorldErr> {
+    fn end_write(&mut self, path: &Path, writer: Writing<File>) -> Result<(), WorldErr> {
         self.count_back();
         let mut writer = writer;
         let flushed = writer.flush();
         if writer.has_failed() {
             self.fail();
+        } else {
+            self.keep(path, writer);
         }
         flushed
     }

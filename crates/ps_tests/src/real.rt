@@ -76,6 +76,27 @@ fn files_are_made_and_written(rt: HostRuntime) -> Result<(), Fail> {
     Ok(())
 }
 
+/// What is appended to a file that was removed meanwhile goes with it, and what is appended once the tree was asked for something else
+/// makes it anew.
+#[test]
+fn a_file_stays_open_until_something_else_is_asked(rt: HostRuntime) -> Result<(), Fail> {
+    let folder = new_folder(&rt, "kept")?;
+    let file = path_in(&rt, folder.as_str(), b"file")?;
+    let name = spelled(&rt, &file)?;
+    let mut tree = real_tree(&rt)?;
+    write_file(&mut tree, &file, Mode::Append, b"one\n")?;
+    write_file(&mut tree, &file, Mode::Append, b"two\n")?;
+    holds(&rt, &mut tree, &file, true, b"one\ntwo\n")?;
+    write_file(&mut tree, &file, Mode::Append, b"three\n")?;
+    fs::remove_file(&rt, name.as_str())?;
+    write_file(&mut tree, &file, Mode::Append, b"four\n")?;
+    assert_eq!(rt; tree.kind(&file)?, Kind::Missing);
+    write_file(&mut tree, &file, Mode::Append, b"five\n")?;
+    holds(&rt, &mut tree, &file, true, b"five\n")?;
+    fs::remove_dir_all(&rt, folder.as_str())?;
+    Ok(())
+}
+
 /// The names of a folder, in any order, without `.` and `..`.
 #[test]
 fn a_folder_is_listed(rt: HostRuntime) -> Result<(), Fail> {

@@ -72,8 +72,5 @@ pub fn run_over_ends<E: NodeEnds>(alloc: Global, graph: &Graph, ends: &mut E) ->
 fn piece_buffer(alloc: Global) -> Result<Vec<u8>, Memory>
     ensures { IfOk result (λ buffer. (0 < length buffer.items) × (length buffer.items ≤ MAX_PIECE)) }
 {
-    match vec![in alloc; 0; MAX_PIECE] {
-        Ok(buffer) => Ok(buffer),
-        Err(_refused) => Err(Memory),
-    }
+    Ok(vec![in alloc; 0; MAX_PIECE]?)
 }

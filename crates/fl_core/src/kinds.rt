@@ -9,12 +9,7 @@ use ut_args::{Inv, Origin, Report};
 pub fn are_run(nodes: &[Node]) -> bool
     ensures { result ≡ are_run_lem nodes.now }
 {
-    for node in nodes {
-        if !is_run(&node.kind) {
-            return false;
-        }
-    }
-    true
+    nodes.iter().all(|node| is_run(&node.kind))
 }
 
 /// Whether the engine runs a node of this kind.

@@ -43,15 +43,9 @@ pub fn node_machine(
         return hand_on(alloc);
     }
     if runs_utility(kind) {
-        return match util_machine(alloc, kind, ins, outs) {
-            Ok(machine) => Ok(NodeMachine::Util(machine)),
-            Err(memory) => Err(memory),
-        };
+        return Ok(NodeMachine::Util(util_machine(alloc, kind, ins, outs)?));
     }
-    match joint(alloc, kind, ins, outs) {
-        Ok(joint) => Ok(NodeMachine::Joint(joint)),
-        Err(memory) => Err(memory),
-    }
+    Ok(NodeMachine::Joint(joint(alloc, kind, ins, outs)?))
 }
 
 /// Whether this is a source or a sink.

@@ -1,8 +1,8 @@
 //! The ends of nodes in lists, as ends by the numbers of nodes.
-ghost use Rattle.std.specs.Prelude.{◌≡◌, ◌==◌, ℕ, ◌<◌, ◌≤◌, false, true, length, take, Ok, IfOk, OnOk, OnErr, MatchResult, is_some};
+ghost use Rattle.std.specs.Prelude.{◌≡◌, ◌==◌, ℕ, ◌<◌, false, true, length, is_some};
 ghost use Rattle.std.specs.Option.{option_and_then, option_map_or};
 ghost use Rattle.ps_world.specs.Counts.{Counts};
-ghost use Rattle.ps_world.specs.Told.{bytes_then, then_bytes, GrewByPrefix, IsEnded};
+ghost use Rattle.fl_net.specs.NodeEnds.{DidRead, DidWrite};
 ghost use Rattle.fl_core.specs.EndLists.{end_in, numbers_of, left_by, taken_by, faults_by};
 ghost use Rattle.fl_core.specs.Roles.{AreApart, Kept, end_by, is_read, is_written, kept, role_at as role_at_lem};
 
@@ -51,11 +51,7 @@ fn read_end<R: Source, W: Sink, I: Source, O: Sink>(
     buffer: &mut [u8],
 ) -> Result<usize, WorldErr>
     requires reads { is_read (end_by role ends.old) ≡ true }
-    ensures bound { IfOk result (λ count. count ≤ length buffer.new) }
-    ensures bytes { MatchResult result
-        (λ count. left_by R.left I.left (end_by role ends.old) ≡ bytes_then (take count buffer.new) (left_by R.left I.left (end_by role ends.new)))
-        (λ _. left_by R.left I.left (end_by role ends.new) ≡ left_by R.left I.left (end_by role ends.old)) }
-    ensures end { result ≡ Ok 0 → 0 < length buffer.new → IsEnded (left_by R.left I.left (end_by role ends.new)) }
+    ensures read { DidRead (left_by R.left I.left (end_by role ends.old)) (left_by R.left I.left (end_by role ends.new)) buffer.new result }
     ensures cause { Counts (faults_by R.faults W.faults I.faults O.faults (end_by role ends.old)) (faults_by R.faults W.faults I.faults O.faults (end_by role ends.new)) result }
     ensures others { (other : Role) → (other ≡ role → ⊥) → end_by other ends.new ≡ end_by other ends.old }
     ensures reads { is_read (end_by role ends.new) ≡ true }
@@ -77,11 +73,7 @@ fn read_at<R: Source>(
     buffer: &mut [u8],
 ) -> Result<usize, WorldErr>
     requires { place < length readers.old }
-    ensures bound { IfOk result (λ count. count ≤ length buffer.new) }
-    ensures bytes { MatchResult result
-        (λ count. option_and_then R.left (end_in readers.old place) ≡ bytes_then (take count buffer.new) (option_and_then R.left (end_in readers.new place)))
-        (λ _. option_and_then R.left (end_in readers.new place) ≡ option_and_then R.left (end_in readers.old place)) }
-    ensures end { result ≡ Ok 0 → 0 < length buffer.new → IsEnded (option_and_then R.left (end_in readers.new place)) }
+    ensures read { DidRead (option_and_then R.left (end_in readers.old place)) (option_and_then R.left (end_in readers.new place)) buffer.new result }
     ensures cause { Counts (option_map_or R.faults (end_in readers.old place) 0) (option_map_or R.faults (end_in readers.new place) 0) result }
     ensures others { (other : ℕ) → (other == place) ≡ false → end_in readers.new other ≡ end_in readers.old other }
     ensures there { is_some (end_in readers.new place) ≡ true }
@@ -97,8 +89,7 @@ fn write_end<R: Source, W: Sink, I: Source, O: Sink>(
     bytes: &[u8],
 ) -> Result<(), WorldErr>
     requires writes { is_written (end_by role ends.old) ≡ true }
-    ensures ok { OnOk result (taken_by W.taken O.taken (end_by role ends.new) ≡ then_bytes (taken_by W.taken O.taken (end_by role ends.old)) bytes.now) }
-    ensures err { OnErr result (GrewByPrefix (taken_by W.taken O.taken (end_by role ends.old)) (taken_by W.taken O.taken (end_by role ends.new)) bytes.now) }
+    ensures written { DidWrite (taken_by W.taken O.taken (end_by role ends.old)) (taken_by W.taken O.taken (end_by role ends.new)) bytes.now result }
     ensures cause { Counts (faults_by R.faults W.faults I.faults O.faults (end_by role ends.old)) (faults_by R.faults W.faults I.faults O.faults (end_by role ends.new)) result }
     ensures others { (other : Role) → (other ≡ role → ⊥) → end_by other ends.new ≡ end_by other ends.old }
     ensures writes { is_written (end_by role ends.new) ≡ true }
@@ -116,8 +107,7 @@ fn write_end<R: Source, W: Sink, I: Source, O: Sink>(
 /// Writes all of `bytes` to the writer at a place.
 fn write_at<W: Sink>(writers: &mut [(u32, W)], place: usize, bytes: &[u8]) -> Result<(), WorldErr>
     requires { place < length writers.old }
-    ensures ok { OnOk result (option_and_then W.taken (end_in writers.new place) ≡ then_bytes (option_and_then W.taken (end_in writers.old place)) bytes.now) }
-    ensures err { OnErr result (GrewByPrefix (option_and_then W.taken (end_in writers.old place)) (option_and_then W.taken (end_in writers.new place)) bytes.now) }
+    ensures written { DidWrite (option_and_then W.taken (end_in writers.old place)) (option_and_then W.taken (end_in writers.new place)) bytes.now result }
     ensures cause { Counts (option_map_or W.faults (end_in writers.old place) 0) (option_map_or W.faults (end_in writers.new place) 0) result }
     ensures others { (other : ℕ) → (other == place) ≡ false → end_in writers.new other ≡ end_in writers.old other }
     ensures there { is_some (end_in writers.new place) ≡ true }

@@ -1,7 +1,7 @@
 //! Edges: each leads from one node to one later node.
 ghost use Rattle.std.specs.Prelude.{◌≡◌, ◌≤◌, ◌+◌, [], length, min};
 ghost use Rattle.std.specs.List.{list_all};
-ghost use Rattle.fl_graph.specs.Checks.{each_after, gives_below, has_edges as has_edges_lem, has_single_edges as has_single_edges_lem, is_below as is_below_lem, is_single as is_single_lem, takes_given as takes_given_lem};
+ghost use Rattle.fl_graph.specs.Checks.{each_after, gives_below as gives_below_lem, has_edges as has_edges_lem, has_single_edges as has_single_edges_lem, is_below as is_below_lem, is_single as is_single_lem, takes_given as takes_given_lem};
 ghost use Rattle.fl_graph.specs.Net.{count, gives, has, takes};
 
 use crate::graphs::Node;
@@ -17,12 +17,7 @@ pub fn has_edges(nodes: &[Node]) -> bool
 fn are_all_single(nodes: &[Node]) -> bool
     ensures { result ≡ list_all (has_single_edges_lem nodes.now) nodes.now }
 {
-    for node in nodes {
-        if !has_single_edges(nodes, node) {
-            return false;
-        }
-    }
-    true
+    nodes.iter().all(|node| has_single_edges(nodes, node))
 }
 
 /// Whether each edge of a node is given once and taken once.
@@ -36,12 +31,7 @@ fn has_single_edges(nodes: &[Node], node: &Node) -> bool
 fn are_single(nodes: &[Node], edges: &[u32]) -> bool
     ensures { result ≡ list_all (is_single_lem nodes.now) edges.now }
 {
-    for edge in edges {
-        if !is_single(nodes, *edge) {
-            return false;
-        }
-    }
-    true
+    edges.iter().all(|edge| is_single(nodes, *edge))
 }
 
 /// Whether the edge is given once and taken once.
@@ -87,26 +77,17 @@ fn times_in(edges: &[u32], edge: u32, before: u8) -> u8
 
 /// Whether the edges' numbers are below the number of edges.
 fn are_all_below(nodes: &[Node]) -> bool
-    ensures { result ≡ list_all (gives_below nodes.now) nodes.now }
+    ensures { result ≡ list_all (gives_below_lem nodes.now) nodes.now }
 {
-    for node in nodes {
-        if !are_below(nodes, node.outs.as_slice()) {
-            return false;
-        }
-    }
-    true
+    nodes.iter().all(|node| gives_below(nodes, node))
 }
 
-/// Whether the numbers of these edges are.
-fn are_below(nodes: &[Node], edges: &[u32]) -> bool
-    ensures { result ≡ list_all (is_below_lem nodes.now) edges.now }
+/// Whether the numbers of those that the node gives are.
+fn gives_below(nodes: &[Node], node: &Node) -> bool
+    ensures { result ≡ gives_below_lem nodes.now node.now }
 {
-    for edge in edges {
-        if !is_below(nodes, *edge) {
-            return false;
-        }
-    }
-    true
+    let outs = node.outs.as_slice();
+    outs.iter().all(|edge| is_below(nodes, *edge))
 }
 
 /// Whether the edge's number is below the number of outs. No sum of lengths can be too large for this.
@@ -139,12 +120,8 @@ fn lead_on(nodes: &[Node]) -> bool
 fn takes_given(earlier: &[Node], node: &Node) -> bool
     ensures { result ≡ takes_given_lem earlier.now node.now }
 {
-    for edge in node.ins.as_slice() {
-        if !is_given(earlier, *edge) {
-            return false;
-        }
-    }
-    true
+    let ins = node.ins.as_slice();
+    ins.iter().all(|edge| is_given(earlier, *edge))
 }
 
 /// Whether one of the nodes gives the edge.

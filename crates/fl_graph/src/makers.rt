@@ -35,12 +35,7 @@ fn joins_its_maps(earlier: &[Node], node: &Node) -> bool
 fn are_mapped(earlier: &[Node], edges: &[u32], inv: &Inv) -> bool
     ensures { result ≡ are_mapped_lem (words_of inv.now) earlier.now edges.now }
 {
-    for edge in edges {
-        if !is_mapped(earlier, *edge, inv) {
-            return false;
-        }
-    }
-    true
+    edges.iter().all(|edge| is_mapped(earlier, *edge, inv))
 }
 
 /// Whether the edge comes from a map or an aggregate of the invocation.

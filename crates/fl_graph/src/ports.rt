@@ -13,12 +13,7 @@ use ut_args::{Class, class, is_built};
 pub fn fit_alone(nodes: &[Node]) -> bool
     ensures { result ≡ list_all fits_alone_lem nodes.now }
 {
-    for node in nodes {
-        if !fits_alone(node) {
-            return false;
-        }
-    }
-    true
+    nodes.iter().all(fits_alone)
 }
 
 fn fits_alone(node: &Node) -> bool

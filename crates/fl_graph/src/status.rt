@@ -22,12 +22,7 @@ pub fn names_selectors(nodes: &[Node], status: &StatusRule) -> bool
 fn are_selectors(nodes: &[Node], named: &[u32]) -> bool
     ensures { result ≡ list_all (names_selector_lem nodes.now) named.now }
 {
-    for node in named {
-        if !names_selector(nodes, *node) {
-            return false;
-        }
-    }
-    true
+    named.iter().all(|node| names_selector(nodes, *node))
 }
 
 /// Whether this is the number of a map or a whole of grep.

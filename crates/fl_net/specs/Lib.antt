@@ -1,11 +1,14 @@
+pub mod NodeEnds
 pub mod Laws
 pub mod Steps
 pub mod Runs
 pub mod Plans
+pub mod Carried
 pub mod Causes
 pub mod Points
 pub mod Ends
 pub mod Starts
 pub mod Moves
 pub mod Inputs
+pub mod Calls
 pub mod Stuck

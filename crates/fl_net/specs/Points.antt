@@ -3,6 +3,7 @@ use Rattle.std.specs.Prelude.{◌≡◌, ℕ, List, Bool, length, Option}
 use Rattle.fl_graph.specs.Machines.{State}
 use Rattle.fl_graph.specs.declared.pieces.Piece.{Piece}
 use Rattle.fl_net.specs.Runs.{AreDrained, Goes, Halts, HasEnds, Leads}
+use Rattle.fl_net.specs.declared.nets.Net.{Net}
 use Rattle.fl_net.specs.declared.nets.Ports.{Ports}
 
 pub record Point (Machine : Type 0) : Type 0 where
@@ -14,6 +15,20 @@ pub record Point (Machine : Type 0) : Type 0 where
   pub reads : ℕ → Bool
   pub writes : ℕ → Bool
   pub faults : ℕ → ℕ
+
+-- the point at which a network and its ends are, where these tell so much
+abbrev pub point : {Machine Ends : Type 0} → (left taken : Ends → ℕ → Option (List ℕ)) → (reads writes : Ends → ℕ → Bool) → (faults : Ends → ℕ → ℕ)
+    → Net Machine → Ends → Point Machine
+point left taken reads writes faults net ends = record {
+  ports = net.ports.items;
+  machines = net.machines.items;
+  wires = net.wires.items;
+  left = left ends;
+  taken = taken ends;
+  reads = reads ends;
+  writes = writes ends;
+  faults = faults ends;
+}
 
 module _ {Machine : Type 0} (state : Machine → State) where
   -- the network follows a plan, and has come here

@@ -1,7 +1,7 @@
 //! The ends of nodes.
-ghost use Rattle.std.specs.Prelude.{◌≡◌, ◌==◌, ℕ, ◌<◌, ◌≤◌, List, Bool, true, false, length, take, Option, Ok, Err, IfOk, OnOk, OnErr, MatchResult};
+ghost use Rattle.std.specs.Prelude.{◌≡◌, ◌==◌, ℕ, List, Bool, true, false, Option};
 ghost use Rattle.ps_world.specs.Counts.{Counts};
-ghost use Rattle.ps_world.specs.Told.{bytes_then, then_bytes, GrewByPrefix, IsEnded};
+ghost use Rattle.fl_net.specs.NodeEnds.{DidRead, DidWrite, KeepsEnds};
 
 use ps_world::WorldErr;
 
@@ -27,29 +27,20 @@ pub trait NodeEnds {
     /// Reads into the front of `buffer` from a source's end, as `Source::read` does.
     fn read(&mut self, node: u32, buffer: &mut [u8]) -> Result<usize, WorldErr>
         requires { reads self.old node ≡ true }
-        ensures bound { IfOk result (λ count. count ≤ length buffer.new) }
-        ensures bytes { MatchResult result
-            (λ count. left self.old node ≡ bytes_then (take count buffer.new) (left self.new node))
-            (λ _. left self.new node ≡ left self.old node) }
-        ensures end { result ≡ Ok 0 → 0 < length buffer.new → IsEnded (left self.new node) }
+        ensures read { DidRead (left self.old node) (left self.new node) buffer.new result }
         ensures left { (other : ℕ) → (other == node) ≡ false → left self.new other ≡ left self.old other }
         ensures taken { (other : ℕ) → taken self.new other ≡ taken self.old other }
         ensures cause { Counts (faults self.old node) (faults self.new node) result }
         ensures calm { (other : ℕ) → (other == node) ≡ false → faults self.new other ≡ faults self.old other }
-        ensures reads { (other : ℕ) → reads self.new other ≡ reads self.old other }
-        ensures writes { (other : ℕ) → writes self.new other ≡ writes self.old other }
-        ensures borrows { borrows self.new ≡ borrows self.old };
+        ensures kept { KeepsEnds reads writes borrows self.old self.new };
 
     /// Writes all of `bytes` to a node's end. On an error it has taken a front of them.
     fn write_all(&mut self, node: u32, bytes: &[u8]) -> Result<(), WorldErr>
         requires { writes self.old node ≡ true }
-        ensures ok { OnOk result (taken self.new node ≡ then_bytes (taken self.old node) bytes.now) }
-        ensures err { OnErr result (GrewByPrefix (taken self.old node) (taken self.new node) bytes.now) }
+        ensures written { DidWrite (taken self.old node) (taken self.new node) bytes.now result }
         ensures taken { (other : ℕ) → (other == node) ≡ false → taken self.new other ≡ taken self.old other }
         ensures left { (other : ℕ) → left self.new other ≡ left self.old other }
         ensures cause { Counts (faults self.old node) (faults self.new node) result }
         ensures calm { (other : ℕ) → (other == node) ≡ false → faults self.new other ≡ faults self.old other }
-        ensures reads { (other : ℕ) → reads self.new other ≡ reads self.old other }
-        ensures writes { (other : ℕ) → writes self.new other ≡ writes self.old other }
-        ensures borrows { borrows self.new ≡ borrows self.old };
+        ensures kept { KeepsEnds reads writes borrows self.old self.new };
 }

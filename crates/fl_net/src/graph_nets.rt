@@ -54,10 +54,7 @@ pub fn edge_count(nodes: &[Node]) -> Result<usize, Memory>
 {
     let mut count: usize = 0;
     for node in nodes {
-        let Some(more) = count.checked_add(node.outs.len()) else {
-            return Err(Memory);
-        };
-        count = more;
+        count = count.checked_add(node.outs.len()).ok_or(Memory)?;
     }
     Ok(count)
 }
@@ -133,21 +130,14 @@ fn outs_of(alloc: Global, writes: bool, own: &[u32], outer: u32) -> Result<Vec<u
 pub(crate) fn is_source(kind: &NodeKind) -> bool
     ensures { result ≡ is_source_lem kind.now }
 {
-    match kind {
-        NodeKind::Source(_) => true,
-        _ => false,
-    }
+    matches!(kind, NodeKind::Source(_))
 }
 
 /// Whether the node writes to the outside.
 fn is_writer(kind: &NodeKind) -> bool
     ensures { result ≡ is_writer_lem kind.now }
 {
-    match kind {
-        NodeKind::Sink(_) => true,
-        NodeKind::TeeFile(..) => true,
-        _ => false,
-    }
+    matches!(kind, NodeKind::Sink(_) | NodeKind::TeeFile(..))
 }
 
 /// So many wires on which nothing waits.

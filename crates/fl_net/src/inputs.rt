@@ -40,13 +40,8 @@ impl<M: Machine> Net<M> {
         let mut net = Net::of_graph(alloc, graph, machines, cap)?;
         let nodes = graph.nodes.as_slice();
         let edges = edge_count(nodes)?;
-        load(
-            alloc,
-            net.wires.as_mut_slice(),
-            nodes,
-            edges,
-            inputs.as_slice(),
-        )?;
+        let wires = net.wires.as_mut_slice();
+        load(alloc, wires, nodes, edges, inputs.as_slice())?;
         Ok(net)
     }
 }

@@ -1,13 +1,12 @@
 //! What the pieces on a graph's edges carry, in laws: each is the contract of a function that does nothing.
 #![tactic(auto, using(crate::proofs::LawLemmas::net_laws))]
 
-ghost use Rattle.std.specs.Prelude.{◌≡◌, ◌<◌, ◌≤◌, ◌++◌, ℕ, Bool, List, Option, length, map, slice_get, IfSome, Some, true, false};
+ghost use Rattle.std.specs.Prelude.{◌≡◌, ◌<◌, ◌≤◌, ℕ, Bool, List, Option, length, map, slice_get, IfSome, Some, true, false};
 ghost use Rattle.std.specs.List.{flat_map, sum_by};
 ghost use Rattle.fl_graph.specs.Net.{gives};
 ghost use Rattle.fl_graph.specs.declared.graphs.Cell.{Cell};
-ghost use Rattle.ps_lines.specs.Texts.{BeginsWith};
 ghost use Rattle.fl_graph.specs.Machines.{State};
-ghost use Rattle.fl_graph.specs.Runs.{text_of, has_broken, has_end, completed, Run, Stopped, is_clean};
+ghost use Rattle.fl_graph.specs.Runs.{text_of, Run, Stopped};
 ghost use Rattle.fl_graph.specs.Valid.{Valid};
 ghost use Rattle.fl_graph.specs.declared.kinds.NodeKind.{NodeKind};
 ghost use Rattle.fl_graph.specs.declared.pieces.Piece.{Piece};
@@ -15,6 +14,7 @@ ghost use Rattle.fl_classes.specs.Flow.{flow, is_source, only, writes, writes_of
 ghost use Rattle.fl_classes.specs.Nodes.{Begins};
 ghost use Rattle.fl_net.specs.Inputs.{RunsOver};
 ghost use Rattle.fl_classes.specs.Kinds.{is_writer};
+ghost use Rattle.fl_net.specs.Carried.{CarriedText, CarriesFlow, CarriesText};
 ghost use Rattle.fl_net.specs.Laws.{given, Carries, NetKeeps, NetRan, NodeRan};
 ghost use Rattle.fl_net.specs.Moves.{edges_of, moves_over, most_moves, most_over_edges};
 ghost use Rattle.fl_net.specs.Plans.{outer_edge, AreTold, HasRooms, IsPlanOf};
@@ -32,16 +32,8 @@ use fl_graph::{Act, Graph, Machine};
 /// front is all that is said.
 pub fn edges_carry_the_flow(graph: &Graph)
     requires { Valid graph.now.nodes graph.now.status }
-    ensures carries { (sources : List (List ℕ)) (taken put : ℕ → List Piece) → NetKeeps sources graph.now.nodes taken put →
-        (edge : ℕ) → edge < length (gives graph.now.nodes) → Carries (put edge) (flow graph.now.nodes sources edge) }
-    ensures taken { (sources : List (List ℕ)) (taken put : ℕ → List Piece) → NetKeeps sources graph.now.nodes taken put →
-        (edge : ℕ) → edge < length (gives graph.now.nodes) → BeginsWith (flow graph.now.nodes sources edge) (text_of (taken edge)) }
-    ensures ended { (sources : List (List ℕ)) (taken put : ℕ → List Piece) → NetKeeps sources graph.now.nodes taken put →
-        (edge : ℕ) → edge < length (gives graph.now.nodes) → has_end (taken edge) ≡ true →
-        flow graph.now.nodes sources edge ≡ text_of (taken edge) }
-    ensures completed { (sources : List (List ℕ)) (taken put : ℕ → List Piece) → NetKeeps sources graph.now.nodes taken put →
-        (edge : ℕ) → edge < length (gives graph.now.nodes) → has_end (taken edge) ≡ true →
-        (rest : List ℕ) → completed (taken edge) rest ≡ flow graph.now.nodes sources edge }
+    ensures { (sources : List (List ℕ)) (taken put : ℕ → List Piece) → NetKeeps sources graph.now.nodes taken put →
+        (edge : ℕ) → edge < length (gives graph.now.nodes) → CarriesText (flow graph.now.nodes sources edge) (taken edge) (put edge) }
 {}
 
 /// Where each node of a valid graph has run to its stop, in whatever order the nodes did, and what was given on each edge is what was taken
@@ -49,12 +41,8 @@ pub fn edges_carry_the_flow(graph: &Graph)
 /// failed.
 pub fn net_ran(graph: &Graph)
     requires { Valid graph.now.nodes graph.now.status }
-    ensures front { (sources : List (List ℕ)) (pieces : ℕ → List Piece) (failed : ℕ → Bool) → NetRan sources graph.now.nodes pieces failed →
-        (edge : ℕ) → edge < length (gives graph.now.nodes) → BeginsWith (flow graph.now.nodes sources edge) (text_of (pieces edge)) }
-    ensures whole { (sources : List (List ℕ)) (pieces : ℕ → List Piece) (failed : ℕ → Bool) → NetRan sources graph.now.nodes pieces failed →
-        (edge : ℕ) → edge < length (gives graph.now.nodes) → has_broken (pieces edge) ≡ false → flow graph.now.nodes sources edge ≡ text_of (pieces edge) }
-    ensures unbroken { (sources : List (List ℕ)) (pieces : ℕ → List Piece) (failed : ℕ → Bool) → NetRan sources graph.now.nodes pieces failed →
-        ((node : ℕ) → failed node ≡ false) → (edge : ℕ) → edge < length (gives graph.now.nodes) → has_broken (pieces edge) ≡ false }
+    ensures { (sources : List (List ℕ)) (pieces : ℕ → List Piece) (failed : ℕ → Bool) → NetRan sources graph.now.nodes pieces failed →
+        (edge : ℕ) → edge < length (gives graph.now.nodes) → CarriedText (flow graph.now.nodes sources edge) (pieces edge) failed }
 {}
 
 /// A node that is no source, whose machine has run from its beginning to its stop, ran as `NetRan` asks of each node: what it put is of its
@@ -98,11 +86,7 @@ pub fn what_was_put_on_an_edge_is_of_its_flow<M: Machine>(graph: &Graph, net: &N
     requires { Valid graph.now.nodes graph.now.status }
     ensures carries { (inputs : ℕ → List ℕ) (moves : ℕ) (failed : ℕ → Bool)
         (runs : RunsOver M.state graph.now.nodes inputs moves failed net.now.ports.items net.now.machines.items net.now.wires.items) →
-        (sources : List (List ℕ)) → AreTold sources graph.now.nodes (λ node. Some (inputs node)) →
-        (edge : ℕ) → edge < length (gives graph.now.nodes) → Carries (runs.goes.reached.put edge) (flow graph.now.nodes sources edge) }
-    ensures closed { (inputs : ℕ → List ℕ) (moves : ℕ) (failed : ℕ → Bool)
-        (runs : RunsOver M.state graph.now.nodes inputs moves failed net.now.ports.items net.now.machines.items net.now.wires.items) →
-        (edge : ℕ) → is_clean (runs.goes.reached.put edge) ≡ true }
+        CarriesFlow graph.now.nodes inputs runs.goes.reached.took runs.goes.reached.put (waiting_on net.now.wires.items) }
     ensures whole { (inputs : ℕ → List ℕ) (moves : ℕ) (failed : ℕ → Bool)
         (runs : RunsOver M.state graph.now.nodes inputs moves failed net.now.ports.items net.now.machines.items net.now.wires.items) →
         (sources : List (List ℕ)) → AreTold sources graph.now.nodes (λ node. Some (inputs node)) →
@@ -110,9 +94,6 @@ pub fn what_was_put_on_an_edge_is_of_its_flow<M: Machine>(graph: &Graph, net: &N
         ((number : ℕ) (machine : M) → slice_get net.now.machines.items number ≡ Some machine → ((port : ℕ) → (M.state machine).takes port ≡ false) × ((port : ℕ) → (M.state machine).puts port ≡ false)) →
         (node : ℕ) (cell : Cell NodeKind) → slice_get graph.now.nodes node ≡ Some cell → is_source cell.kind ≡ false →
         (port edge : ℕ) → slice_get cell.ins port ≡ Some edge → flow graph.now.nodes sources edge ≡ text_of (runs.goes.reached.took edge) }
-    ensures waits { (inputs : ℕ → List ℕ) (moves : ℕ) (failed : ℕ → Bool)
-        (runs : RunsOver M.state graph.now.nodes inputs moves failed net.now.ports.items net.now.machines.items net.now.wires.items) →
-        (edge : ℕ) → runs.goes.reached.put edge ≡ runs.goes.reached.took edge ++ waiting_on net.now.wires.items edge }
 {}
 
 /// A network of a valid graph is never stuck, in whatever order its nodes had their turns: where no node can move a piece, and none starves for what

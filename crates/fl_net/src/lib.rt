@@ -5,7 +5,8 @@
 //! it, in an order of the caller's own. `laws` say what holds in every order of steps, also where nodes break off, so that engines of every
 //! kind can stand on them.
 //!
-//! `specs/Laws.antt` says what the pieces on a graph's edges carry, `specs/Steps.antt` what comes of a step, `specs/Runs.antt` and
+//! `specs/Laws.antt` and `specs/Carried.antt` say what the pieces on a graph's edges carry, `specs/Steps.antt` what comes of a step,
+//! `specs/Calls.antt` what the calls on a network leave, `specs/NodeEnds.antt` what those on its nodes' ends do, `specs/Runs.antt` and
 //! `specs/Points.antt` how far a network has run, `specs/Ends.antt` what is left at its ends, `specs/Inputs.antt` what a network over texts
 //! is, `specs/Stuck.antt` where no piece can move, and `specs/Moves.antt` how many pieces its steps move.
 #![tactic(auto)]

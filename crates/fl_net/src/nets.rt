@@ -2,7 +2,9 @@
 ghost use Rattle.std.specs.Prelude.{◌≡◌, ◌<◌, ◌≤◌, ◌^◌, not, length, slice_get, get_or, true, false, Ok, Some, IfOk, OnOk, OnErr};
 ghost use Rattle.fl_graph.specs.declared.pieces.TheConstants.{MAX_PIECE};
 ghost use Rattle.fl_net.specs.Causes.{Causes};
-ghost use Rattle.fl_net.specs.Points.{Advances, HaltsFrom, IsUnderWay};
+ghost use Rattle.fl_net.specs.Calls.{next_progress, one_more_if, KeepsWiring, OfNode, RunsOn};
+ghost use Rattle.fl_net.specs.NodeEnds.{KeepsEnds};
+ghost use Rattle.fl_net.specs.Points.{point, Advances, HaltsFrom, IsUnderWay};
 ghost use Rattle.fl_net.specs.Runs.{AreDrained, Goes, Halts, HasEnds, Leads};
 
 use crate::ends::NodeEnds;
@@ -38,12 +40,10 @@ pub struct Net<M: Machine> {
 }
 
 impl<M: Machine> Net<M> {
-    ghost use Rattle.std.specs.Prelude.{ℕ, suc, if◌then◌else◌, Bool, List, Option};
+    ghost use Rattle.std.specs.Prelude.{ℕ, List, Option};
     ghost use Rattle.fl_graph.specs.Machines.{is_take, MayDo};
-    ghost use Rattle.fl_graph.specs.declared.graphs.Cell.{Cell};
-    ghost use Rattle.fl_graph.specs.declared.kinds.NodeKind.{NodeKind};
-    ghost use Rattle.fl_net.specs.Inputs.{marked, RunsOver};
-    ghost use Rattle.fl_net.specs.Steps.{has_moved, progress_at, ArePlain, CameTo, Fits, GaveTo, Starves, TookFrom, WentFrom};
+    ghost use Rattle.fl_net.specs.Inputs.{marked};
+    ghost use Rattle.fl_net.specs.Steps.{has_moved, ArePlain, CameTo, Fits, GaveTo, Starves, TookFrom, WentFrom};
     ghost use Rattle.fl_net.specs.Stuck.{is_stuck, IsStuck, IsStuckAt};
     ghost use Rattle.fl_net.specs.declared.nets.Ports.{Ports as Port};
 
@@ -53,36 +53,26 @@ impl<M: Machine> Net<M> {
     pub fn step(&mut self, node: u32) -> Result<Progress, Memory>
         requires node { (node < length self.old.machines.items) × (node < length self.old.ports.items) }
         requires plain { ArePlain self.old.wires.items }
-        requires fits { (machine : M) (own : Port) → slice_get self.old.machines.items node ≡ Some machine → slice_get self.old.ports.items node ≡ Some own →
-            Fits (M.state machine) own.ins.items own.outs.items (length self.old.wires.items) }
+        requires fits { OfNode self.old node (λ machine own. Fits (M.state machine) own.ins.items own.outs.items (length self.old.wires.items)) }
         ensures leads { IfOk result (λ _. (left taken : ℕ → Option (List ℕ)) →
             Leads M.state self.old.ports.items self.old.machines.items self.new.machines.items self.old.wires.items self.new.wires.items left left taken taken) }
-        ensures starves { result ≡ Ok Progress.Starves → (machine : M) (own : Port) → slice_get self.new.machines.items node ≡ Some machine → slice_get self.new.ports.items node ≡ Some own →
-            Starves (M.state machine) own.ins.items self.new.wires.items }
-        ensures over { IfOk result (λ step. (cells : List (Cell NodeKind)) (inputs : ℕ → List ℕ) (moves : ℕ) (failed : ℕ → Bool) →
-            RunsOver M.state cells inputs moves failed self.old.ports.items self.old.machines.items self.old.wires.items →
-            RunsOver M.state cells inputs (if has_moved step then suc moves else moves) failed self.new.ports.items self.new.machines.items self.new.wires.items) }
+        ensures starves { result ≡ Ok Progress.Starves →
+            OfNode self.new node (λ machine own. Starves (M.state machine) own.ins.items self.new.wires.items) }
+        ensures over { IfOk result (λ step. RunsOn M.state self.old self.new (one_more_if (has_moved step)) (λ failed. failed)) }
         ensures over_refused { OnErr result ((machine : M) → slice_get self.old.machines.items node ≡ Some machine →
-            (cells : List (Cell NodeKind)) (inputs : ℕ → List ℕ) (moves : ℕ) (failed : ℕ → Bool) →
-            RunsOver M.state cells inputs moves failed self.old.ports.items self.old.machines.items self.old.wires.items →
-            RunsOver M.state cells inputs (if is_take (M.state machine).act then suc moves else moves) (marked node failed) self.new.ports.items self.new.machines.items self.new.wires.items) }
+            RunsOn M.state self.old self.new (one_more_if (is_take (M.state machine).act)) (marked node)) }
         ensures broken { OnErr result ((machine : M) → slice_get self.new.machines.items node ≡ Some machine → (M.state machine).broken ≡ true) }
         ensures shut { result ≡ Ok Progress.Ended → (machine : M) → slice_get self.new.machines.items node ≡ Some machine →
             ((port : ℕ) → (M.state machine).takes port ≡ false) × ((port : ℕ) → (M.state machine).puts port ≡ false) }
-        ensures answer { IfOk result (λ step. (machine : M) (own : Port) → slice_get self.old.machines.items node ≡ Some machine → slice_get self.old.ports.items node ≡ Some own →
-            step ≡ progress_at (M.state machine).act own.ins.items own.outs.items self.old.rooms.items self.old.wires.items) }
+        ensures answer { IfOk result (λ step. OfNode self.old node (λ machine own. step ≡ next_progress M.state self.old machine own)) }
         ensures may { (machine : M) → slice_get self.old.machines.items node ≡ Some machine → MayDo (M.state machine) (M.state machine).act }
         ensures took { result ≡ Ok Progress.Took → (own : Port) → slice_get self.old.ports.items node ≡ Some own →
             TookFrom own.ins.items self.old.wires.items self.new.wires.items }
         ensures gave { result ≡ Ok Progress.Gave → (own : Port) → slice_get self.old.ports.items node ≡ Some own →
             GaveTo own.outs.items self.old.wires.items self.new.wires.items }
-        ensures memory { OnErr result ((machine : M) (own : Port) → slice_get self.old.machines.items node ≡ Some machine → slice_get self.old.ports.items node ≡ Some own →
-            has_moved (progress_at (M.state machine).act own.ins.items own.outs.items self.old.rooms.items self.old.wires.items) ≡ true) }
+        ensures memory { OnErr result (OfNode self.old node (λ machine own. has_moved (next_progress M.state self.old machine own) ≡ true)) }
         ensures same { IfOk result (λ step. has_moved step ≡ false → (self.new.machines.items ≡ self.old.machines.items) × (self.new.wires.items ≡ self.old.wires.items)) }
-        ensures ports { self.new.ports ≡ self.old.ports }
-        ensures machines { length self.new.machines.items ≡ length self.old.machines.items }
-        ensures wires { length self.new.wires.items ≡ length self.old.wires.items }
-        ensures rooms { self.new.rooms ≡ self.old.rooms }
+        ensures kept { KeepsWiring self.old self.new }
     {
         let ports = &self.ports[node as usize];
         step(
@@ -98,14 +88,10 @@ impl<M: Machine> Net<M> {
     /// its outs by `Broken` and takes its ins to their ends.
     pub fn break_off(&mut self, node: u32)
         requires node { (node < length self.old.machines.items) × (node < length self.old.ports.items) }
-        ensures over { (cells : List (Cell NodeKind)) (inputs : ℕ → List ℕ) (moves : ℕ) (failed : ℕ → Bool) →
-            RunsOver M.state cells inputs moves failed self.old.ports.items self.old.machines.items self.old.wires.items →
-            RunsOver M.state cells inputs moves (marked node failed) self.new.ports.items self.new.machines.items self.new.wires.items }
+        ensures over { RunsOn M.state self.old self.new (λ moves. moves) (marked node) }
         ensures broken { (machine : M) → slice_get self.new.machines.items node ≡ Some machine → (M.state machine).broken ≡ true }
-        ensures ports { self.new.ports ≡ self.old.ports }
-        ensures machines { length self.new.machines.items ≡ length self.old.machines.items }
+        ensures kept { KeepsWiring self.old self.new }
         ensures wires { self.new.wires ≡ self.old.wires }
-        ensures rooms { self.new.rooms ≡ self.old.rooms }
     {
         break_machine(&mut self.machines[node as usize]);
     }
@@ -129,13 +115,8 @@ impl<M: Machine> Net<M> {
         ensures halts { OnErr result (Halts M.state self.old.ports.items self.old.machines.items self.old.wires.items (E.left ends.old) (E.taken ends.old) (E.taken ends.new)) }
         ensures came { OnOk result ((own : Port) → slice_get self.old.ports.items node ≡ Some own →
             CameTo (get_or own.ins.items 0 0) self.old.wires.items self.new.wires.items) }
-        ensures ports { self.new.ports ≡ self.old.ports }
-        ensures machines { self.new.machines ≡ self.old.machines }
-        ensures wires { length self.new.wires.items ≡ length self.old.wires.items }
-        ensures rooms { self.new.rooms ≡ self.old.rooms }
-        ensures reads_same { (other : ℕ) → E.reads ends.new other ≡ E.reads ends.old other }
-        ensures writes_same { (other : ℕ) → E.writes ends.new other ≡ E.writes ends.old other }
-        ensures borrows { E.borrows ends.new ≡ E.borrows ends.old }
+        ensures kept { KeepsWiring self.old self.new }
+        ensures kept_ends { KeepsEnds E.reads E.writes E.borrows ends.old ends.new }
         ensures cause { Causes (E.faults ends.old) (E.faults ends.new) result }
     {
         let edge = self.ports[node as usize].ins[0];
@@ -162,13 +143,8 @@ impl<M: Machine> Net<M> {
             Halts M.state self.old.ports.items self.old.machines.items self.old.wires.items (E.left ends.old) (E.taken ends.old) (E.taken ends.new)) }
         ensures went { OnOk result ((own : Port) → slice_get self.old.ports.items node ≡ Some own →
             WentFrom (get_or own.outs.items 0 0) self.old.wires.items self.new.wires.items) }
-        ensures ports { self.new.ports ≡ self.old.ports }
-        ensures machines { self.new.machines ≡ self.old.machines }
-        ensures wires { length self.new.wires.items ≡ length self.old.wires.items }
-        ensures rooms { self.new.rooms ≡ self.old.rooms }
-        ensures reads_same { (other : ℕ) → E.reads ends.new other ≡ E.reads ends.old other }
-        ensures writes_same { (other : ℕ) → E.writes ends.new other ≡ E.writes ends.old other }
-        ensures borrows { E.borrows ends.new ≡ E.borrows ends.old }
+        ensures kept { KeepsWiring self.old self.new }
+        ensures kept_ends { KeepsEnds E.reads E.writes E.borrows ends.old ends.new }
         ensures cause { Causes (E.faults ends.old) (E.faults ends.new) result }
     {
         let edge = self.ports[node as usize].outs[0];
@@ -195,17 +171,12 @@ impl<M: Machine> Net<M> {
         ensures halts { OnErr result (Halts M.state self.old.ports.items self.old.machines.items self.old.wires.items (E.left ends.old) (E.taken ends.old) (E.taken ends.new)) }
         ensures same { result ≡ Ok false → (self.new.machines.items ≡ self.old.machines.items) × (self.new.wires.items ≡ self.old.wires.items) × (ends.new ≡ ends.old) }
         ensures drained { OnOk result (AreDrained self.old.ports.items self.old.wires.items → AreDrained self.new.ports.items self.new.wires.items) }
-        ensures answer { IfOk result (λ moved. (machine : M) (own : Port) → slice_get self.old.machines.items node ≡ Some machine → slice_get self.old.ports.items node ≡ Some own →
-            moved ≡ not (is_stuck (progress_at (M.state machine).act own.ins.items own.outs.items self.old.rooms.items self.old.wires.items) own.reads)) }
+        ensures answer { IfOk result (λ moved.
+            OfNode self.old node (λ machine own. moved ≡ not (is_stuck (next_progress M.state self.old machine own) own.reads))) }
         ensures stuck { result ≡ Ok false → IsStuckAt M.state self.old.ports.items self.old.machines.items self.old.rooms.items self.old.wires.items node }
-        ensures ports { self.new.ports ≡ self.old.ports }
-        ensures machines { length self.new.machines.items ≡ length self.old.machines.items }
-        ensures wires { length self.new.wires.items ≡ length self.old.wires.items }
-        ensures rooms { self.new.rooms ≡ self.old.rooms }
+        ensures kept { KeepsWiring self.old self.new }
         ensures buffer { length buffer.new ≡ length buffer.old }
-        ensures reads_same { (other : ℕ) → E.reads ends.new other ≡ E.reads ends.old other }
-        ensures writes_same { (other : ℕ) → E.writes ends.new other ≡ E.writes ends.old other }
-        ensures borrows { E.borrows ends.new ≡ E.borrows ends.old }
+        ensures kept_ends { KeepsEnds E.reads E.writes E.borrows ends.old ends.new }
         ensures cause { Causes (E.faults ends.old) (E.faults ends.new) result }
     {
         let progress = match self.step(node) {
@@ -237,15 +208,15 @@ impl<M: Machine> Net<M> {
         buffer: &mut [u8],
     ) -> Result<bool, Halt>
         requires node { node < length self.old.machines.items }
-        requires way { IsUnderWay M.state (record { ports = self.old.ports.items; machines = self.old.machines.items; wires = self.old.wires.items; left = E.left ends.old; taken = E.taken ends.old; reads = E.reads ends.old; writes = E.writes ends.old; faults = E.faults ends.old }) }
+        requires way { IsUnderWay M.state (point E.left E.taken E.reads E.writes E.faults self.old ends.old) }
         requires room { (0 < length buffer.old) × (length buffer.old ≤ MAX_PIECE) }
-        ensures ok { OnOk result (Advances M.state (record { ports = self.old.ports.items; machines = self.old.machines.items; wires = self.old.wires.items; left = E.left ends.old; taken = E.taken ends.old; reads = E.reads ends.old; writes = E.writes ends.old; faults = E.faults ends.old })
-            (record { ports = self.new.ports.items; machines = self.new.machines.items; wires = self.new.wires.items; left = E.left ends.new; taken = E.taken ends.new; reads = E.reads ends.new; writes = E.writes ends.new; faults = E.faults ends.new })) }
-        ensures err { OnErr result (HaltsFrom M.state (record { ports = self.old.ports.items; machines = self.old.machines.items; wires = self.old.wires.items; left = E.left ends.old; taken = E.taken ends.old; reads = E.reads ends.old; writes = E.writes ends.old; faults = E.faults ends.old }) (E.taken ends.new)) }
+        ensures ok { OnOk result (Advances M.state (point E.left E.taken E.reads E.writes E.faults self.old ends.old)
+            (point E.left E.taken E.reads E.writes E.faults self.new ends.new)) }
+        ensures err { OnErr result (HaltsFrom M.state (point E.left E.taken E.reads E.writes E.faults self.old ends.old) (E.taken ends.new)) }
         ensures rooms { self.new.rooms ≡ self.old.rooms }
         ensures same { result ≡ Ok false → (self.new.machines.items ≡ self.old.machines.items) × (self.new.wires.items ≡ self.old.wires.items) × (ends.new ≡ ends.old) }
-        ensures answer { IfOk result (λ moved. (machine : M) (own : Port) → slice_get self.old.machines.items node ≡ Some machine → slice_get self.old.ports.items node ≡ Some own →
-            moved ≡ not (is_stuck (progress_at (M.state machine).act own.ins.items own.outs.items self.old.rooms.items self.old.wires.items) own.reads)) }
+        ensures answer { IfOk result (λ moved.
+            OfNode self.old node (λ machine own. moved ≡ not (is_stuck (next_progress M.state self.old machine own) own.reads))) }
         ensures stuck { result ≡ Ok false → IsStuckAt M.state self.old.ports.items self.old.machines.items self.old.rooms.items self.old.wires.items node }
         ensures buffer { length buffer.new ≡ length buffer.old }
         ensures borrows { E.borrows ends.new ≡ E.borrows ends.old }
@@ -274,11 +245,11 @@ impl<M: Machine> Net<M> {
         buffer: &mut [u8],
     ) -> Result<bool, Halt>
         requires few { length self.old.machines.items < 2 ^ 32 }
-        requires way { IsUnderWay M.state (record { ports = self.old.ports.items; machines = self.old.machines.items; wires = self.old.wires.items; left = E.left ends.old; taken = E.taken ends.old; reads = E.reads ends.old; writes = E.writes ends.old; faults = E.faults ends.old }) }
+        requires way { IsUnderWay M.state (point E.left E.taken E.reads E.writes E.faults self.old ends.old) }
         requires room { (0 < length buffer.old) × (length buffer.old ≤ MAX_PIECE) }
-        ensures ok { OnOk result (Advances M.state (record { ports = self.old.ports.items; machines = self.old.machines.items; wires = self.old.wires.items; left = E.left ends.old; taken = E.taken ends.old; reads = E.reads ends.old; writes = E.writes ends.old; faults = E.faults ends.old })
-            (record { ports = self.new.ports.items; machines = self.new.machines.items; wires = self.new.wires.items; left = E.left ends.new; taken = E.taken ends.new; reads = E.reads ends.new; writes = E.writes ends.new; faults = E.faults ends.new })) }
-        ensures err { OnErr result (HaltsFrom M.state (record { ports = self.old.ports.items; machines = self.old.machines.items; wires = self.old.wires.items; left = E.left ends.old; taken = E.taken ends.old; reads = E.reads ends.old; writes = E.writes ends.old; faults = E.faults ends.old }) (E.taken ends.new)) }
+        ensures ok { OnOk result (Advances M.state (point E.left E.taken E.reads E.writes E.faults self.old ends.old)
+            (point E.left E.taken E.reads E.writes E.faults self.new ends.new)) }
+        ensures err { OnErr result (HaltsFrom M.state (point E.left E.taken E.reads E.writes E.faults self.old ends.old) (E.taken ends.new)) }
         ensures rooms { self.new.rooms ≡ self.old.rooms }
         ensures same { result ≡ Ok false → (self.new.machines.items ≡ self.old.machines.items) × (self.new.wires.items ≡ self.old.wires.items) × (ends.new ≡ ends.old) }
         ensures stuck { result ≡ Ok false → IsStuck M.state self.old.ports.items self.old.machines.items self.old.rooms.items self.old.wires.items }
@@ -305,11 +276,11 @@ impl<M: Machine> Net<M> {
         buffer: &mut [u8],
     ) -> Result<(), Halt>
         requires few { length self.old.machines.items < 2 ^ 32 }
-        requires way { IsUnderWay M.state (record { ports = self.old.ports.items; machines = self.old.machines.items; wires = self.old.wires.items; left = E.left ends.old; taken = E.taken ends.old; reads = E.reads ends.old; writes = E.writes ends.old; faults = E.faults ends.old }) }
+        requires way { IsUnderWay M.state (point E.left E.taken E.reads E.writes E.faults self.old ends.old) }
         requires room { (0 < length buffer.old) × (length buffer.old ≤ MAX_PIECE) }
-        ensures ok { OnOk result (Advances M.state (record { ports = self.old.ports.items; machines = self.old.machines.items; wires = self.old.wires.items; left = E.left ends.old; taken = E.taken ends.old; reads = E.reads ends.old; writes = E.writes ends.old; faults = E.faults ends.old })
-            (record { ports = self.new.ports.items; machines = self.new.machines.items; wires = self.new.wires.items; left = E.left ends.new; taken = E.taken ends.new; reads = E.reads ends.new; writes = E.writes ends.new; faults = E.faults ends.new })) }
-        ensures err { OnErr result (HaltsFrom M.state (record { ports = self.old.ports.items; machines = self.old.machines.items; wires = self.old.wires.items; left = E.left ends.old; taken = E.taken ends.old; reads = E.reads ends.old; writes = E.writes ends.old; faults = E.faults ends.old }) (E.taken ends.new)) }
+        ensures ok { OnOk result (Advances M.state (point E.left E.taken E.reads E.writes E.faults self.old ends.old)
+            (point E.left E.taken E.reads E.writes E.faults self.new ends.new)) }
+        ensures err { OnErr result (HaltsFrom M.state (point E.left E.taken E.reads E.writes E.faults self.old ends.old) (E.taken ends.new)) }
         ensures stuck { OnOk result (IsStuck M.state self.new.ports.items self.new.machines.items self.new.rooms.items self.new.wires.items) }
         ensures rooms { self.new.rooms ≡ self.old.rooms }
         ensures buffer { length buffer.new ≡ length buffer.old }

@@ -5,6 +5,7 @@ ghost use Rattle.fl_graph.specs.Machines.{is_broken, is_mark};
 ghost use Rattle.fl_graph.specs.Runs.{is_end, text_of};
 ghost use Rattle.fl_graph.specs.declared.pieces.TheConstants.{MAX_PIECE};
 ghost use Rattle.fl_net.specs.Causes.{Causes};
+ghost use Rattle.fl_net.specs.NodeEnds.{KeepsEnds};
 ghost use Rattle.fl_net.specs.Steps.{has_bytes, is_plain};
 
 use crate::ends::NodeEnds;
@@ -48,9 +49,7 @@ pub(crate) fn read_piece<E: NodeEnds>(
     ensures ended { IfOk result (λ piece. is_end piece ≡ true → IsEnded (E.left ends.new node)) }
     ensures left { (other : ℕ) → (other == node) ≡ false → E.left ends.new other ≡ E.left ends.old other }
     ensures taken { (other : ℕ) → E.taken ends.new other ≡ E.taken ends.old other }
-    ensures reads_same { (other : ℕ) → E.reads ends.new other ≡ E.reads ends.old other }
-    ensures writes_same { (other : ℕ) → E.writes ends.new other ≡ E.writes ends.old other }
-    ensures borrows { E.borrows ends.new ≡ E.borrows ends.old }
+    ensures kept { KeepsEnds E.reads E.writes E.borrows ends.old ends.new }
     ensures cause { Causes (E.faults ends.old) (E.faults ends.new) result }
 {
     let count = match ends.read(node, buffer) {
@@ -73,9 +72,7 @@ pub(crate) fn write_piece<E: NodeEnds>(node: u32, ends: &mut E, piece: &Piece) -
     ensures err { OnErr result (GrewByPrefix (E.taken ends.old node) (E.taken ends.new node) (text_of (piece.now ∷ []))) }
     ensures taken { (other : ℕ) → (other == node) ≡ false → E.taken ends.new other ≡ E.taken ends.old other }
     ensures left { (other : ℕ) → E.left ends.new other ≡ E.left ends.old other }
-    ensures reads_same { (other : ℕ) → E.reads ends.new other ≡ E.reads ends.old other }
-    ensures writes_same { (other : ℕ) → E.writes ends.new other ≡ E.writes ends.old other }
-    ensures borrows { E.borrows ends.new ≡ E.borrows ends.old }
+    ensures kept { KeepsEnds E.reads E.writes E.borrows ends.old ends.new }
     ensures cause { Causes (E.faults ends.old) (E.faults ends.new) result }
 {
     let Piece::Bytes(bytes) = piece else {

@@ -62,12 +62,8 @@ pub fn step<M: Machine>(
         Act::Take(port) => take_first(machine, port, &mut wires[ins[port as usize] as usize]),
         Act::Put(port) => {
             let edge = outs[port as usize];
-            give_last(
-                machine,
-                port,
-                &mut wires[edge as usize],
-                room_on(rooms, edge),
-            )
+            let room = room_on(rooms, edge);
+            give_last(machine, port, &mut wires[edge as usize], room)
         }
         Act::Stop => Ok(Progress::Ended),
     }
@@ -97,10 +93,9 @@ fn take_first<M: Machine>(machine: &mut M, port: u32, wire: &mut Wire) -> Result
 fn room_on(rooms: &[Option<u32>], edge: u32) -> Option<u32>
     ensures { result ≡ room_on_lem rooms.now edge }
 {
-    if (edge as usize) < rooms.len() {
-        rooms[edge as usize]
-    } else {
-        None
+    match rooms.get(edge as usize) {
+        Some(room) => *room,
+        None => None,
     }
 }
 

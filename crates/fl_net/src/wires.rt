@@ -1,6 +1,6 @@
 //! The pieces that wait on an edge.
-ghost use Rattle.std.specs.Prelude.{◌≡◌, true};
-ghost use Rattle.fl_net.specs.Steps.{has_bytes};
+ghost use Rattle.std.specs.Prelude.{◌≡◌, ◌∷◌, ◌++◌, [], true, false, IfSome, IfNone, OnOk, OnErr};
+ghost use Rattle.fl_net.specs.Steps.{has_bytes, is_full, Broke, GaveLast};
 
 use fl_graph::{Machine, Piece, break_machine, put_piece};
 use ps_lines::Memory;
@@ -24,9 +24,7 @@ impl Model for Wire {
 }
 
 impl Wire {
-    ghost use Rattle.std.specs.Prelude.{◌≡◌, ◌∷◌, ◌++◌, [], true, false, IfSome, IfNone, OnOk, OnErr};
     ghost use Rattle.fl_graph.specs.Machines.{is_put, port_put, MayDo};
-    ghost use Rattle.fl_net.specs.Steps.{is_full, Broke, GaveLast};
 
     /// An edge on which nothing waits.
     pub fn new(alloc: Global) -> Wire

@@ -21,54 +21,54 @@ returns-in-Err-clause-halts g c =
 pub read-requires-clause-reads : goal.read-requires-clause-reads
 read-requires-clause-reads g c =
     turn_reads g.M.Machine.state
-    c.args.self.now.ports.items c.step.new.self.ports.items (ap (λ (it : Vec Ports). it.items) c.step.ensures.ports)
+    c.args.self.now.ports.items c.step.new.self.ports.items (ap (λ (it : Vec Ports). it.items) c.step.ensures.kept.ports)
     c.args.self.now.machines.items c.step.new.self.machines.items c.args.self.now.wires.items c.step.new.self.wires.items
-    (g.E.NodeEnds.left c.args.ends.now) (g.E.NodeEnds.taken c.args.ends.now) c.args.node c.requires.node.1 c.step.ensures.wires
+    (g.E.NodeEnds.left c.args.ends.now) (g.E.NodeEnds.taken c.args.ends.now) c.args.node c.requires.node.1 c.step.ensures.kept.wires
     (g.E.NodeEnds.reads c.args.ends.now) (g.E.NodeEnds.writes c.args.ends.now) c.requires.ends c.reads.result c.reads.ensures c.if-reads.true
 
 pub write-requires-clause-writes : goal.write-requires-clause-writes
 write-requires-clause-writes g c =
     turn_writes g.M.Machine.state
-    c.args.self.now.ports.items c.step.new.self.ports.items (ap (λ (it : Vec Ports). it.items) c.step.ensures.ports)
+    c.args.self.now.ports.items c.step.new.self.ports.items (ap (λ (it : Vec Ports). it.items) c.step.ensures.kept.ports)
     c.args.self.now.machines.items c.step.new.self.machines.items c.args.self.now.wires.items c.step.new.self.wires.items
-    (g.E.NodeEnds.left c.args.ends.now) (g.E.NodeEnds.taken c.args.ends.now) c.args.node c.requires.node.1 c.step.ensures.wires
+    (g.E.NodeEnds.left c.args.ends.now) (g.E.NodeEnds.taken c.args.ends.now) c.args.node c.requires.node.1 c.step.ensures.kept.wires
     (g.E.NodeEnds.reads c.args.ends.now) (g.E.NodeEnds.writes c.args.ends.now) c.requires.ends c.writes.result c.writes.ensures c.if-writes.true
 
 pub returns-in-Ok-read-clause-leads : goal.returns-in-Ok-read-clause-leads
 returns-in-Ok-read-clause-leads g c =
     turn_read_leads g.M.Machine.state
-    c.args.self.now.ports.items c.step.new.self.ports.items (ap (λ (it : Vec Ports). it.items) c.step.ensures.ports)
+    c.args.self.now.ports.items c.step.new.self.ports.items (ap (λ (it : Vec Ports). it.items) c.step.ensures.kept.ports)
     c.args.self.now.machines.items c.step.new.self.machines.items c.args.self.now.wires.items c.step.new.self.wires.items
-    (g.E.NodeEnds.left c.args.ends.now) (g.E.NodeEnds.taken c.args.ends.now) c.args.node c.requires.node.1 c.step.ensures.wires
-    c.step.ensures.machines (c.in-Ok.ensures.leads (g.E.NodeEnds.left c.args.ends.now) (g.E.NodeEnds.taken c.args.ends.now))
+    (g.E.NodeEnds.left c.args.ends.now) (g.E.NodeEnds.taken c.args.ends.now) c.args.node c.requires.node.1 c.step.ensures.kept.wires
+    c.step.ensures.kept.machines (c.in-Ok.ensures.leads (g.E.NodeEnds.left c.args.ends.now) (g.E.NodeEnds.taken c.args.ends.now))
     _ _ _ _ c.requires.node.0 (c.step.ensures.starves (c.in-Ok.is ∙ ap (λ it. Ok it) c.in-Starves.is))
     c.reads.result c.reads.ensures c.if-reads.true c.in-Ok-read.ensures.leads
 
 pub returns-in-Err-read-clause-halts : goal.returns-in-Err-read-clause-halts
 returns-in-Err-read-clause-halts g c =
     turn_halts g.M.Machine.state
-    c.args.self.now.ports.items c.step.new.self.ports.items (ap (λ (it : Vec Ports). it.items) c.step.ensures.ports)
+    c.args.self.now.ports.items c.step.new.self.ports.items (ap (λ (it : Vec Ports). it.items) c.step.ensures.kept.ports)
     c.args.self.now.machines.items c.step.new.self.machines.items c.args.self.now.wires.items c.step.new.self.wires.items
-    (g.E.NodeEnds.left c.args.ends.now) (g.E.NodeEnds.taken c.args.ends.now) c.args.node c.requires.node.1 c.step.ensures.wires
-    c.step.ensures.machines (c.in-Ok.ensures.leads (g.E.NodeEnds.left c.args.ends.now) (g.E.NodeEnds.taken c.args.ends.now))
+    (g.E.NodeEnds.left c.args.ends.now) (g.E.NodeEnds.taken c.args.ends.now) c.args.node c.requires.node.1 c.step.ensures.kept.wires
+    c.step.ensures.kept.machines (c.in-Ok.ensures.leads (g.E.NodeEnds.left c.args.ends.now) (g.E.NodeEnds.taken c.args.ends.now))
     _ c.in-Err-read.ensures.halts
 
 pub returns-in-Ok-write-clause-leads : goal.returns-in-Ok-write-clause-leads
 returns-in-Ok-write-clause-leads g c =
     turn_write_leads g.M.Machine.state
-    c.args.self.now.ports.items c.step.new.self.ports.items (ap (λ (it : Vec Ports). it.items) c.step.ensures.ports)
+    c.args.self.now.ports.items c.step.new.self.ports.items (ap (λ (it : Vec Ports). it.items) c.step.ensures.kept.ports)
     c.args.self.now.machines.items c.step.new.self.machines.items c.args.self.now.wires.items c.step.new.self.wires.items
-    (g.E.NodeEnds.left c.args.ends.now) (g.E.NodeEnds.taken c.args.ends.now) c.args.node c.requires.node.1 c.step.ensures.wires
-    c.step.ensures.machines (c.in-Ok.ensures.leads (g.E.NodeEnds.left c.args.ends.now) (g.E.NodeEnds.taken c.args.ends.now))
+    (g.E.NodeEnds.left c.args.ends.now) (g.E.NodeEnds.taken c.args.ends.now) c.args.node c.requires.node.1 c.step.ensures.kept.wires
+    c.step.ensures.kept.machines (c.in-Ok.ensures.leads (g.E.NodeEnds.left c.args.ends.now) (g.E.NodeEnds.taken c.args.ends.now))
     _ _ _ _ c.writes.result c.writes.ensures c.if-writes.true c.in-Ok-write.ensures.leads
 
 pub returns-in-Err-write-clause-halts : goal.returns-in-Err-write-clause-halts
 returns-in-Err-write-clause-halts g c =
     turn_write_halts g.M.Machine.state
-    c.args.self.now.ports.items c.step.new.self.ports.items (ap (λ (it : Vec Ports). it.items) c.step.ensures.ports)
+    c.args.self.now.ports.items c.step.new.self.ports.items (ap (λ (it : Vec Ports). it.items) c.step.ensures.kept.ports)
     c.args.self.now.machines.items c.step.new.self.machines.items c.args.self.now.wires.items c.step.new.self.wires.items
-    (g.E.NodeEnds.left c.args.ends.now) (g.E.NodeEnds.taken c.args.ends.now) c.args.node c.requires.node.1 c.step.ensures.wires
-    c.step.ensures.machines (c.in-Ok.ensures.leads (g.E.NodeEnds.left c.args.ends.now) (g.E.NodeEnds.taken c.args.ends.now))
+    (g.E.NodeEnds.left c.args.ends.now) (g.E.NodeEnds.taken c.args.ends.now) c.args.node c.requires.node.1 c.step.ensures.kept.wires
+    c.step.ensures.kept.machines (c.in-Ok.ensures.leads (g.E.NodeEnds.left c.args.ends.now) (g.E.NodeEnds.taken c.args.ends.now))
     _ c.writes.result c.writes.ensures c.if-writes.true c.in-Err-write.ensures.halts
 
 pub returns-in-Took-clause-leads : goal.returns-in-Took-clause-leads
@@ -77,7 +77,7 @@ returns-in-Took-clause-leads g c = c.in-Ok.ensures.leads (g.E.NodeEnds.left c.ar
 pub returns-in-Ok-read-clause-drained : goal.returns-in-Ok-read-clause-drained
 returns-in-Ok-read-clause-drained g c =
     read_drained g.M.Machine.state
-    c.args.self.now.ports.items c.step.new.self.ports.items c.read.new.self.ports.items (ap (λ (it : Vec Ports). it.items) c.step.ensures.ports) (ap (λ (it : Vec Ports). it.items) c.read.ensures.ports)
+    c.args.self.now.ports.items c.step.new.self.ports.items c.read.new.self.ports.items (ap (λ (it : Vec Ports). it.items) c.step.ensures.kept.ports) (ap (λ (it : Vec Ports). it.items) c.read.ensures.kept.ports)
     c.args.self.now.machines.items c.args.self.now.wires.items c.step.new.self.wires.items c.read.new.self.wires.items
     (g.E.NodeEnds.left c.args.ends.now) (g.E.NodeEnds.taken c.args.ends.now) c.requires.goes c.args.node c.requires.node.1
     (c.in-Ok.ensures.same (ap has_moved c.in-Starves.is)).1 c.reads.result c.reads.ensures c.if-reads.true c.in-Ok-read.ensures.came
@@ -85,7 +85,7 @@ returns-in-Ok-read-clause-drained g c =
 pub returns-in-Ok-write-clause-drained : goal.returns-in-Ok-write-clause-drained
 returns-in-Ok-write-clause-drained g c =
     write_drained g.M.Machine.state
-    c.args.self.now.ports.items c.step.new.self.ports.items c.write.new.self.ports.items (ap (λ (it : Vec Ports). it.items) c.step.ensures.ports) (ap (λ (it : Vec Ports). it.items) c.write.ensures.ports)
+    c.args.self.now.ports.items c.step.new.self.ports.items c.write.new.self.ports.items (ap (λ (it : Vec Ports). it.items) c.step.ensures.kept.ports) (ap (λ (it : Vec Ports). it.items) c.write.ensures.kept.ports)
     c.args.self.now.machines.items c.args.self.now.wires.items c.step.new.self.wires.items c.write.new.self.wires.items
     (g.E.NodeEnds.left c.args.ends.now) (g.E.NodeEnds.taken c.args.ends.now) c.requires.goes c.args.node c.requires.node.1
     (c.step.ensures.gave (c.in-Ok.is ∙ ap (λ it. Ok it) c.in-Gave.is)) c.writes.result c.writes.ensures c.if-writes.true c.in-Ok-write.ensures.went
@@ -93,7 +93,7 @@ returns-in-Ok-write-clause-drained g c =
 pub returns-in-Took-clause-drained : goal.returns-in-Took-clause-drained
 returns-in-Took-clause-drained g c =
     step_drained g.M.Machine.state
-    c.args.self.now.ports.items c.step.new.self.ports.items c.step.new.self.ports.items (ap (λ (it : Vec Ports). it.items) c.step.ensures.ports) refl
+    c.args.self.now.ports.items c.step.new.self.ports.items c.step.new.self.ports.items (ap (λ (it : Vec Ports). it.items) c.step.ensures.kept.ports) refl
     c.args.self.now.machines.items c.args.self.now.wires.items c.step.new.self.wires.items c.step.new.self.wires.items
     (g.E.NodeEnds.left c.args.ends.now) (g.E.NodeEnds.taken c.args.ends.now) c.requires.goes c.args.node c.requires.node.1 c.in-Ok.progress
     (λ is. c.step.ensures.took (c.in-Ok.is ∙ ap (λ it. Ok it) is)) (λ is. c.step.ensures.gave (c.in-Ok.is ∙ ap (λ it. Ok it) is))
@@ -102,7 +102,7 @@ returns-in-Took-clause-drained g c =
 pub returns-in-Gave-2-clause-drained : goal.returns-in-Gave-2-clause-drained
 returns-in-Gave-2-clause-drained g c =
     step_drained g.M.Machine.state
-    c.args.self.now.ports.items c.step.new.self.ports.items c.step.new.self.ports.items (ap (λ (it : Vec Ports). it.items) c.step.ensures.ports) refl
+    c.args.self.now.ports.items c.step.new.self.ports.items c.step.new.self.ports.items (ap (λ (it : Vec Ports). it.items) c.step.ensures.kept.ports) refl
     c.args.self.now.machines.items c.args.self.now.wires.items c.step.new.self.wires.items c.step.new.self.wires.items
     (g.E.NodeEnds.left c.args.ends.now) (g.E.NodeEnds.taken c.args.ends.now) c.requires.goes c.args.node c.requires.node.1 c.in-Ok.progress
     (λ is. c.step.ensures.took (c.in-Ok.is ∙ ap (λ it. Ok it) is)) (λ is. c.step.ensures.gave (c.in-Ok.is ∙ ap (λ it. Ok it) is))

@@ -71,10 +71,10 @@ fn end_text<S: Stream>(
 ) -> Result<(), Memory>
     requires unspent { S.spent stream.old ≡ false }
     requires apart { lacks_newline ≡ true → is_last ≡ false }
-    requires empty { out.old.items ≡ [] }
-    ensures newline { OnOk result (lacks_newline ≡ true → (more : List ℕ) → out.new.items ++ S.due stream.new more ≡ S.due stream.old (NEWLINE ∷ more)) }
-    ensures end { OnOk result (is_last ≡ true → out.new.items ≡ S.due stream.old []) }
-    ensures nothing { OnOk result (lacks_newline ≡ false → is_last ≡ false → (out.new.items ≡ []) × (stream.new ≡ stream.old)) }
+    ensures newline { OnOk result (lacks_newline ≡ true → (more : List ℕ) →
+        out.new.items ++ S.due stream.new more ≡ out.old.items ++ S.due stream.old (NEWLINE ∷ more)) }
+    ensures end { OnOk result (is_last ≡ true → out.new.items ≡ out.old.items ++ S.due stream.old []) }
+    ensures nothing { OnOk result (lacks_newline ≡ false → is_last ≡ false → (out.new.items ≡ out.old.items) × (stream.new ≡ stream.old)) }
     ensures spent { S.spent stream.new ≡ not (is_ok result) }
 {
     if lacks_newline {
@@ -88,13 +88,13 @@ fn end_text<S: Stream>(
 
 impl<S: Stream> Machine for Gathered<S> {
     ghost use Rattle.std.specs.Prelude.{◌==◌, ◌||◌, nat_le, if◌then◌else◌};
-    ghost use Rattle.ps_lines.specs.Lines.{is_empty};
     ghost use Rattle.fl_graph.specs.declared.pieces.Act.TheVariants.{Take, Put, Stop};
+    ghost use Rattle.fl_machines.specs.Waiting.{is_worth_putting};
     ghost use Rattle.fl_joints.specs.Joints.{gathered_on};
 
     ghost state = { λ machine. record {
       act =
-          if machine.putting && (machine.broken || not (is_empty machine.waiting)) then Put 0
+          if machine.putting && (machine.broken || is_worth_putting machine.waiting) then Put 0
           else if nat_lt machine.at machine.ins then Take machine.at
           else if machine.putting then Put 0 else Stop;
       takes = λ port. nat_le machine.at port && nat_lt port machine.ins;
@@ -108,7 +108,7 @@ impl<S: Stream> Machine for Gathered<S> {
     } };
 
     fn next(&self) -> Act {
-        if self.putting && (self.broken || !self.waiting.is_empty()) {
+        if self.putting && (self.broken || self.waiting.is_worth_putting()) {
             return Act::Put(0);
         }
         if self.at < self.ins {

@@ -5,7 +5,7 @@ use Rattle.std.proofs.lemmas.List.{get_or-set_same, get_or-set_other}
 use Rattle.fl_graph.specs.Machines.{is_take}
 use Rattle.fl_graph.specs.declared.pieces.Act.TheVariants as act
 use Rattle.fl_machines.specs.AtPorts.{first_open, next_at_ports}
-use Rattle.fl_machines.proofs.WaitingLemmas.{empty-none, none-waits}
+use Rattle.fl_machines.proofs.WaitingLemmas.{empty-none, nothing-worth}
 
 -- THE INS. So many are open
 less-suc : (port count : ℕ) → nat_lt (suc port) (suc count) ≡ nat_lt port count
@@ -118,4 +118,4 @@ turn-some urgent turn putting takes is = by_urgent (putting && urgent) putting (
     by_urgent false true takes = true≢false (sym takes)
     by_urgent false false takes = true≢false (sym takes)
 
-pub ruleset takes = (turn-some, empty-none, none-waits)
+pub ruleset takes = (turn-some, empty-none, nothing-worth)

@@ -1,14 +1,12 @@
 -- The texts that are still to come at ports that are taken in order, as a piece comes at the first of them.
-use Rattle.std.proofs.Common.{◌≡◌, ◌&&◌, ◌||◌, not, append_assoc, ℕ, zero, suc, ◌+◌, ◌-◌, ◌<◌, ◌≤◌, ◌==◌, nat_lt, List, [], ◌∷◌, ◌++◌, Bool, true, false, if◌then◌else◌, map, refl, ap, sym, ◌∙◌, append-nil, arith}
+use Rattle.std.proofs.Common.{◌≡◌, ◌&&◌, append_assoc, ℕ, zero, suc, ◌+◌, ◌-◌, ◌<◌, ◌≤◌, ◌==◌, nat_lt, List, [], ◌∷◌, ◌++◌, Bool, true, false, if◌then◌else◌, map, refl, ap, sym, ◌∙◌, append-nil, arith}
 use Rattle.std.specs.List.{range_with_len}
 use Rattle.std.proofs.lemmas.Bool.{eqb-true, eq-eqb, lt-ltb, false_from_ne_true, ltb-true, ltb-false, true≢false}
-use Rattle.ps_lines.specs.Lines.{is_empty}
 use Rattle.fl_graph.specs.Machines.{comes_first, comes, is_take, port_put, port_taken}
 use Rattle.fl_graph.specs.declared.pieces.Act.TheVariants as act
 use Rattle.fl_graph.specs.declared.pieces.Piece.{Piece}
 use Rattle.fl_graph.specs.declared.pieces.Piece.TheVariants as piece
 use Rattle.fl_machines.specs.InSeries.{due_in_series, next_in_order, selects_in_series, texts_from}
-use Rattle.fl_machines.proofs.WaitingLemmas.{none-waits}
 
 -- what comes at a port comes there, and at no other
 comes-there : (port : ℕ) (last : Piece) (texts : ℕ → List ℕ) → comes port last texts port ≡ comes_first last (texts port)
@@ -52,7 +50,7 @@ texts-next at ins texts within = range-next at texts (ins - at) (ins - (at + 1))
 texts-none : (at ins : ℕ) (texts : ℕ → List ℕ) → ins ≤ at → texts_from texts at ins ≡ []
 texts-none at ins texts past = let none : ins - at ≡ 0 = omega (arith, past) in ap (λ count. map texts (range_with_len at count)) none
 
-module _ (owes owes' : List (List ℕ) → List ℕ) (at ins : ℕ) (within : at < ins) (new : List ℕ) (texts : ℕ → List ℕ) (port : ℕ) where
+module _ (owes owes' : List (List ℕ) → List ℕ) (at ins : ℕ) (within : at < ins) (waiting new : List ℕ) (texts : ℕ → List ℕ) (port : ℕ) where
   -- what is due where the in at hand is open
   abbrev at_first : List ℕ → List ℕ
   at_first text = if port == 0 then text else []
@@ -61,30 +59,31 @@ module _ (owes owes' : List (List ℕ) → List ℕ) (at ins : ℕ) (within : at
   due-open owes waiting texts = ap (λ is_open. at_first (waiting ++ (if is_open then owes (texts_from texts at ins) else []))) (lt-ltb at ins within)
 
   -- bytes come
-  pub bytes-fed : (bytes : List ℕ) → ((more : List ℕ) (others : List (List ℕ)) → new ++ owes' (more ∷ others) ≡ owes ((bytes ++ more) ∷ others))
-      → due_in_series new at ins owes' texts port ≡ due_in_series [] at ins owes (comes at (piece.Bytes bytes) texts) port
+  pub bytes-fed : (bytes : List ℕ) → ((more : List ℕ) (others : List (List ℕ)) → new ++ owes' (more ∷ others) ≡ waiting ++ owes ((bytes ++ more) ∷ others))
+      → due_in_series new at ins owes' texts port ≡ due_in_series waiting at ins owes (comes at (piece.Bytes bytes) texts) port
   bytes-fed bytes fed =
       due-open owes' new texts ∙ ap (λ coming. at_first (new ++ owes' coming)) (texts-next at ins texts within)
-      ∙ ap at_first (fed (texts at) (texts_from texts (at + 1) ins)) ∙ ap (λ coming. at_first (owes coming)) (sym (texts-come at ins (piece.Bytes bytes) texts within))
-      ∙ sym (due-open owes [] (comes at (piece.Bytes bytes) texts))
+      ∙ ap at_first (fed (texts at) (texts_from texts (at + 1) ins)) ∙ ap (λ coming. at_first (waiting ++ owes coming)) (sym (texts-come at ins (piece.Bytes bytes) texts within))
+      ∙ sym (due-open owes waiting (comes at (piece.Bytes bytes) texts))
 
   -- the in ends, and another is behind it
-  pub input-ended : at + 1 < ins → ((others : List (List ℕ)) → new ++ owes' others ≡ owes ([] ∷ others))
-      → due_in_series new (at + 1) ins owes' texts port ≡ due_in_series [] at ins owes (comes at piece.End texts) port
+  pub input-ended : at + 1 < ins → ((others : List (List ℕ)) → new ++ owes' others ≡ waiting ++ owes ([] ∷ others))
+      → due_in_series new (at + 1) ins owes' texts port ≡ due_in_series waiting at ins owes (comes at piece.End texts) port
   input-ended another ended =
       ap (λ is_open. at_first (new ++ (if is_open then owes' (texts_from texts (at + 1) ins) else []))) (lt-ltb (at + 1) ins another)
-      ∙ ap at_first (ended (texts_from texts (at + 1) ins)) ∙ ap (λ coming. at_first (owes coming)) (sym (texts-come at ins piece.End texts within))
-      ∙ sym (due-open owes [] (comes at piece.End texts))
+      ∙ ap at_first (ended (texts_from texts (at + 1) ins)) ∙ ap (λ coming. at_first (waiting ++ owes coming)) (sym (texts-come at ins piece.End texts within))
+      ∙ sym (due-open owes waiting (comes at piece.End texts))
 
   -- the last in ends
-  pub last-ended : at + 1 ≡ ins → new ≡ owes ([] ∷ []) → due_in_series new (at + 1) ins owes' texts port ≡ due_in_series [] at ins owes (comes at piece.End texts) port
+  pub last-ended : at + 1 ≡ ins → new ≡ waiting ++ owes ([] ∷ [])
+      → due_in_series new (at + 1) ins owes' texts port ≡ due_in_series waiting at ins owes (comes at piece.End texts) port
   last-ended last ended =
       ap (λ is_open. at_first (new ++ (if is_open then owes' (texts_from texts (at + 1) ins) else [])))
       (false_from_ne_true (nat_lt (at + 1) ins) (λ below. let before = ltb-true (at + 1) ins below in absurd (omega (arith, before, last))))
       ∙ ap at_first (append-nil new ∙ ended)
-      ∙ ap (λ coming. at_first (owes ([] ∷ coming))) (sym (texts-none (at + 1) ins texts (omega (arith, last))))
-      ∙ ap (λ coming. at_first (owes coming)) (sym (texts-come at ins piece.End texts within))
-      ∙ sym (due-open owes [] (comes at piece.End texts))
+      ∙ ap (λ coming. at_first (waiting ++ owes ([] ∷ coming))) (sym (texts-none (at + 1) ins texts (omega (arith, last))))
+      ∙ ap (λ coming. at_first (waiting ++ owes coming)) (sym (texts-come at ins piece.End texts within))
+      ∙ sym (due-open owes waiting (comes at piece.End texts))
 
 module _ (picks picks' : List (List ℕ) → Bool) (picked picked' : Bool) (at ins : ℕ) (within : at < ins) (texts : ℕ → List ℕ) where
   selects-open : (picks : List (List ℕ) → Bool) (picked : Bool) (texts : ℕ → List ℕ) → selects_in_series at ins picks picked texts ≡ picks (texts_from texts at ins)
@@ -109,9 +108,9 @@ module _ (picks picks' : List (List ℕ) → Bool) (picked picked' : Bool) (at i
       ∙ ended ∙ ap (λ coming. picks ([] ∷ coming)) (sym (texts-none (at + 1) ins texts (omega (arith, last))))
       ∙ ap picks (sym (texts-come at ins piece.End texts within)) ∙ sym (selects-open picks picked (comes at piece.End texts))
 
--- whose turn it is: the in at hand, once nothing waits
+-- whose turn it is: the in at hand
 pub turn-taken : (urgent : Bool) (at ins : ℕ) (putting : Bool) → is_take (next_in_order urgent at ins putting) ≡ true
-    → ((putting && urgent) ≡ false) × ((at < ins) × (port_taken (next_in_order urgent at ins putting) ≡ at))
+    → (at < ins) × (port_taken (next_in_order urgent at ins putting) ≡ at)
 turn-taken urgent at ins putting turn = by_urgent (putting && urgent) (nat_lt at ins) refl turn
   where
     by_putting : (is_open : Bool) → is_take (if is_open then act.Put 0 else act.Stop) ≡ true → ⊥
@@ -119,9 +118,9 @@ turn-taken urgent at ins putting turn = by_urgent (putting && urgent) (nat_lt at
     by_putting false turn = true≢false (sym turn)
 
     by_urgent : (waits within : Bool) → nat_lt at ins ≡ within → is_take (if waits then act.Put 0 else if within then act.Take at else if putting then act.Put 0 else act.Stop) ≡ true
-        → (waits ≡ false) × ((at < ins) × (port_taken (if waits then act.Put 0 else if within then act.Take at else if putting then act.Put 0 else act.Stop) ≡ at))
+        → (at < ins) × (port_taken (if waits then act.Put 0 else if within then act.Take at else if putting then act.Put 0 else act.Stop) ≡ at)
     by_urgent true within is turn = absurd (true≢false (sym turn))
-    by_urgent false true is turn = (refl, (ltb-true at ins is, refl))
+    by_urgent false true is turn = (ltb-true at ins is, refl)
     by_urgent false false is turn = absurd (by_putting putting turn)
 
 -- it puts at the one out
@@ -134,47 +133,42 @@ put-port urgent at ins putting = by_case (putting && urgent) (nat_lt at ins) put
     by_case false false true = refl
     by_case false false false = refl
 
-module _ (owes owes' : List (List ℕ) → List ℕ) (waiting : List ℕ) (at ins : ℕ) (putting broken : Bool)
-    (turn : is_take (next_in_order (broken || not (is_empty waiting)) at ins putting) ≡ true) (is_whole : broken ≡ false)
-    (none : putting ≡ false → broken ≡ false → waiting ≡ []) (new : List ℕ) (texts : ℕ → List ℕ) (port : ℕ) where
+module _ (owes owes' : List (List ℕ) → List ℕ) (urgent : Bool) (at ins : ℕ) (putting : Bool) (turn : is_take (next_in_order urgent at ins putting) ≡ true)
+    (waiting new : List ℕ) (texts : ℕ → List ℕ) (port : ℕ) where
   abbrev port_now : ℕ
-  port_now = port_taken (next_in_order (broken || not (is_empty waiting)) at ins putting)
+  port_now = port_taken (next_in_order urgent at ins putting)
 
-  same-before : (coming : Piece) → due_in_series [] at ins owes (comes at coming texts) port ≡ due_in_series waiting at ins owes (comes port_now coming texts) port
-  same-before coming =
-      let mine = turn-taken (broken || not (is_empty waiting)) at ins putting turn in
-      (λ i. due_in_series (sym (none-waits putting broken waiting mine.0 is_whole none) i) at ins owes (comes (sym mine.1.1 i) coming texts) port)
+  is-open : at < ins
+  is-open = (turn-taken urgent at ins putting turn).0
+
+  same-port : (coming : Piece) → due_in_series waiting at ins owes (comes at coming texts) port ≡ due_in_series waiting at ins owes (comes port_now coming texts) port
+  same-port coming = ap (λ from. due_in_series waiting at ins owes (comes from coming texts) port) (sym (turn-taken urgent at ins putting turn).1)
 
   pub bytes-taken : (coming : Piece) (bytes : List ℕ) → coming ≡ piece.Bytes bytes
-      → ((more : List ℕ) (others : List (List ℕ)) → new ++ owes' (more ∷ others) ≡ owes ((bytes ++ more) ∷ others))
+      → ((more : List ℕ) (others : List (List ℕ)) → new ++ owes' (more ∷ others) ≡ waiting ++ owes ((bytes ++ more) ∷ others))
       → due_in_series new at ins owes' texts port ≡ due_in_series waiting at ins owes (comes port_now coming texts) port
   bytes-taken coming bytes is fed =
-      let mine = turn-taken (broken || not (is_empty waiting)) at ins putting turn in
-      bytes-fed owes owes' at ins mine.1.0 new texts port bytes fed ∙ same-before (piece.Bytes bytes)
+      bytes-fed owes owes' at ins is-open waiting new texts port bytes fed ∙ same-port (piece.Bytes bytes)
       ∙ ap (λ coming. due_in_series waiting at ins owes (comes port_now coming texts) port) (sym is)
 
   pub end-taken : (coming : Piece) (is_last : Bool) → coming ≡ piece.End → is_last ≡ (at + 1 == ins)
-      → (is_last ≡ false → (others : List (List ℕ)) → new ++ owes' others ≡ owes ([] ∷ others)) → (is_last ≡ true → new ≡ owes ([] ∷ []))
+      → (is_last ≡ false → (others : List (List ℕ)) → new ++ owes' others ≡ waiting ++ owes ([] ∷ others)) → (is_last ≡ true → new ≡ waiting ++ owes ([] ∷ []))
       → due_in_series new (at + 1) ins owes' texts port ≡ due_in_series waiting at ins owes (comes port_now coming texts) port
   end-taken coming is_last is own more last =
-      by_last is_last own more last ∙ same-before piece.End ∙ ap (λ coming. due_in_series waiting at ins owes (comes port_now coming texts) port) (sym is)
+      by_last is_last own more last ∙ same-port piece.End ∙ ap (λ coming. due_in_series waiting at ins owes (comes port_now coming texts) port) (sym is)
     where
-      within : at < ins
-      within = (turn-taken (broken || not (is_empty waiting)) at ins putting turn).1.0
-
       another : (before : Bool) → nat_lt (at + 1) ins ≡ before → (at + 1 == ins) ≡ false → at + 1 < ins
       another true below differs = ltb-true (at + 1) ins below
       another false above differs =
           let past = ltb-false (at + 1) ins above in
-          let here = within in
-          let same : at + 1 ≡ ins = omega (arith, past, here) in
+          let same : at + 1 ≡ ins = omega (arith, past, is-open) in
           absurd (true≢false (sym (eq-eqb (at + 1) ins same) ∙ differs))
 
-      by_last : (is_last : Bool) → is_last ≡ (at + 1 == ins) → (is_last ≡ false → (others : List (List ℕ)) → new ++ owes' others ≡ owes ([] ∷ others))
-          → (is_last ≡ true → new ≡ owes ([] ∷ []))
-          → due_in_series new (at + 1) ins owes' texts port ≡ due_in_series [] at ins owes (comes at piece.End texts) port
-      by_last true own more last = last-ended owes owes' at ins within new texts port (eqb-true (at + 1) ins (sym own)) (last refl)
-      by_last false own more last = input-ended owes owes' at ins within new texts port (another (nat_lt (at + 1) ins) refl (sym own)) (more refl)
+      by_last : (is_last : Bool) → is_last ≡ (at + 1 == ins) → (is_last ≡ false → (others : List (List ℕ)) → new ++ owes' others ≡ waiting ++ owes ([] ∷ others))
+          → (is_last ≡ true → new ≡ waiting ++ owes ([] ∷ []))
+          → due_in_series new (at + 1) ins owes' texts port ≡ due_in_series waiting at ins owes (comes at piece.End texts) port
+      by_last true own more last = last-ended owes owes' at ins is-open waiting new texts port (eqb-true (at + 1) ins (sym own)) (last refl)
+      by_last false own more last = input-ended owes owes' at ins is-open waiting new texts port (another (nat_lt (at + 1) ins) refl (sym own)) (more refl)
 
 -- bytes are put of what waits
 pub bytes-put : (owes : List (List ℕ) → List ℕ) (at ins put_on : ℕ) (waiting bytes behind : List ℕ) (texts : ℕ → List ℕ) (port : ℕ) → put_on ≡ 0 → waiting ≡ bytes ++ behind

@@ -1,11 +1,13 @@
 -- What waits to be put.
-use Rattle.std.proofs.Common.{◌≡◌, ◌≤◌, ◌<◌, ◌-◌, ◌==◌, ◌&&◌, ◌||◌, not, ℕ, List, [], ◌∷◌, length, drop, Bool, true, false, if◌then◌else◌, refl, ap, sym, ◌∙◌, arith}
+use Rattle.std.proofs.Common.{◌≡◌, ◌≤◌, ◌<◌, ◌-◌, ◌==◌, ◌&&◌, nat_le, ℕ, List, [], ◌∷◌, length, drop, Bool, true, false, if◌then◌else◌, refl, ap, sym, ◌∙◌, arith}
 use Rattle.std.proofs.lemmas.Bool.{true≢false, eq-eqb, eqb-true}
 use Rattle.std.proofs.lemmas.List.{drop_all, length-drop}
 use Rattle.ps_lines.specs.Lines.{is_empty}
 use Rattle.fl_graph.specs.Machines.{is_take}
 use Rattle.fl_graph.specs.declared.pieces.Act.TheVariants as act
 use Rattle.fl_machines.specs.Through.{next_act}
+use Rattle.fl_machines.specs.Waiting.{is_worth_putting}
+use Rattle.fl_machines.specs.declared.waiting.TheConstants.{HALF_PIECE}
 
 pub empty-none : (text : List ℕ) → is_empty text ≡ true → text ≡ []
 empty-none [] is = refl
@@ -35,22 +37,24 @@ front-filled out given is =
     let left : length (drop given out) ≡ length out - given = length-drop given out in
     omega (arith, some, left)
 
--- nothing waits where a machine that isn't broken doesn't put at once
-pub none-waits : (putting broken : Bool) (waiting : List ℕ) → (putting && (broken || not (is_empty waiting))) ≡ false → broken ≡ false
-    → (putting ≡ false → broken ≡ false → waiting ≡ []) → waiting ≡ []
-none-waits putting broken [] idle whole empty = refl
-none-waits true true (byte ∷ waiting) idle whole empty = absurd (true≢false whole)
-none-waits true false (byte ∷ waiting) idle whole empty = absurd (true≢false idle)
-none-waits false broken (byte ∷ waiting) idle whole empty = empty refl whole
+-- what is left of a buffer is worth putting where it is long enough
+pub worth-behind : (out : List ℕ) (given size : ℕ) → length out ≡ size → nat_le HALF_PIECE (size - given) ≡ is_worth_putting (drop given out)
+worth-behind out given size sized = ap (nat_le HALF_PIECE) (ap (λ size. size - given) (sym sized) ∙ sym (length-drop given out))
 
-pub idle-takes : (waiting : List ℕ) (broken taking putting : Bool) → is_take (next_act (broken || not (is_empty waiting)) taking putting) ≡ true → broken ≡ false
-    → (putting ≡ false → broken ≡ false → waiting ≡ []) → waiting ≡ []
-idle-takes waiting broken taking putting turn whole empty = none-waits putting broken waiting (by_urgent (putting && (broken || not (is_empty waiting))) taking putting turn) whole empty
+-- nothing isn't
+pub nothing-worth : is_worth_putting [] ≡ false
+nothing-worth = refl
+
+-- a machine that takes has its in open, and takes from there
+pub open-takes : (urgent taking putting : Bool) → is_take (next_act urgent taking putting) ≡ true → taking ≡ true
+open-takes urgent true putting turn = refl
+open-takes urgent false putting turn = absurd (by_putting (putting && urgent) putting turn)
   where
-    by_urgent : (urgent taking putting : Bool) → is_take (if urgent then act.Put 0 else if taking then act.Take 0 else if putting then act.Put 0 else act.Stop) ≡ true → urgent ≡ false
-    by_urgent true taking putting turn = absurd (true≢false (sym turn))
-    by_urgent false taking putting turn = refl
+    by_putting : (waits putting : Bool) → is_take (if waits then act.Put 0 else if putting then act.Put 0 else act.Stop) ≡ true → ⊥
+    by_putting true putting turn = true≢false (sym turn)
+    by_putting false true turn = true≢false (sym turn)
+    by_putting false false turn = true≢false (sym turn)
 
-pub ruleset buffers = (empty-none, empty-behind, front-filled)
+pub ruleset buffers = (empty-none, empty-behind, front-filled, worth-behind)
 
-pub ruleset waits = (empty-none, none-waits, idle-takes)
+pub ruleset waits = (empty-none, nothing-worth, open-takes)

@@ -107,13 +107,13 @@ fn close(opens: &mut Vec<bool>, port: u32)
 }
 
 impl<S: PortStream> Machine for AtPorts<S> {
-    ghost use Rattle.std.specs.Prelude.{◌||◌, not};
-    ghost use Rattle.ps_lines.specs.Lines.{is_empty};
+    ghost use Rattle.std.specs.Prelude.{◌||◌};
     ghost use Rattle.fl_machines.specs.AtPorts.{due_at_ports, next_at_ports};
     ghost use Rattle.fl_machines.specs.Through.{only_port};
+    ghost use Rattle.fl_machines.specs.Waiting.{is_worth_putting};
 
     ghost state = { λ machine. record {
-      act = next_at_ports (machine.broken || not (is_empty machine.waiting)) (turn_of machine.broken machine.opens.items (S.wanted machine.stream)) machine.putting;
+      act = next_at_ports (machine.broken || is_worth_putting machine.waiting) (turn_of machine.broken machine.opens.items (S.wanted machine.stream)) machine.putting;
       takes = λ port. get_or machine.opens.items port false;
       puts = only_port machine.putting;
       numbered_ins = λ port. false;
@@ -124,7 +124,7 @@ impl<S: PortStream> Machine for AtPorts<S> {
     } };
 
     fn next(&self) -> Act {
-        if self.putting && (self.broken || !self.waiting.is_empty()) {
+        if self.putting && (self.broken || self.waiting.is_worth_putting()) {
             return Act::Put(0);
         }
         match self.turn() {

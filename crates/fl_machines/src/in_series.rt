@@ -95,12 +95,12 @@ fn end_input<S: Series>(series: &mut S, is_last: bool, out: &mut Vec<u8>) -> Res
 
 impl<S: Series> Machine for InSeries<S> {
     ghost use Rattle.std.specs.Prelude.{◌||◌};
-    ghost use Rattle.ps_lines.specs.Lines.{is_empty};
     ghost use Rattle.fl_machines.specs.InSeries.{due_in_series, next_in_order, ports_from, selects_in_series};
     ghost use Rattle.fl_machines.specs.Through.{only_port};
+    ghost use Rattle.fl_machines.specs.Waiting.{is_worth_putting};
 
     ghost state = { λ machine. record {
-      act = next_in_order (machine.broken || not (is_empty machine.waiting)) machine.at machine.ins machine.putting;
+      act = next_in_order (machine.broken || is_worth_putting machine.waiting) machine.at machine.ins machine.putting;
       takes = ports_from machine.at machine.ins;
       puts = only_port machine.putting;
       numbered_ins = λ port. false;
@@ -111,7 +111,7 @@ impl<S: Series> Machine for InSeries<S> {
     } };
 
     fn next(&self) -> Act {
-        if self.putting && (self.broken || !self.waiting.is_empty()) {
+        if self.putting && (self.broken || self.waiting.is_worth_putting()) {
             return Act::Put(0);
         }
         if self.at < self.ins {

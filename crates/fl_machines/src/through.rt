@@ -41,12 +41,12 @@ impl<S: Stream> Through<S> {
 }
 
 impl<S: Stream> Machine for Through<S> {
-    ghost use Rattle.std.specs.Prelude.{◌||◌, not};
-    ghost use Rattle.ps_lines.specs.Lines.{is_empty};
+    ghost use Rattle.std.specs.Prelude.{◌||◌};
     ghost use Rattle.fl_machines.specs.Through.{due_through, next_act, only_port, selects_through};
+    ghost use Rattle.fl_machines.specs.Waiting.{is_worth_putting};
 
     ghost state = { λ machine. record {
-      act = next_act (machine.broken || not (is_empty machine.waiting)) machine.taking machine.putting;
+      act = next_act (machine.broken || is_worth_putting machine.waiting) machine.taking machine.putting;
       takes = only_port machine.taking;
       puts = only_port machine.putting;
       numbered_ins = λ port. false;
@@ -57,7 +57,7 @@ impl<S: Stream> Machine for Through<S> {
     } };
 
     fn next(&self) -> Act {
-        if self.putting && (self.broken || !self.waiting.is_empty()) {
+        if self.putting && (self.broken || self.waiting.is_worth_putting()) {
             return Act::Put(0);
         }
         if self.taking {

@@ -1,12 +1,17 @@
 //! What a machine has written, and hasn't put yet.
 ghost use Rattle.std.specs.Prelude.{◌≡◌, ◌<◌, ◌≤◌, ◌++◌, [], drop, length, vec_len, false, true, IfOk};
 ghost use Rattle.ps_lines.specs.Lines.{is_empty as is_empty_lem};
+ghost use Rattle.fl_machines.specs.Waiting.{is_worth_putting as is_worth_putting_lem};
 
 use fl_graph::{Bytes, MAX_PIECE, first_piece};
 use ps_lines::Memory;
 use std::alloc::Global;
 use std::marker::Model;
 use std::mem;
+
+/// From so many bytes on, half of what a piece can have, what waits is put before more is taken. Each piece is handed from thread to thread and
+/// takes a turn of each node behind, and from half a piece on this costs no more than twice what it costs for full ones.
+pub const HALF_PIECE: usize = MAX_PIECE / 2;
 
 /// Bytes that a machine has written, and has still to put. Contracts see the list of them.
 ///
@@ -54,18 +59,26 @@ impl Waiting {
         self.given == self.out.len()
     }
 
-    /// A buffer to write to, which has no bytes yet. What waited is dropped.
+    /// Whether so much waits that it is put before more is taken. Less is kept until more is written behind it, or nothing more comes.
+    #[tactic(auto, using(crate::proofs::WaitingLemmas::buffers))]
+    pub fn is_worth_putting(&self) -> bool
+        ensures worth { result ≡ is_worth_putting_lem self.now }
+    {
+        self.out.len() - self.given >= HALF_PIECE
+    }
+
+    /// What waits, in a buffer to write more behind it. Nothing waits until it is held again.
     pub fn buffer(&mut self) -> Vec<u8>
-        ensures empty { result.items ≡ [] }
+        ensures waited { result.items ≡ self.old }
         ensures none { self.new ≡ [] }
     {
         let mut out = mem::replace(&mut self.out, Vec::new(self.alloc));
+        drop_front(&mut out, self.given);
         self.given = 0;
-        out.clear();
         out
     }
 
-    /// What was written waits from now on, and nothing else does.
+    /// What the buffer has waits from now on, and nothing else does.
     pub fn hold(&mut self, out: Vec<u8>)
         ensures { self.new ≡ out.items }
     {
@@ -93,6 +106,19 @@ impl Waiting {
         }
         copy_front(self.alloc, self.out.as_slice(), &mut self.given)
     }
+}
+
+/// Drops the bytes before a place, those that were given.
+fn drop_front(out: &mut Vec<u8>, given: usize)
+    requires { given ≤ length out.old.items }
+    ensures { out.new.items ≡ drop given out.old.items }
+{
+    if given == 0 {
+        return;
+    }
+    let left = out.len() - given;
+    out.as_mut_slice().copy_within(given.., 0);
+    out.truncate(left);
 }
 
 /// Whether the buffer itself is put. One that is half empty isn't: pieces may wait on an edge in any number, and would hold it all. Nor is one with more

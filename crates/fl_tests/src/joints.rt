@@ -29,25 +29,25 @@ fn show(piece: &Piece, text: &mut Vec<u8>) -> Result<(), Memory> {
     Ok(())
 }
 
-/// One act of a joint: it takes the last piece of an input, or its piece is shown behind an output. False once it stops or waits.
-fn step(
-    joint: &mut Joint,
+/// One act of a machine: it takes the last piece of an input, or its piece is shown behind an output. False once it stops or waits.
+fn step<M: Machine>(
+    machine: &mut M,
     inputs: &mut Vec<Vec<Piece>>,
     outputs: &mut Vec<Vec<u8>>,
 ) -> Result<bool, Memory> {
-    match joint.next() {
+    match machine.next() {
         Act::Take(port) => {
             let Some(input) = inputs.get_mut(port as usize) else {
                 return Ok(false);
             };
             match input.pop() {
                 None | Some(Piece::Mark) => return Ok(false),
-                Some(piece) => joint.take(piece)?,
+                Some(piece) => machine.take(piece)?,
             }
             Ok(true)
         }
         Act::Put(port) => {
-            let piece = joint.put()?;
+            let piece = machine.put()?;
             let Some(output) = outputs.get_mut(port as usize) else {
                 return Ok(false);
             };
@@ -74,17 +74,17 @@ fn put_for(
     Ok(text)
 }
 
-/// What it puts on each out.
-fn outputs_of(
+/// What a machine with so many outs puts on each for these inputs, each with its last piece first.
+pub(crate) fn outputs_of<M: Machine>(
     alloc: Global,
-    joint: &mut Joint,
+    machine: &mut M,
     inputs: Vec<Vec<Piece>>,
     outs: u32,
 ) -> Result<Vec<Vec<u8>>, Memory> {
     let mut left = inputs;
     let mut outputs = nothing_on(alloc, outs)?;
     for _ in 0..400 {
-        if !step(joint, &mut left, &mut outputs)? {
+        if !step(machine, &mut left, &mut outputs)? {
             return Ok(outputs);
         }
     }
@@ -124,7 +124,12 @@ fn expect_put(
 }
 
 /// The pieces of a text that is cut behind some bytes, and how it ends: the last first.
-fn pieces_of(alloc: Global, text: &[u8], cuts: u64, end: Piece) -> Result<Vec<Piece>, Memory> {
+pub(crate) fn pieces_of(
+    alloc: Global,
+    text: &[u8],
+    cuts: u64,
+    end: Piece,
+) -> Result<Vec<Piece>, Memory> {
     let mut cut = cut_behind(alloc, text, cuts)?;
     let mut pieces = Vec::new(alloc);
     pieces.push(end)?;
@@ -269,7 +274,7 @@ fn an_input_alone_stays_as_it_is(rt: HostRuntime) -> Result<(), Fail> {
     Ok(())
 }
 
-/// The invocation of these words, if they are one that is built.
+/// The invocation of the words of a line, if they are one that is built.
 fn read_words(alloc: Global, line: &str) -> Result<Option<Inv>, Memory>
     ensures { IfOk result (λ read. IfSome read (λ inv. is_built_of inv ≡ true)) }
 {
@@ -277,14 +282,23 @@ fn read_words(alloc: Global, line: &str) -> Result<Option<Inv>, Memory>
     for word in line.split(' ') {
         words.push(Vec::from_slice(alloc, word.as_bytes())?)?;
     }
+    built_of(alloc, words.as_slice())
+}
+
+/// The invocation of these words, if they are one that is built.
+pub(crate) fn built_of(alloc: Global, words: &[Vec<u8>]) -> Result<Option<Inv>, Memory>
+    ensures { IfOk result (λ read. IfSome read (λ inv. is_built_of inv ≡ true)) }
+{
     if words.is_empty() {
         return Ok(None);
     }
-    match read_inv(alloc, words.as_slice()) {
+    match read_inv(alloc, words) {
         Ok(inv) => {
             if is_built(&inv) {
                 return Ok(Some(inv));
             }
+            // An invocation is let go by a call: going out of scope is proved a command at a time.
+            drop(inv);
             Ok(None)
         }
         Err(ArgFault::Memory) => Err(Memory),
@@ -313,10 +327,11 @@ fn expect_aggregate(
 }
 
 /// The node that aggregates the maps of an invocation, where such a node has a joint.
-fn aggregate_of(inv: Inv) -> Option<NodeKind>
+pub(crate) fn aggregate_of(inv: Inv) -> Option<NodeKind>
     requires { is_built_of inv ≡ true }
     ensures joint { IfSome result (λ kind. is_joint kind ≡ true) }
-    ensures ports { IfSome result (λ kind. may_have kind 3 1 ≡ true) }
+    ensures two { IfSome result (λ kind. may_have kind 2 1 ≡ true) }
+    ensures three { IfSome result (λ kind. may_have kind 3 1 ≡ true) }
     ensures built { IfSome result (λ kind. runs_what_is_built kind ≡ true) }
 {
     match inv {

@@ -32,16 +32,16 @@ use Rattle.fl_classes.specs.Sources.{source_texts, text_read}
 use Rattle.fl_engines.specs.Logs.{Log}
 use Rattle.fl_engines.specs.OwnEnds.{texts_for}
 use Rattle.fl_commands.specs.Graphs.{Executes, begun_at, begun_for, files_begun, first_lacking, is_file, is_target, lacking, outcome_over, target, unless}
-use Rattle.fl_commands.specs.Inner.Begun.{AllCanBegin, CanBegin}
+use Rattle.fl_commands.specs.Inner.Begun.{AllCanBegin, CanBegin, aimed_at}
 use Rattle.fl_commands.specs.Inner.Overs.{ended_of}
 use Rattle.fl_commands.specs.Inner.Writing.{AreApart}
 use Rattle.fl_commands.specs.Runs.{Counts, HasCause, IfDone, NoFewer, Runs, counts_of, graph_asks}
-use Rattle.fl_commands.specs.Writers.{AreFilesAt, AreFilled, all_added, filled}
+use Rattle.fl_commands.specs.Writers.{AreFilesAt, AreFilled, ChangesOnly, all_added, filled}
 use Rattle.fl_commands.specs.declared.runs.Ended.{Ended}
 use Rattle.fl_commands.specs.declared.runs.Ended.TheVariants as ended
 use Rattle.fl_commands.proofs.ReaderLemmas.{either}
 use Rattle.fl_commands.proofs.RunLemmas.{done-on, graph-noted}
-use Rattle.fl_commands.proofs.WriterLemmas.{among, apart-of, by_path, elsewhere, here, same-path}
+use Rattle.fl_commands.proofs.WriterLemmas.{among, among-back, among-front, apart-of, by_path, elsewhere, here, only-more, only-within, same-path}
 
 -- WHERE A FILE IS LACKING
 none-or : {Item : Type 0} (one other : Option Item) → option_or one other ≡ None → (one ≡ None) × (other ≡ None)
@@ -284,9 +284,9 @@ module _ (graph : Graph) (paths : ArePathsApart (paths_read graph.nodes) (paths_
 
   pub executed : (first mid last : TreeState) (left left' taken taken' : Option (List ℕ)) (input output before between : ℕ) (new : Counts) (used used' : Option Log) (how : Ended)
       → IfSome first.held NoWriterOut → mid.held ≡ option_map (files_begun graph.nodes) first.held → Balanced first mid → between ≡ before
-      → Runs (graph_asks graph) mid last left left' taken taken' (counts_of input output between) new used used' how
+      → ChangesOnly (paths_written graph.nodes) first.held mid.held → Runs (graph_asks graph) mid last left left' taken taken' (counts_of input output between) new used used' how
       → Executes graph first last left left' taken taken' (counts_of input output before) new used used' how
-  executed first mid last left left' taken taken' input output before between new used used' how whole begins lent calm ran =
+  executed first mid last left left' taken taken' input output before between new used used' how whole begins lent calm kept ran =
       let told : (files : Files) → first.held ≡ Some files → mid.held ≡ Some (files_begun graph.nodes files) =
       (λ files is. begins ∙ ap (option_map (files_begun graph.nodes)) is) in
       record {
@@ -301,6 +301,7 @@ module _ (graph : Graph) (paths : ArePathsApart (paths_read graph.nodes) (paths_
         noted = done-on how (λ status noted. noted ∙ sym (graph-noted graph used)) ran.noted;
         whole = done-on how (λ status fills. whole-after first.held mid.held last.held whole begins fills) ran.filled;
         part = λ text files is is_text. subst (λ (it : Outcome). GrewByPrefix taken taken' it.output) (outcome-still text files) (ran.part text (files_begun graph.nodes files) (told files is) is_text);
+        kept = only-more kept ran.kept;
         lent = balanced-more first mid last lent ran.lent;
         later = record {
           input = ran.later.input;
@@ -311,28 +312,30 @@ module _ (graph : Graph) (paths : ArePathsApart (paths_read graph.nodes) (paths_
       }
 
   -- a file couldn't be begun
-  pub not-executed : (first last : TreeState) (left taken : Option (List ℕ)) (input output before now : ℕ) (used : Option Log) (fault : WorldErr) → Balanced first last → before ≤ now
+  pub not-executed : (first last : TreeState) (left taken : Option (List ℕ)) (input output before now : ℕ) (used : Option Log) (fault : WorldErr) → ChangesOnly (paths_written graph.nodes) first.held last.held → Balanced first last → before ≤ now
       → (fault ≡ error.Failed → Rose before now)
       → Executes graph first last left left taken taken (counts_of input output before) (counts_of input output now) used used (ended_of fault)
-  not-executed first last left taken input output before now used error.Failed lent later failed = record {
+  not-executed first last left taken input output before now used error.Failed kept lent later failed = record {
     output = λ text files is is_text. tt;
     status = λ text files is is_text. tt;
     held = λ text files is is_text. tt;
     read = tt;
     noted = tt;
     whole = tt;
+    kept = kept;
     part = λ text files is is_text. grew_by_nothing _ _;
     lent = lent;
     later = record { input = omega arith; output = omega arith; tree = later };
     cause = failed refl;
   }
-  not-executed first last left taken input output before now used error.Memory lent later failed = record {
+  not-executed first last left taken input output before now used error.Memory kept lent later failed = record {
     output = λ text files is is_text. tt;
     status = λ text files is is_text. tt;
     held = λ text files is is_text. tt;
     read = tt;
     noted = tt;
     whole = tt;
+    kept = kept;
     part = λ text files is is_text. grew_by_nothing _ _;
     lent = lent;
     later = record { input = omega arith; output = omega arith; tree = later };
@@ -340,11 +343,29 @@ module _ (graph : Graph) (paths : ArePathsApart (paths_read graph.nodes) (paths_
   }
 
 -- BEGINNING, one behind the other
+-- the path that a node writes is that of its file
+target-path : (kind : NodeKind) → path_written kind ≡ option_map (λ (aim : Components × Mode). aim.0) (target kind)
+target-path (kind.TeeFile path mode) = refl
+target-path (kind.Sink (to.File path mode)) = refl
+target-path (kind.Sink to.Output) = refl
+target-path other = refl
+
 -- the first of the nodes that are left, and the rest
 module _ (all left rest : List (Cell NodeKind)) (node : Cell NodeKind) (is : left ≡ node ∷ rest) (aim : Option (Components × Mode)) (aim_is : aim ≡ target node.kind) where
   pub first-made : (held : Option Files) → IfSome held (λ files. AllCanBegin files left) → IfSome held (λ files. CanBegin files aim)
   first-made None made = tt
   first-made (Some files) made = subst (CanBegin files) (sym aim_is) (subst (AllCanBegin files) is made).0
+
+  -- no file but theirs is another
+  pub rest-kept : (held held' last : Option Files) → ChangesOnly (aimed_at aim) held held' → ChangesOnly (paths_written rest) held' last → ChangesOnly (paths_written left) held last
+  rest-kept held held' last first second =
+      subst (λ (it : List (Cell NodeKind)). ChangesOnly (paths_written it) held last) (sym is)
+      (subst (λ (it : Option Components). ChangesOnly (cons_option it (paths_written rest)) held last) (sym (target-path node.kind ∙ ap (option_map (λ (it : Components × Mode). it.0)) (sym aim_is)))
+      (by_aim aim first))
+    where
+      by_aim : (it : Option (Components × Mode)) → ChangesOnly (aimed_at it) held held' → ChangesOnly (cons_option (option_map (λ (aim : Components × Mode). aim.0) it) (paths_written rest)) held last
+      by_aim None first = only-more (only-within (λ at one. absurd one) first) second
+      by_aim (Some it) first = only-more (only-within (among-front (it.0 ∷ []) (paths_written rest)) first) (only-within (among-back (it.0 ∷ []) (paths_written rest)) second)
 
   module _ (held held' : Option Files) (next : held' ≡ option_map (begun_for aim) held) where
     pub rest-made : IfSome held (λ files. AllCanBegin files left) → IfSome held' (λ files. AllCanBegin files rest)

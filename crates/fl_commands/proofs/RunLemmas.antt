@@ -53,11 +53,11 @@ use Rattle.fl_commands.specs.Inner.Segments.{AllThere, IsGraphOf, segment_asks}
 use Rattle.fl_commands.specs.Inner.Writing.{AreApart, AreTold, Fills, Returns, out_at}
 use Rattle.fl_commands.specs.Readers.{AreThere, has_count}
 use Rattle.fl_commands.specs.Runs.{Asks, Counts, HasCause, IfDone, NoFewer, Runs, counts_of, graph_asks, left_behind, with_noted}
-use Rattle.fl_commands.specs.Writers.{AreFilesAt, AreFilled, all_added, filled}
+use Rattle.fl_commands.specs.Writers.{AreFilesAt, AreFilled, ChangesOnly, all_added, filled}
 use Rattle.fl_commands.specs.declared.runs.Ended.{Ended}
 use Rattle.fl_commands.specs.declared.runs.Ended.TheVariants as ended
 use Rattle.fl_commands.proofs.ReaderLemmas.{rose-earlier, rose-later}
-use Rattle.fl_commands.proofs.WriterLemmas.{filled-added, filled-out, grown-told, texts_begun, told-count}
+use Rattle.fl_commands.proofs.WriterLemmas.{filled-added, filled-out, grown-told, only-more, only-none, only-out, only-same, texts_begun, told-count}
 
 -- what is said of the graph of stages, in one
 pub graph-so : (width : ℕ) (segment : List Stage) (from : First) (graph : Graph) → Valid graph.nodes graph.status → are_run graph.nodes ≡ true → paths_read graph.nodes ≡ files_read segment
@@ -186,6 +186,7 @@ nothing-ran asks tree left taken counts used = record {
   filled = tt;
   part = λ input files told is. grew_by_nothing _ _;
   held = λ none. refl;
+  kept = only-none;
   lent = balanced-none tree;
   later = no-fewer counts;
   cause = tt;
@@ -193,9 +194,9 @@ nothing-ran asks tree left taken counts used = record {
 
 -- a file wasn't opened
 pub none-opened : (asks : Asks) (tree tree' : TreeState) (left taken : Option (List ℕ)) (input output before now : ℕ) (used : Option Log)
-    (fault : WorldErr) → Balanced tree tree' → (asks.paths ≡ [] → tree'.held ≡ tree.held) → before ≤ now → (fault ≡ error.Failed → Rose before now)
+    (fault : WorldErr) → Balanced tree tree' → (asks.paths ≡ [] → tree'.held ≡ tree.held) → ChangesOnly asks.paths tree.held tree'.held → before ≤ now → (fault ≡ error.Failed → Rose before now)
     → Runs asks tree tree' left left taken taken (counts_of input output before) (counts_of input output now) used used (ended_of fault)
-none-opened asks tree tree' left taken input output before now used error.Failed lent held later failed = record {
+none-opened asks tree tree' left taken input output before now used error.Failed lent held kept later failed = record {
   output = λ text files told is. tt;
   status = λ text files told is. tt;
   read = tt;
@@ -204,11 +205,12 @@ none-opened asks tree tree' left taken input output before now used error.Failed
   filled = tt;
   part = λ text files told is. grew_by_nothing _ _;
   held = held;
+  kept = kept;
   lent = lent;
   later = record { input = omega arith; output = omega arith; tree = later };
   cause = failed refl;
 }
-none-opened asks tree tree' left taken input output before now used error.Memory lent held later failed = record {
+none-opened asks tree tree' left taken input output before now used error.Memory lent held kept later failed = record {
   output = λ text files told is. tt;
   status = λ text files told is. tt;
   read = tt;
@@ -217,6 +219,7 @@ none-opened asks tree tree' left taken input output before now used error.Memory
   filled = tt;
   part = λ text files told is. grew_by_nothing _ _;
   held = held;
+  kept = kept;
   lent = lent;
   later = record { input = omega arith; output = omega arith; tree = later };
   cause = tt;
@@ -227,7 +230,7 @@ pub none-marked : {Given : Type 0} (asks : Asks) (tree tree' : TreeState) (left 
     (fault : WorldErr) → tree' ≡ tree → CountsOf {T = Given} before now (Err fault)
     → Runs asks tree tree' left left taken taken (counts_of input output before) (counts_of input output now) used used (ended_of fault)
 none-marked {Given} asks tree tree' left taken input output before now used fault same counts =
-    none-opened asks tree tree' left taken input output before now used fault (subst (Balanced tree) (sym same) (balanced-none tree)) (λ none. ap (λ (state : TreeState). state.held) same)
+    none-opened asks tree tree' left taken input output before now used fault (subst (Balanced tree) (sym same) (balanced-none tree)) (λ none. ap (λ (state : TreeState). state.held) same) (only-same (ap (λ (state : TreeState). state.held) same))
     counts.later (λ is. counts.failed (ap Err is))
 
 -- what ran behind a call that leaves the tree as it was
@@ -392,6 +395,11 @@ module _ {R W I O : Type 0} (of_reader : R → Option (List ℕ)) (of_input : I 
         let empty : back.writers.items ≡ [] = empty-of back.writers.items (writers-back ∙ ap (λ (it : List Components). length it) none) in
         held_last ∙ ap (λ (state : TreeState). state.held) (returns.none empty) ∙ lent-held ∙ held-none first.held (paths_written graph.nodes) none
 
+    kept-so : ChangesOnly (paths_written graph.nodes) first.held last.held
+    kept-so =
+        only-more (subst (ChangesOnly (paths_written graph.nodes) first.held) (sym lent-held) (only-out first.held (paths_written graph.nodes)))
+        (only-more returns.kept (only-same held_last))
+
     -- the counts
     before-now : before ≤ now
     before-now = let returns_later = returns.later in omega (arith, calm_lent, returns_later, more)
@@ -457,6 +465,7 @@ module _ {R W I O : Type 0} (of_reader : R → Option (List ℕ)) (of_input : I 
               subst (λ (it : O). GrewByPrefix (of_output it) (of_output back.out) (outcome_of graph (source_texts graph.nodes text (bytes_at files))).output) over.out_is
               (over.runs.part text (bytes_at files) (told-so text files told is_text));
           held = held-so;
+          kept = kept-so;
           lent = lent-so;
           later = record {
             input = let same = ap input_faults over.input_is in let more = over.runs.later_input in omega (arith, same, more);
@@ -502,6 +511,7 @@ module _ (width : ℕ) (segment : List Stage) (from : First) (graph : Graph) (is
         filled = done-on how (λ status filled. subst (λ (it : List Components). AreFilled it tree.held tree'.held) is.writes filled) ran.filled;
         part = λ text files told is_text. subst (λ (it : Outcome). GrewByPrefix taken taken' it.output) (means-so text files told) (ran.part text files told is_text);
         held = λ none. ran.held (is.writes ∙ none);
+        kept = subst (λ (it : List Components). ChangesOnly it tree.held tree'.held) is.writes ran.kept;
         lent = ran.lent;
         later = ran.later;
         cause = ran.cause;

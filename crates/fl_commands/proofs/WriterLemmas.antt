@@ -24,8 +24,8 @@ use Rattle.fl_graph.specs.declared.graphs.Cell.{Cell}
 use Rattle.fl_graph.specs.declared.kinds.NodeKind.{NodeKind}
 use Rattle.fl_engines.specs.OwnEnds.{each_of, grown}
 use Rattle.fl_commands.specs.Readers.{has_count}
-use Rattle.fl_commands.specs.Writers.{AreFilesAt, AreFilled, all_added, filled}
-use Rattle.fl_commands.specs.Inner.Writing.{AreApart, AreTold, Begins, Fills, Returns, earlier, out_at}
+use Rattle.fl_commands.specs.Writers.{AreFilesAt, AreFilled, ChangesOnly, all_added, filled, told_at}
+use Rattle.fl_commands.specs.Inner.Writing.{AreAmong, AreApart, AreTold, Begins, Fills, Returns, earlier, out_at}
 use Rattle.fl_commands.proofs.ReaderLemmas.{counted, each-more, either, fresh-opened, none-above, one-more, rose-earlier, rose-later}
 
 -- WHAT FILES HOLD
@@ -51,6 +51,29 @@ none-behind path paths at differs none one = elim one [ inl same ↦ differs sam
 get-out : (paths : List Components) (files : Files) (at : Components) → (IsOneOf paths at → ⊥) → map.get (out_at paths files) at ≡ map.get files at
 get-out [] files at none = refl
 get-out (path ∷ paths) files at none = get-out paths (map.insert files path WriterOut) at (λ one. none (inr one)) ∙ elsewhere files path at WriterOut (λ same. none (inl same))
+
+-- WHAT STAYS AS IT WAS
+pub only-none : {paths : List Components} {held : Option Files} → ChangesOnly paths held held
+only-none = record { others = λ path none. refl }
+
+pub only-same : {paths : List Components} {held held' : Option Files} → held' ≡ held → ChangesOnly paths held held'
+only-same same = record { others = λ path none. ap (λ (it : Option Files). told_at it path) same }
+
+-- in two steps
+pub only-more : {paths : List Components} {held mid held' : Option Files} → ChangesOnly paths held mid → ChangesOnly paths mid held' → ChangesOnly paths held held'
+only-more first second = record { others = λ path none. second.others path none ∙ first.others path none }
+
+pub only-within : {paths wider : List Components} {held held' : Option Files} → AreAmong paths wider → ChangesOnly paths held held' → ChangesOnly wider held held'
+only-within among only = record { others = λ path none. only.others path (λ one. none (among path one)) }
+
+-- where this stands at a path now, or its writer is out, all others are as they were
+pub only-set : (path : Components) (node : Files → Node) (held : Option Files) → ChangesOnly (path ∷ []) held (option_map (λ (files : Files). map.insert files path (node files)) held)
+only-set path node None = only-none
+only-set path node (Some files) = record { others = λ at none. ap Some (elsewhere files path at (node files) (λ same. none (inl same))) }
+
+pub only-out : (held : Option Files) (paths : List Components) → ChangesOnly paths held (option_map (out_at paths) held)
+only-out None paths = only-none
+only-out (Some files) paths = record { others = λ at none. ap Some (get-out paths files at none) }
 
 get-added : (paths : List Components) (texts : List (List ℕ)) (files : Files) (at : Components) → (IsOneOf paths at → ⊥) → map.get (all_added paths texts files) at ≡ map.get files at
 get-added [] texts files at none = refl
@@ -183,6 +206,46 @@ out-refused count first old mid new path taken outcome lent ok failed memory out
     out-ended count first mid new path taken outcome ok failed memory
     (subst (λ (it : TreeState). AreOut (suc count) first it) (sym lent) (out-create count first old path out))
 
+-- nothing else is changed
+pub only-created : (old mid : TreeState) (path : Components) → mid ≡ lend (take_out path old) → ChangesOnly (path ∷ []) old.held mid.held
+only-created old mid path lent = subst (λ (it : TreeState). ChangesOnly (path ∷ []) old.held it.held) (sym lent) (only-set path (λ files. WriterOut) old.held)
+
+only-filled : (mid new : TreeState) (path : Components) (taken : Option (List ℕ)) → IsFilled path taken mid new → ChangesOnly (path ∷ []) mid.held new.held
+only-filled mid new path taken filling =
+    subst (λ (it : TreeState). ChangesOnly (path ∷ []) mid.held it.held) (sym filling.state) (only-set path (λ files. Bytes filling.bytes) mid.held)
+
+pub only-ended : (mid new : TreeState) (path : Components) (taken : Option (List ℕ)) (outcome : Result Unit WorldErr) → OnOk outcome (IsFilled path taken mid new)
+    → (IsErrOf outcome error.Failed → IsFilled path None mid new) → (IsErrOf outcome error.Memory → new ≡ take_back mid) → ChangesOnly (path ∷ []) mid.held new.held
+only-ended mid new path taken (Ok value) ok failed memory = only-filled mid new path taken ok
+only-ended mid new path taken (Err error.Failed) ok failed memory = only-filled mid new path None (failed refl)
+only-ended mid new path taken (Err error.Memory) ok failed memory = only-same (ap (λ (state : TreeState). state.held) (memory refl))
+
+pub only-refused : (old mid new : TreeState) (path : Components) (taken : Option (List ℕ)) (outcome : Result Unit WorldErr) → mid ≡ lend (take_out path old)
+    → OnOk outcome (IsFilled path taken mid new) → (IsErrOf outcome error.Failed → IsFilled path None mid new) → (IsErrOf outcome error.Memory → new ≡ take_back mid)
+    → ChangesOnly (path ∷ []) old.held new.held
+only-refused old mid new path taken outcome lent ok failed memory =
+    only-more (only-created old mid path lent) (only-ended mid new path taken outcome ok failed memory)
+
+-- the paths in front of others, and those behind
+pub among-front : (front back : List Components) → AreAmong front (front ++ back)
+among-front [] back path one = absurd one
+among-front (first ∷ front) back path one = elim one [ inl same ↦ inl same | inr others ↦ inr (among-front front back path others) ]
+
+pub among-back : (front back : List Components) → AreAmong back (front ++ back)
+among-back [] back path one = one
+among-back (first ∷ front) back path one = inr (among-back front back path one)
+
+pub among-same : (paths others : List Components) → paths ≡ others → AreAmong paths others
+among-same paths others same at one = subst (λ (it : List Components). IsOneOf it at) same one
+
+-- where none was there before
+pub among-begun : (opened none paths : List Components) → none ≡ [] → AreAmong opened (none ++ paths) → AreAmong opened paths
+among-begun opened none paths empty among = subst (λ (it : List Components). AreAmong opened (it ++ paths)) empty among
+
+-- all but those behind the others
+pub among-shorter : (paths rest before others : List Components) → before ≡ paths ++ rest → before ≡ others → AreAmong paths others
+among-shorter paths rest before others is same at one = subst (λ (it : List Components). IsOneOf it at) (sym is ∙ same) (among-front paths rest at one)
+
 -- one behind the others
 module _ {End : Type 0} (entries all : List (ℕ × End)) (number : ℕ) (end : End) (is : all ≡ entries ++ (number, end) ∷ []) where
   pub out-begun : (first : TreeState) (count : ℕ) (mid new : TreeState) (path : Components) → new ≡ lend (take_out path mid) → AreOut (length entries + count) first mid → AreOut (length all + count) first new
@@ -227,6 +290,21 @@ module _ (left rest : List Components) (path : Components) (is : left ≡ path �
 
   pub apart-next : AreApart left → AreApart rest
   apart-next apart = (subst AreApart is apart).1
+
+  -- no file but these is another
+  pub kept-next : (last : Option Files) → ChangesOnly (path ∷ []) held held' → ChangesOnly rest held' last → ChangesOnly left held last
+  kept-next last first only =
+      subst (λ (it : List Components). ChangesOnly it held last) (sym is)
+      (only-more (only-within (among-front (path ∷ []) rest) first) (only-within (among-back (path ∷ []) rest) only))
+
+  pub kept-first : ChangesOnly (path ∷ []) held held' → ChangesOnly left held held'
+  kept-first only = subst (λ (it : List Components). ChangesOnly it held held') (sym is) (only-within (among-front (path ∷ []) rest) only)
+
+  -- and those that are open are among all
+  pub among-first : (before whole opened : List Components) → whole ≡ before ++ left → AreAmong opened (before ++ path ∷ []) → AreAmong opened whole
+  among-first before whole opened whole_is among at one =
+      subst (λ (it : List Components). IsOneOf it at) (append_assoc before (path ∷ []) rest ∙ ap (λ (it : List Components). before ++ it) (sym is) ∙ sym whole_is)
+      (among-front (before ++ path ∷ []) rest at (among at one))
 
   module _ (next : held' ≡ option_map (out_at (path ∷ [])) held) (apart : AreApart left) where
     pub there-next : IfSome held (λ files. AreFilesAt files left) → IfSome held' (λ files. AreFilesAt files rest)
@@ -360,6 +438,13 @@ module _ {W : Type 0} (of_writer : W → Option (List ℕ)) (faults : W → ℕ)
       by_answers (Ok value) (Err error) whole filling = tt
       by_answers (Err error) other whole filling = tt
 
+  -- no file but theirs is another
+  pub ended-kept : (whole : List Components) (first : Option Files) → ((last : Option Files) → ChangesOnly paths mid.held last → ChangesOnly whole first last)
+      → (last : Option Files) → ChangesOnly behind new.held last → ChangesOnly whole first last
+  ended-kept whole first before last rest_only =
+      before last (subst (λ (it : List Components). ChangesOnly it mid.held last) (sym also)
+      (only-more (only-within (among-back behind (path ∷ [])) (only-ended mid new path (of_writer end) outcome ok failed memory)) (only-within (among-front behind (path ∷ [])) rest_only)))
+
   -- there was one
   pub ended-some : (all : List (ℕ × W)) (first : TreeState) → (all ≡ [] → (entries ≡ []) × (mid ≡ first)) → all ≡ [] → (rest ≡ []) × (new ≡ first)
   ended-some all first before none =
@@ -403,14 +488,15 @@ module _ {W : Type 0} (of_writer : W → Option (List ℕ)) (faults : W → ℕ)
     (none : entries ≡ []) (same : length entries ≡ length left) where
   pub returned : ((first : TreeState) (count : ℕ) → AreOut (length writers + count) first old → AreOut (length entries + count) first new)
       → ((final : Option Files) → OnOk outcome (Fills left (each_of of_writer entries) new.held final → Fills paths (each_of of_writer writers) old.held final))
-      → (writers ≡ [] → (entries ≡ []) × (new ≡ old)) → before ≤ now
+      → (writers ≡ [] → (entries ≡ []) × (new ≡ old)) → ((last : Option Files) → ChangesOnly left new.held last → ChangesOnly paths old.held last) → before ≤ now
       → (has_count (each_of faults writers) ≡ false → (has_count (each_of faults entries) ≡ false) × OnOk outcome (now ≡ before)) → (IsErrOf outcome error.Failed → Rose before now)
       → (has_count (each_of faults writers) ≡ true → has_count (each_of faults entries) ≡ false → Rose before now) → Returns of_writer faults paths writers old new before now outcome
-  returned out fills still later calm failed rose =
+  returned out fills still kept later calm failed rose =
       record {
         out = λ first count is. subst (λ (it : ℕ). AreOut it first new) (let empty = ap (λ (it : List (ℕ × W)). length it) none in omega (arith, empty)) (out first count is);
         fills = by_answer outcome (fills new.held);
         none = λ is. (still is).1;
+        kept = kept new.held only-none;
         later = later;
         calm = λ fresh. (calm fresh).1;
         failed = failed;

@@ -27,7 +27,7 @@ use Rattle.fl_engines.specs.Engines.{then_used}
 use Rattle.fl_engines.specs.Logs.{Log}
 use Rattle.fl_engines.specs.OwnEnds.{has_input, texts_for}
 use Rattle.fl_commands.specs.Runs.{Counts, HasCause, IfDone, NoFewer, left_behind}
-use Rattle.fl_commands.specs.Writers.{all_added}
+use Rattle.fl_commands.specs.Writers.{ChangesOnly, all_added}
 use Rattle.fl_commands.specs.declared.runs.Ended.{Ended}
 
 -- all patterns of a grep are read
@@ -115,7 +115,8 @@ pub record Executes (graph : Graph) (tree tree' : TreeState) (left left' taken t
   pub read : IfDone came (λ status. left' ≡ left_behind (has_input graph.nodes) left)
   pub noted : IfDone came (λ status. used' ≡ then_used used graph)
   pub whole : IfDone came (λ status. IfSome tree'.held NoWriterOut)
-  -- whatever comes, a front of its output is written
+  -- whatever comes, a front of its output is written, and no file but those that it writes is another
+  pub kept : ChangesOnly (paths_written graph.nodes) tree.held tree'.held
   pub part : (input : List ℕ) (files : Files) → tree.held ≡ Some files → left ≡ Some input → GrewByPrefix taken taken' (outcome_over graph input files).output
   pub lent : Balanced tree tree'
   pub later : NoFewer old new

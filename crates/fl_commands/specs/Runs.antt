@@ -26,7 +26,7 @@ use Rattle.fl_commands.specs.Inner.Stages.{command_left, inputs_with, some_lacks
 use Rattle.fl_commands.specs.Inputs.{output_for, selects_for, status_of, text_taken}
 use Rattle.fl_commands.specs.Members.{files_teed, noted_of, output_through, reads_first, status_through, texts_through}
 use Rattle.fl_commands.specs.Operands.{deals, ins_of}
-use Rattle.fl_commands.specs.Writers.{AreFilled, all_added}
+use Rattle.fl_commands.specs.Writers.{AreFilled, ChangesOnly, all_added}
 use Rattle.fl_commands.specs.declared.members.Member.{Member}
 use Rattle.fl_commands.specs.declared.operands.Operand.{Operand}
 use Rattle.fl_commands.specs.declared.runs.Ended.{Ended}
@@ -91,9 +91,10 @@ pub record Runs (asks : Asks) (tree tree' : TreeState) (left left' taken taken' 
   -- then each file that it writes has its text behind what it held; whatever the input tells, it is a file
   pub added : (input : List ℕ) (files : Files) → tree.held ≡ Some files → left ≡ Some input → IfDone came (λ status. tree'.held ≡ Some (all_added asks.paths (asks.texts input files) files))
   pub filled : IfDone came (λ status. AreFilled asks.paths tree.held tree'.held)
-  -- whatever comes, a front of its output is written, and no file where it writes none
+  -- whatever comes, a front of its output is written, and no file but those that it writes is another
   pub part : (input : List ℕ) (files : Files) → tree.held ≡ Some files → left ≡ Some input → GrewByPrefix taken taken' (asks.output input files)
   pub held : asks.paths ≡ [] → tree'.held ≡ tree.held
+  pub kept : ChangesOnly asks.paths tree.held tree'.held
   pub lent : Balanced tree tree'
   pub later : NoFewer old new
   pub cause : HasCause came old new

@@ -3,7 +3,7 @@ use Rattle.std.specs.Prelude.{◌≡◌, ℕ, length, List, [], ◌∷◌, ◌++
 use Rattle.std.specs.FinMap as map
 use Rattle.std.specs.List.{list_any}
 use Rattle.std.specs.Option.{option_map}
-use Rattle.ps_world.specs.Files.{Bytes, Files, IsFileAt, bytes_at}
+use Rattle.ps_world.specs.Files.{Bytes, Files, IsFileAt, IsOneOf, Node, bytes_at}
 use Rattle.ps_world.specs.Paths.{Components}
 use Rattle.ps_world.specs.Places.{is_null_path}
 use Rattle.ut_args.specs.declared.invocations.Inv.{Inv}
@@ -52,3 +52,11 @@ pub record AreFilled (paths : List Components) (held held' : Option Files) : Typ
   pub texts : List (List ℕ)
   pub many : length texts ≡ length paths
   pub is : held' ≡ option_map (filled paths texts) held
+
+-- what is told of what stands at a path
+abbrev pub told_at : Option Files → Components → Option (Option Node)
+told_at held path = option_map (λ (files : Files). map.get files path) held
+
+-- at every path but these stands what stood there
+pub record ChangesOnly (paths : List Components) (held held' : Option Files) : Type 0 where
+  pub others : (path : Components) → (IsOneOf paths path → ⊥) → told_at held' path ≡ told_at held path

@@ -1,15 +1,17 @@
 //! Graphs that are run as they are.
-ghost use Rattle.std.specs.Prelude.{◌≡◌, ◌≤◌, None, IfOk, IfSome, IsErrOf, OnOk};
+ghost use Rattle.std.specs.Prelude.{◌≡◌, ◌≤◌, [], ◌∷◌, None, IfOk, IfSome, IsErrOf, OnOk};
 ghost use Rattle.std.specs.Option.{option_copied, option_map};
 ghost use Rattle.ps_world.specs.Counts.{Counts, Rose};
 ghost use Rattle.ps_world.specs.Files.{CanBeMade, NoWriterOut};
 ghost use Rattle.ps_world.specs.Paths.{spelled};
 ghost use Rattle.ps_world.specs.Places.{resolve};
 ghost use Rattle.ps_world.specs.TreeState.{Balanced, TreeState};
+ghost use Rattle.fl_graph.specs.Paths.{paths_written};
 ghost use Rattle.fl_graph.specs.Valid.{Valid};
 ghost use Rattle.fl_commands.specs.Graphs.{Executes, begun_at, begun_for, files_begun, first_lacking as first_lacking_lem, has_patterns as has_patterns_lem, is_file as is_file_lem, is_target as is_target_lem, lacking as lacking_lem, read_all_patterns as read_all_patterns_lem, reads_patterns as reads_patterns_lem, target as target_lem, unless as unless_lem};
-ghost use Rattle.fl_commands.specs.Inner.Begun.{AllCanBegin, CanBegin};
+ghost use Rattle.fl_commands.specs.Inner.Begun.{AllCanBegin, CanBegin, aimed_at};
 ghost use Rattle.fl_commands.specs.Runs.{counts_of};
+ghost use Rattle.fl_commands.specs.Writers.{ChangesOnly};
 
 use crate::runs::{Commanded, of_tree, run_graph};
 use fl_engines::Engine;
@@ -201,6 +203,7 @@ pub fn execute<T: Tree, I: Source + Send, O: Sink + Send, G: Gate, X: Engine>(
 fn begin_files<T: Tree>(nodes: &[Node], tree: &mut T) -> Result<(), WorldErr>
     requires made { IfSome (T.state tree.old).held (λ files. AllCanBegin files nodes.now) }
     ensures held { OnOk result ((T.state tree.new).held ≡ option_map (files_begun nodes.now) (T.state tree.old).held) }
+    ensures kept { ChangesOnly (paths_written nodes.now) (T.state tree.old).held (T.state tree.new).held }
     ensures lent { (first : TreeState) → Balanced first (T.state tree.old) → Balanced first (T.state tree.new) }
     ensures later { T.faults tree.old ≤ T.faults tree.new }
     ensures ok { OnOk result (T.faults tree.new ≡ T.faults tree.old) }
@@ -229,6 +232,7 @@ fn target(kind: &NodeKind) -> Option<(&Path, Mode)>
 fn begin_for<T: Tree>(aim: Option<(&Path, Mode)>, tree: &mut T) -> Result<(), WorldErr>
     requires made { IfSome (T.state tree.old).held (λ files. CanBegin files (option_map (λ it. (it.0.now, it.1)) aim)) }
     ensures held { OnOk result ((T.state tree.new).held ≡ option_map (begun_for (option_map (λ it. (it.0.now, it.1)) aim.entry)) (T.state tree.old).held) }
+    ensures kept { ChangesOnly (aimed_at (option_map (λ it. (it.0.now, it.1)) aim.entry)) (T.state tree.old).held (T.state tree.new).held }
     ensures lent { (first : TreeState) → Balanced first (T.state tree.old) → Balanced first (T.state tree.new) }
     ensures later { T.faults tree.old ≤ T.faults tree.new }
     ensures ok { OnOk result (T.faults tree.new ≡ T.faults tree.old) }
@@ -245,6 +249,7 @@ fn begin_for<T: Tree>(aim: Option<(&Path, Mode)>, tree: &mut T) -> Result<(), Wo
 fn begin_file<T: Tree>(path: &Path, mode: Mode, tree: &mut T) -> Result<(), WorldErr>
     requires made { IfSome (T.state tree.old).held (λ files. CanBeMade files path.now) }
     ensures held { OnOk result ((T.state tree.new).held ≡ option_map (begun_at path.now mode) (T.state tree.old).held) }
+    ensures kept { ChangesOnly (path.now ∷ []) (T.state tree.old).held (T.state tree.new).held }
     ensures lent { (first : TreeState) → Balanced first (T.state tree.old) → Balanced first (T.state tree.new) }
     ensures later { T.faults tree.old ≤ T.faults tree.new }
     ensures ok { OnOk result (T.faults tree.new ≡ T.faults tree.old) }

@@ -5,7 +5,7 @@ ghost use Rattle.ps_world.specs.TreeState.{Balanced};
 ghost use Rattle.fl_graph.specs.Paths.{paths_read, paths_written as paths_written_lem};
 ghost use Rattle.fl_commands.specs.Inner.Overs.{Lends};
 ghost use Rattle.fl_commands.specs.Inner.Writing.{AreApart};
-ghost use Rattle.fl_commands.specs.Writers.{AreFilesAt};
+ghost use Rattle.fl_commands.specs.Writers.{AreFilesAt, ChangesOnly};
 
 use crate::readers::{Opened, give_back, open_files};
 use crate::writers::{Begun, open_writers, paths_written};
@@ -40,6 +40,7 @@ pub(crate) fn lend<T: Tree>(
     ensures paths { IfOk result (λ lent. length lent.paths.items ≡ length lent.readers.items) }
     ensures written { IfOk result (λ lent. lent.written.items ≡ paths_written_lem nodes.now) }
     ensures back { OnErr result (Balanced (T.state tree.old) (T.state tree.new)) }
+    ensures kept { OnErr result (ChangesOnly (paths_written_lem nodes.now) (T.state tree.old).held (T.state tree.new).held) }
     ensures held { paths_written_lem nodes.now ≡ [] → OnErr result ((T.state tree.new).held ≡ (T.state tree.old).held) }
     ensures later { T.faults tree.old ≤ T.faults tree.new }
     ensures ok { OnOk result (T.faults tree.new ≡ T.faults tree.old) }

@@ -7,9 +7,9 @@ ghost use Rattle.ps_world.specs.Files.{Files, IsFileAt, bytes_at};
 ghost use Rattle.ps_world.specs.TreeState.{AreOut, TreeState};
 ghost use Rattle.fl_engines.specs.OwnEnds.{each_of};
 ghost use Rattle.fl_graph.specs.Paths.{paths_written as paths_written_lem};
-ghost use Rattle.fl_commands.specs.Inner.Writing.{AreApart, Begins, Returns, earlier, out_at};
+ghost use Rattle.fl_commands.specs.Inner.Writing.{AreAmong, AreApart, Begins, Returns, earlier, out_at};
 ghost use Rattle.fl_commands.specs.Readers.{has_count};
-ghost use Rattle.fl_commands.specs.Writers.{AreFilesAt};
+ghost use Rattle.fl_commands.specs.Writers.{AreFilesAt, ChangesOnly};
 
 use fl_graph::{Node, path_written};
 use ps_lines::Memory;
@@ -29,6 +29,7 @@ impl<W> Begun<W> {
         ensures ok { OnOk result (self.new.writers.items ≡ self.old.writers.items ++ (0, writer) ∷ []) }
         ensures paths { OnOk result (self.new.paths.items ≡ self.old.paths.items ++ path ∷ []) }
         ensures err { IfErr result (λ back. (back ≡ writer) × (self.new.writers.items ≡ self.old.writers.items)) }
+        ensures among { AreAmong self.new.paths.items (self.old.paths.items ++ path ∷ []) }
         ensures count { length self.old.writers.items ≡ length self.old.paths.items → length self.new.writers.items ≡ length self.new.paths.items }
     {
         if self.paths.push(path).is_err() {
@@ -105,6 +106,7 @@ pub(crate) fn open_writers<T: Tree>(
     ensures paths { IfOk result (λ begun. begun.paths.items ≡ paths.now) }
     ensures back { (first : TreeState) (count : ℕ) → AreOut count first (T.state tree.old) → OnErr result (AreOut count first (T.state tree.new)) }
     ensures none { paths.now ≡ [] → OnErr result ((T.state tree.new).held ≡ (T.state tree.old).held) }
+    ensures kept { OnErr result (ChangesOnly paths.now (T.state tree.old).held (T.state tree.new).held) }
     ensures later { T.faults tree.old ≤ T.faults tree.new }
     ensures ok { OnOk result (T.faults tree.new ≡ T.faults tree.old) }
     ensures failed { IsErrOf result WorldErr.Failed → Rose (T.faults tree.old) (T.faults tree.new) }
@@ -139,6 +141,8 @@ fn open_each<T: Tree>(
     ensures out { (first : TreeState) (count : ℕ) → AreOut (length begun.old.writers.items + count) first (T.state tree.old)
         → AreOut (length begun.new.writers.items + count) first (T.state tree.new) }
     ensures held { OnOk result ((T.state tree.new).held ≡ option_map (out_at paths.now) (T.state tree.old).held) }
+    ensures kept { ChangesOnly paths.now (T.state tree.old).held (T.state tree.new).held }
+    ensures among { AreAmong begun.new.paths.items (begun.old.paths.items ++ paths.now) }
     ensures none { paths.now ≡ [] → (begun.new.writers.items ≡ begun.old.writers.items) × (T.state tree.new ≡ T.state tree.old) }
     ensures later { T.faults tree.old ≤ T.faults tree.new }
     ensures ok { OnOk result (T.faults tree.new ≡ T.faults tree.old) }
@@ -168,6 +172,8 @@ fn open_file<T: Tree>(
     ensures out { (first : TreeState) (count : ℕ) → AreOut (length begun.old.writers.items + count) first (T.state tree.old)
         → AreOut (length begun.new.writers.items + count) first (T.state tree.new) }
     ensures held { OnOk result ((T.state tree.new).held ≡ option_map (out_at (path.now ∷ [])) (T.state tree.old).held) }
+    ensures kept { ChangesOnly (path.now ∷ []) (T.state tree.old).held (T.state tree.new).held }
+    ensures among { AreAmong begun.new.paths.items (begun.old.paths.items ++ path.now ∷ []) }
     ensures later { T.faults tree.old ≤ T.faults tree.new }
     ensures ok { OnOk result (T.faults tree.new ≡ T.faults tree.old) }
     ensures failed { IsErrOf result WorldErr.Failed → Rose (T.faults tree.old) (T.faults tree.new) }

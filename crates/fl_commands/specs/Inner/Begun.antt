@@ -16,3 +16,8 @@ CanBegin files (Some aim) = CanBeMade files aim.0
 abbrev pub AllCanBegin : Files → List (Cell NodeKind) → Type 0
 AllCanBegin files [] = Unit {0}
 AllCanBegin files (cell ∷ cells) = CanBegin files (target cell.kind) × AllCanBegin (begun_for (target cell.kind) files) cells
+
+-- the path of the file that is begun, if there is one
+abbrev pub aimed_at : Option (Components × Mode) → List Components
+aimed_at None = []
+aimed_at (Some aim) = aim.0 ∷ []

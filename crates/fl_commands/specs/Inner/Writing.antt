@@ -10,12 +10,16 @@ use Rattle.ps_world.specs.declared.error.WorldErr.{WorldErr}
 use Rattle.ps_world.specs.declared.error.WorldErr.TheVariants as error
 use Rattle.fl_engines.specs.OwnEnds.{each_of}
 use Rattle.fl_commands.specs.Readers.{has_count}
-use Rattle.fl_commands.specs.Writers.{filled}
+use Rattle.fl_commands.specs.Writers.{ChangesOnly, filled}
 
 -- no path is there twice
 abbrev pub AreApart : List Components → Type 0
 AreApart [] = Unit {0}
 AreApart (path ∷ paths) = (IsOneOf paths path → ⊥) × AreApart paths
+
+-- each of these paths is one of those
+abbrev pub AreAmong : List Components → List Components → Type 0
+AreAmong paths others = (path : Components) → IsOneOf paths path → IsOneOf others path
 
 -- the writers of the files at these paths are out
 abbrev pub out_at : List Components → Files → Files
@@ -49,6 +53,7 @@ pub record Returns {W : Type 0} (of_writer : W → Option (List ℕ)) (writer_fa
   pub out : (first : TreeState) (count : ℕ) → AreOut (length writers + count) first old → AreOut count first new
   pub fills : OnOk outcome (Fills paths (each_of of_writer writers) old.held new.held)
   pub none : writers ≡ [] → new ≡ old
+  pub kept : ChangesOnly paths old.held new.held
   pub later : before ≤ now
   pub calm : has_count (each_of writer_faults writers) ≡ false → OnOk outcome (now ≡ before)
   pub failed : IsErrOf outcome error.Failed → Rose before now

@@ -7,7 +7,7 @@ use Rattle.fl_classes.specs.Kinds.{are_run}
 use Rattle.fl_commands.specs.Inner.Overs.{Lends}
 use Rattle.fl_commands.specs.Inner.Writing.{AreApart, Returns}
 use Rattle.fl_commands.specs.Runs.{Runs}
-use Rattle.fl_commands.specs.Writers.{AreFilesAt}
+use Rattle.fl_commands.specs.Writers.{AreFilesAt, ChangesOnly}
 use Rattle.fl_commands.proofs.RunLemmas.{none-opened, ran-so, readers-back, runs-all, writers-back}
 use Rattle.fl_commands.proofs.WriterLemmas.{apart-of}
 use Rattle.fl_commands.proofs.runs.run_graph.Goals as goal
@@ -27,7 +27,9 @@ lend-requires-clause-apart g c κs within =
 pub returns-in-Err : goal.returns-in-Err
 returns-in-Err g c =
     subst (Runs _ _ _ _ _ _ _ _ _ _ _) (sym c.of_tree.ensures)
-    (none-opened _ _ _ _ _ _ _ _ _ _ c.in-Err.error c.in-Err.ensures.back (λ none. c.in-Err.ensures.held (ap paths_written c.as_slice.ensures ∙ none)) c.lend.ensures.later
+    (none-opened _ _ _ _ _ _ _ _ _ _ c.in-Err.error c.in-Err.ensures.back (λ none. c.in-Err.ensures.held (ap paths_written c.as_slice.ensures ∙ none))
+    (subst (λ (it : List (Cell NodeKind)). ChangesOnly (paths_written it) (g.T.Tree.state c.args.tree.now).held (g.T.Tree.state c.lend.new.tree).held) c.as_slice.ensures c.in-Err.ensures.kept)
+    c.lend.ensures.later
     (λ same. c.in-Err.ensures.failed (ap Err same)))
 
 pub run_over-came-requires-clause-kinds : goal.run_over-came-requires-clause-kinds

@@ -1,6 +1,6 @@
-use Rattle.std.proofs.Common.{◌∙◌}
+use Rattle.std.proofs.Common.{◌∙◌, refl}
 use Rattle.fl_segments.proofs.AddLemmas.{left-parts}
-use Rattle.fl_commands.proofs.WriterLemmas.{apart-next, goes-next, held-next, none-next, paths-left, there-first, there-next}
+use Rattle.fl_commands.proofs.WriterLemmas.{among-first, among-shorter, apart-next, goes-next, held-next, kept-first, kept-next, none-next, only-none, paths-left, there-first, there-next}
 use Rattle.fl_commands.proofs.writers.open_each.Goals as goal
 
 pub open_file-requires-clause-there : goal.open_file-requires-clause-there
@@ -20,6 +20,21 @@ loop-left-preserved g c =
       fresh = λ old. c.in_ok-open_file.ensures.fresh (before.fresh old);
       out = λ first count out. c.in_ok-open_file.ensures.out first count (before.out first count out);
       held = held-next _ _ _ is _ _ c.in_ok-open_file.ensures.held before.apart ∙ before.held;
+      kept = λ last rest. before.kept last (kept-next _ _ _ is _ _ last c.open_file.ensures.kept rest);
       none = λ empty. none-next _ _ _ is (before.none empty).0;
       faults = c.in_ok-open_file.ensures.ok ∙ before.faults;
     }
+
+pub returns-in_err-open_file-clause-kept : goal.returns-in_err-open_file-clause-kept
+returns-in_err-open_file-clause-kept g c =
+    c.loop-left.invariant.kept _ (kept-first _ _ _ (left-parts c.loop-left.left.now c.path-item.result c.path-item.is c.in-len1-up.len_at_least) _ _ c.open_file.ensures.kept)
+
+pub returns-in_err-open_file-clause-among : goal.returns-in_err-open_file-clause-among
+returns-in_err-open_file-clause-among g c =
+    among-first _ _ _ (left-parts c.loop-left.left.now c.path-item.result c.path-item.is c.in-len1-up.len_at_least) (g.T.Tree.state c.loop-left.tree).held (g.T.Tree.state c.loop-left.tree).held _ _ _ c.loop-left.invariant.paths c.open_file.ensures.among
+
+pub returns-clause-kept : goal.returns-clause-kept
+returns-clause-kept g c = c.loop-left.invariant.kept _ only-none
+
+pub returns-clause-among : goal.returns-clause-among
+returns-clause-among g c = among-shorter _ _ _ _ c.loop-left.invariant.paths refl

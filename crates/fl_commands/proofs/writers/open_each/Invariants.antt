@@ -1,11 +1,11 @@
-use Rattle.std.proofs.Common.{◌≡◌, ◌+◌, ◌++◌, ℕ, [], Some, false, map, length, IfSome}
+use Rattle.std.proofs.Common.{◌≡◌, ◌+◌, ◌++◌, ℕ, [], Option, Some, false, map, length, IfSome}
 use Rattle.std.specs.Option.{option_map}
 use Rattle.ps_world.specs.Files.{Files, bytes_at}
 use Rattle.ps_world.specs.TreeState.{AreOut, TreeState}
 use Rattle.fl_engines.specs.OwnEnds.{each_of}
 use Rattle.fl_commands.specs.Inner.Writing.{AreApart, out_at}
 use Rattle.fl_commands.specs.Readers.{has_count}
-use Rattle.fl_commands.specs.Writers.{AreFilesAt}
+use Rattle.fl_commands.specs.Writers.{AreFilesAt, ChangesOnly}
 use Rattle.fl_commands.proofs.WriterLemmas.{Goes}
 use Rattle.fl_commands.proofs.writers.open_each.Given as goal
 
@@ -22,6 +22,7 @@ invariant-loop-left g l = record {
   out : (first : TreeState) (count : ℕ) → AreOut (length l.fn.begun.writers.items + count) first (g.T.Tree.state l.fn.tree)
       → AreOut (length l.begun.writers.items + count) first (g.T.Tree.state l.tree);
   held : option_map (out_at l.left) (g.T.Tree.state l.tree).held ≡ option_map (out_at l.paths) (g.T.Tree.state l.fn.tree).held;
+  kept : (last : Option Files) → ChangesOnly l.left (g.T.Tree.state l.tree).held last → ChangesOnly l.paths (g.T.Tree.state l.fn.tree).held last;
   none : l.paths ≡ [] → (l.left ≡ []) × ((l.begun.writers.items ≡ l.fn.begun.writers.items) × (g.T.Tree.state l.tree ≡ g.T.Tree.state l.fn.tree));
   faults : g.T.Tree.faults l.tree ≡ g.T.Tree.faults l.fn.tree;
 }

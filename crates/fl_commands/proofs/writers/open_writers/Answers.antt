@@ -1,7 +1,7 @@
 use Rattle.std.proofs.Common.{ℕ, Err, length, ap, subst, ◌∙◌, arith}
 use Rattle.ps_world.specs.TreeState.{AreOut, TreeState}
 use Rattle.fl_commands.proofs.ReaderLemmas.{rose-later}
-use Rattle.fl_commands.proofs.WriterLemmas.{begins-so, fault-is}
+use Rattle.fl_commands.proofs.WriterLemmas.{among-begun, begins-so, fault-is, only-more, only-within}
 use Rattle.fl_commands.proofs.writers.open_writers.Goals as goal
 
 pub returns-in-Ok-clause-begins : goal.returns-in-Ok-clause-begins
@@ -24,3 +24,7 @@ returns-in-Err-clause-later g c = let one = c.open_each.ensures.later in let oth
 
 pub returns-in-Err-clause-failed : goal.returns-in-Err-clause-failed
 returns-in-Err-clause-failed g c = λ told. rose-later _ _ _ (c.in-Err.ensures.failed (ap Err (fault-is c.in-Err.error _ told))) c.end_writers.ensures.later
+
+pub returns-in-Err-clause-kept : goal.returns-in-Err-clause-kept
+returns-in-Err-clause-kept g c =
+    only-more c.open_each.ensures.kept (only-within (among-begun _ _ _ c.new-2.ensures.items c.open_each.ensures.among) c.end_writers.ensures.kept)

@@ -36,7 +36,7 @@ use Rattle.sh_eval.specs.Contract.{Seen, Faults, Point, point_of, seen_of, drawn
 use Rattle.sh_eval.specs.Ending.{InShell, how_behind, status_behind}
 use Rattle.sh_eval.proofs.Growing.{grows-self, grows-write, grows-leaving, adds-misused}
 use Rattle.sh_eval.proofs.WritingLemmas.{meant}
-use Rattle.sh_eval.proofs.EndingLemmas.{changed, blamed, ended}
+use Rattle.sh_eval.proofs.EndingLemmas.{kept-same, changed, blamed, ended}
 
 -- what a command of the table asks for is one thing
 abbrev means_of : Means → Asked → Means
@@ -176,7 +176,8 @@ pub tree-failed : {T : Type 0} (means : Meaning) (shell : Shell) (session : Sess
     → ((expansions : Expansions) → Adds (means expansions)) → tree' ≡ tree → Counts of_tree of_tree' found → found ≡ Err error.Failed
     → Evaluates means (point_of shell session tree seen (faults_of input of_output of_errors of_tree)) how.TreeFault (point_of shell session tree' seen (faults_of input of_output of_errors of_tree'))
 tree-failed means shell session tree tree' seen input of_output of_errors of_tree of_tree' found adds same counts is =
-    blamed means (point_of shell session tree seen (faults_of input of_output of_errors of_tree)) (point_of shell session tree' seen (faults_of input of_output of_errors of_tree')) how.TreeFault adds (λ gone. gone) refl refl (omega arith)
+    blamed means (point_of shell session tree seen (faults_of input of_output of_errors of_tree)) (point_of shell session tree' seen (faults_of input of_output of_errors of_tree')) how.TreeFault adds (λ gone. gone) refl refl
+    (kept-same means (point_of shell session tree seen (faults_of input of_output of_errors of_tree)) tree'.held adds (ap (λ (it : TreeState). it.held) same)) (omega arith)
     (record { input = omega arith; output = omega arith; errors = omega arith; tree = counts.later })
     (counts.failed (subst (λ it. IsErrOf it error.Failed) (sym is) refl)) (subst (λ (it : TreeState). Balanced tree it) (sym same) (balanced-none tree))
 
@@ -184,7 +185,8 @@ pub tree-wanted : (means : Meaning) (shell : Shell) (session : Session) (tree tr
     → ((expansions : Expansions) → Adds (means expansions)) → tree' ≡ tree → of_tree ≤ of_tree'
     → Evaluates means (point_of shell session tree seen (faults_of input of_output of_errors of_tree)) how.Memory (point_of shell session tree' seen (faults_of input of_output of_errors of_tree'))
 tree-wanted means shell session tree tree' seen input of_output of_errors of_tree of_tree' adds same later =
-    blamed means (point_of shell session tree seen (faults_of input of_output of_errors of_tree)) (point_of shell session tree' seen (faults_of input of_output of_errors of_tree')) how.Memory adds (λ gone. gone) refl refl (omega arith)
+    blamed means (point_of shell session tree seen (faults_of input of_output of_errors of_tree)) (point_of shell session tree' seen (faults_of input of_output of_errors of_tree')) how.Memory adds (λ gone. gone) refl refl
+    (kept-same means (point_of shell session tree seen (faults_of input of_output of_errors of_tree)) tree'.held adds (ap (λ (it : TreeState). it.held) same)) (omega arith)
     (record { input = omega arith; output = omega arith; errors = omega arith; tree = later }) tt (subst (λ (it : TreeState). Balanced tree it) (sym same) (balanced-none tree))
 
 -- READ
@@ -194,7 +196,8 @@ pub read-stopped : (names : List (List ℕ)) (shell shell' : Shell) (session ses
     (point_of shell' session' tree (seen_of (drawn_of left' used) taken errors) (faults_of input' of_output of_errors of_tree))
 read-stopped names shell shell' session session' tree left left' taken errors used input input' of_output of_errors of_tree came off turns later cause =
     blamed (λ expansions. reads names) (point_of shell session tree (seen_of (drawn_of left used) taken errors) (faults_of input of_output of_errors of_tree))
-    (point_of shell' session' tree (seen_of (drawn_of left' used) taken errors) (faults_of input' of_output of_errors of_tree)) came (λ expansions. adds-read names) off refl refl turns
+    (point_of shell' session' tree (seen_of (drawn_of left' used) taken errors) (faults_of input' of_output of_errors of_tree)) came (λ expansions. adds-read names) off refl refl
+    (kept-same (λ expansions. reads names) (point_of shell session tree (seen_of (drawn_of left used) taken errors) (faults_of input of_output of_errors of_tree)) tree.held (λ expansions. adds-read names) refl) turns
     (record { input = later; output = omega arith; errors = omega arith; tree = omega arith }) cause (balanced-none tree)
 
 -- BEHIND WHAT WAS WRITTEN

@@ -43,8 +43,8 @@ use Rattle.sh_eval.proofs.Steps.{changed, changed-before, followed, stopped, not
 use Rattle.sh_eval.proofs.ListSteps.{meant}
 
 -- MEMORY that is wanted behind what was evaluated
-weakened : (base : Base) (came : How) (at : Point) (left : Ends) → Comes base came at left → IsBehind base at.seen left.state.world
-weakened base (how.Gone it) at left comes = behind-told base at.seen left.state left.state comes.has.seen (grows-self left.state)
+weakened : (base : Base) (came : How) (at : Point) (left : Ends) → Comes base came at left → IsBehind base at.tree.held at.seen left.state.world
+weakened base (how.Gone it) at left comes = behind-told base at left.state left.state comes.has (grows-self left.state)
 weakened base how.ReadFault at left comes = comes
 weakened base how.WriteFault at left comes = comes
 weakened base how.TreeFault at left comes = comes

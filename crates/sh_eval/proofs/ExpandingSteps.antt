@@ -42,7 +42,7 @@ use Rattle.sh_eval.proofs.Steps.{changed-before, failed-early, meant-at, no-fewe
 answers-has : (base : Base) (shell : Shell) (session : Session) (tree : TreeState) (seen : Seen) (faults : Faults) (state : State) (after : Variables) → Has base (point_of shell session tree seen faults) state
     → Has base (point_of (with_env after shell) session tree seen faults) (with_variables after state)
 answers-has base shell session tree seen faults state after has =
-    record { shell = ap (with_env after) has.shell; session = has.session; home = has.home; held = has.held; seen = has.seen }
+    record { shell = ap (with_env after) has.shell; session = has.session; home = has.home; held = has.held; kept = has.kept; seen = has.seen }
 
 -- an answer is gone on with, where the tree and what is written are as they were
 pub answered : (first second : Meaning) (shell shell' : Shell) (session : Session) (tree : TreeState) (seen : Seen) (faults : Faults) (came : How) (new : Point) → shell' ≡ with_env shell'.variables shell

@@ -1,5 +1,5 @@
 -- Every command adds to what is there.
-use Rattle.std.proofs.Common.{◌≡◌, ℕ, zero, suc, ◌≤◌, ◌+◌, ◌-◌, nat_le, nat_lt, not, ◌&&◌, ◌||◌, length, drop, if◌then◌else◌, List, [], ◌∷◌, ◌++◌, Bool, true, false, Option, Some, None, Result, Ok, Err, refl, sym, subst, arith}
+use Rattle.std.proofs.Common.{◌≡◌, inr, ℕ, zero, suc, ◌≤◌, ◌+◌, ◌-◌, nat_le, nat_lt, not, ◌&&◌, ◌||◌, length, drop, if◌then◌else◌, List, [], ◌∷◌, ◌++◌, Bool, true, false, Option, Some, None, Result, Ok, Err, refl, sym, subst, arith}
 use Rattle.ps_lines.proofs.TextsLemmas.{begins-self, begins-append, begins-trans}
 use Rattle.sh_eval.specs.declared.flows.Flow.{Flow}
 use Rattle.sh_eval.specs.declared.flows.Flow.TheVariants as flow
@@ -15,6 +15,7 @@ use Rattle.sh_tree.specs.Trees.{subshell as subshell_tree}
 use Rattle.sh_tree.specs.declared.commands.Join.{Join}
 use Rattle.sh_tree.specs.declared.commands.How.{How}
 use Rattle.sh_tree.specs.declared.commands.How.TheVariants as how
+use Rattle.ps_world.specs.Files.{IsOneOf}
 use Rattle.ps_world.specs.Paths.{Components}
 use Rattle.ps_world.specs.declared.places.Place.{Place}
 use Rattle.ps_world.specs.declared.places.Place.TheVariants as place
@@ -55,11 +56,13 @@ use Rattle.ut_test.specs.Echo.{echoed}
 use Rattle.sh_expand.specs.Separators.{ifs_of}
 use Rattle.std.specs.Option.{unwrap_or}
 use Rattle.std.specs.List.{list_any}
+use Rattle.sh_eval.specs.Reaching.{written_by}
+use Rattle.sh_eval.specs.Redirecting.{left_off}
 use Rattle.sh_eval.specs.Growth.{Grows, Adds}
 
 -- states that only grow
 pub grows-self : (state : State) → Grows state state
-grows-self state = record { output = begins-self state.world.output; errors = begins-self state.world.errors; turns = omega arith }
+grows-self state = record { output = begins-self state.world.output; errors = begins-self state.world.errors; written = λ path one. one; turns = omega arith }
 
 pub grows-trans : (old between new : State) → Grows old between → Grows between new → Grows old new
 grows-trans old between new first second =
@@ -68,15 +71,20 @@ grows-trans old between new first second =
     record {
       output = begins-trans new.world.output between.world.output old.world.output second.output first.output;
       errors = begins-trans new.world.errors between.world.errors old.world.errors second.errors first.errors;
+      written = λ path one. second.written path (first.written path one);
       turns = omega arith;
     }
 
+-- a file is begun
+grows-begun : (anew : Bool) (path : Components) (state : State) → Grows state (in_world (file_begun anew path) state)
+grows-begun anew path state = record { output = begins-self state.world.output; errors = begins-self state.world.errors; written = λ at one. inr one; turns = omega arith }
+
 -- what is written is added
 pub grows-write : (place : To) (bytes : List ℕ) (state : State) → Grows state (write place bytes state)
-grows-write to.Output bytes state = record { output = begins-append state.world.output bytes; errors = begins-self state.world.errors; turns = omega arith }
-grows-write to.Errors bytes state = record { output = begins-self state.world.output; errors = begins-append state.world.errors bytes; turns = omega arith }
+grows-write to.Output bytes state = record { output = begins-append state.world.output bytes; errors = begins-self state.world.errors; written = λ path one. one; turns = omega arith }
+grows-write to.Errors bytes state = record { output = begins-self state.world.output; errors = begins-append state.world.errors bytes; written = λ path one. one; turns = omega arith }
 grows-write (to.Pipe number) bytes state = grows-self state
-grows-write (to.File path) bytes state = grows-self state
+grows-write (to.File path) bytes state = record { output = begins-self state.world.output; errors = begins-self state.world.errors; written = λ at one. inr one; turns = omega arith }
 grows-write to.Null bytes state = grows-self state
 
 pub grows-leaving : (source : From) (rest : List ℕ) (state : State) → Grows state (leaving source rest state)
@@ -129,7 +137,7 @@ adds-apart enter leave takes_over means no_fewer_in no_fewer_out adds state =
     let turns_in = no_fewer_in state.session in
     let turns_on = grows.turns in
     let turns_out = no_fewer_out state.session left.state.session in
-    record { output = grows.output; errors = grows.errors; turns = omega arith }
+    record { output = grows.output; errors = grows.errors; written = grows.written; turns = omega arith }
 
 pub same-turns : (session : Session) → session.turns ≤ session.turns
 same-turns session = omega arith
@@ -185,7 +193,7 @@ adds-turn holds condition body adds_condition adds_body state =
     grows-trans state tested.state (tested_by holds body tested.flow tested.state).state (adds_condition state) (adds-tested holds body adds_body tested.flow tested.state)
 
 pub grows-turn_used : (state : State) → Grows state (in_session turn_used state)
-grows-turn_used state = record { output = begins-self state.world.output; errors = begins-self state.world.errors; turns = omega arith }
+grows-turn_used state = record { output = begins-self state.world.output; errors = begins-self state.world.errors; written = λ path one. one; turns = omega arith }
 
 -- a round, and what comes behind it where it doesn't end the loop
 pub adds-round : (start : State) (left : Ends) (again : Means) → Grows start left.state → Adds again
@@ -275,11 +283,11 @@ adds-unless_busy (Some text) next adds state = grows-self state
 pub adds-where_free : (uses : State → List Use) (next : Means) → Adds next → Adds (λ state. where_free (uses state) next state)
 adds-where_free uses next adds state = adds-unless_busy (first_busy state.session.streams.held (uses state)) next adds state
 
-abbrev GrowsTo : State → Redirected → Type 0
+abbrev pub GrowsTo : State → Redirected → Type 0
 GrowsTo state (led new) = Grows state new
 GrowsTo state (stopped line) = Unit {0}
 
-grows-reading : (text : List ℕ) (place : Place) (state : State) → GrowsTo state (reading_at text place state)
+pub grows-reading : (text : List ℕ) (place : Place) (state : State) → GrowsTo state (reading_at text place state)
 grows-reading text place.Missing state = tt
 grows-reading text (place.Makeable path) state = tt
 grows-reading text (place.Dir path) state = tt
@@ -289,14 +297,14 @@ grows-reading text place.Null state = grows-self state
 grows-leads_to : (number : ℕ) (place : To) (session : Session) → (in_streams (leads_to number place) session).turns ≡ session.turns
 grows-leads_to number place session = refl
 
-grows-writing : (anew : Bool) (number : ℕ) (text : List ℕ) (place : Place) (state : State) → GrowsTo state (writing_at anew number text place state)
+pub grows-writing : (anew : Bool) (number : ℕ) (text : List ℕ) (place : Place) (state : State) → GrowsTo state (writing_at anew number text place state)
 grows-writing anew number text place.Missing state = tt
-grows-writing anew number text (place.Makeable path) state = grows-self state
+grows-writing anew number text (place.Makeable path) state = grows-begun anew path state
 grows-writing anew number text (place.Dir path) state = tt
-grows-writing anew number text (place.File path) state = grows-self state
+grows-writing anew number text (place.File path) state = grows-begun anew path state
 grows-writing anew number text place.Null state = grows-self state
 
-grows-redirected : (target : Target) (how : How) (place : Place) (state : State) → GrowsTo state (redirected target how place state)
+pub grows-redirected : (target : Target) (how : How) (place : Place) (state : State) → GrowsTo state (redirected target how place state)
 grows-redirected target how.Read place state = grows-reading target.text place state
 grows-redirected target how.Write place state = grows-writing true target.number target.text place state
 grows-redirected target how.Append place state = grows-writing false target.number target.text place state
@@ -306,11 +314,34 @@ adds-goes_on_in : (flow : Flow) (next : Means) → Adds next → (how : Redirect
 adds-goes_on_in flow next adds (led first) state grows = grows-trans state first (next first).state grows (adds first)
 adds-goes_on_in flow next adds (stopped line) state grows = grows-write state.session.streams.errors_to line state
 
-adds-redirecting : (flow : Flow) (targets : List Target) (next : Means) → Adds next → Adds (redirecting flow targets next)
+pub adds-redirecting : (flow : Flow) (targets : List Target) (next : Means) → Adds next → Adds (redirecting flow targets next)
 adds-redirecting flow [] next adds state = adds state
 adds-redirecting flow (target ∷ targets) next adds state =
     adds-goes_on_in flow (redirecting flow targets next) (adds-redirecting flow targets next adds) (redirected target target.how (named_by state target.text) state) state
     (grows-redirected target target.how (named_by state target.text) state)
+
+-- what a redirection has written by where it leaves off
+pub wrote-more : (how : Redirected) (state : State) → GrowsTo state how → (path : Components) → IsOneOf state.world.written path → IsOneOf (left_off how state).world.written path
+wrote-more (led first) state grows path one = grows.written path one
+wrote-more (stopped line) state grows path one = one
+
+pub wrote-on : (way : Flow) (next : Means) → Adds next → (how : Redirected) (state : State) (path : Components) → IsOneOf (left_off how state).world.written path
+    → IsOneOf (goes_on_in way next how state).state.world.written path
+wrote-on way next adds (led first) state path one = (adds first).written path one
+wrote-on way next adds (stopped line) state path one = (grows-write state.session.streams.errors_to line state).written path one
+
+-- and what all of them have, whatever goes on
+pub written-on : (way : Flow) (targets : List Target) (next : Means) → Adds next → (state : State) (path : Components) → IsOneOf (written_by targets state) path
+    → IsOneOf (redirecting way targets next state).state.world.written path
+written-on way [] next adds state path = (adds state).written path
+written-on way (target ∷ targets) next adds state path =
+    by_how (λ first. written-on way targets next adds first path) (redirected target target.how (named_by state target.text) state)
+  where
+    by_how : ((first : State) → IsOneOf (written_by targets first) path → IsOneOf (redirecting way targets next first).state.world.written path) → (it : Redirected)
+        → IsOneOf (goes_on_in flow.On (redirecting flow.On targets on) it state).state.world.written path
+        → IsOneOf (goes_on_in way (redirecting way targets next) it state).state.world.written path
+    by_how rest (led first) one = rest first one
+    by_how rest (stopped line) one = one
 
 pub adds-in_redirections : (flow : Flow) (targets : List Target) (next : Means) → Adds next → Adds (in_redirections flow targets next)
 adds-in_redirections flow [] next adds state = adds state
@@ -335,7 +366,7 @@ grows-tells_some start [] state grows = grows
 grows-tells_some start (byte ∷ bytes) state grows = grows-tells start (byte ∷ bytes) state grows
 
 grows-notes : (start : State) (ran : List Noted) (state : State) → Grows start state → Grows start (in_world (notes ran) state)
-grows-notes start ran state grows = record { output = grows.output; errors = grows.errors; turns = grows.turns }
+grows-notes start ran state grows = record { output = grows.output; errors = grows.errors; written = grows.written; turns = grows.turns }
 
 pub grows-writes : (start : State) (files : List Components) (bytes : List ℕ) (state : State) → Grows start state → Grows start (writes files bytes state)
 grows-writes start [] bytes state grows = grows
@@ -349,7 +380,7 @@ adds-takes files does state =
     let noted = in_world (notes (does.ran state)) taken in
     let noted_grows = grows-notes state (does.ran state) taken taken_grows in
     grows-writes state files (does.written state) (puts (does.written state) (leaves (does.status state) noted))
-    (grows-puts state (does.written state) (leaves (does.status state) noted) (record { output = noted_grows.output; errors = noted_grows.errors; turns = noted_grows.turns }))
+    (grows-puts state (does.written state) (leaves (does.status state) noted) (record { output = noted_grows.output; errors = noted_grows.errors; written = noted_grows.written; turns = noted_grows.turns }))
 
 module _ (pages : Pages) where
   pub adds-takes_inputs : (name : List ℕ) (called : Called) → Adds (takes_inputs pages name called)
@@ -362,7 +393,7 @@ module _ (pages : Pages) where
       let noted = in_world (notes ran) taken in
       let noted_grows = grows-notes state ran taken taken_grows in
       let left = leaves (status_of called.command (list_any (has_none state) operands) (pages.selects called.command inputs)) noted in
-      grows-puts state (pages.output called.command inputs) left (record { output = noted_grows.output; errors = noted_grows.errors; turns = noted_grows.turns })
+      grows-puts state (pages.output called.command inputs) left (record { output = noted_grows.output; errors = noted_grows.errors; written = noted_grows.written; turns = noted_grows.turns })
 
   adds-writes_out : (name : List ℕ) (called : Called) → Adds (writes_out pages name called)
   adds-writes_out name called state =
@@ -382,16 +413,16 @@ module _ (pages : Pages) where
       by_need false = adds-writes_out name called state
 
 -- TEE
-adds-making_at : (anew : Bool) (name text : List ℕ) (at : Place) (made : Made) (next : Made → Means) → ((made : Made) → Adds (next made)) → Adds (making_at anew name text at made next)
+pub adds-making_at : (anew : Bool) (name text : List ℕ) (at : Place) (made : Made) (next : Made → Means) → ((made : Made) → Adds (next made)) → Adds (making_at anew name text at made next)
 adds-making_at anew name text place.Missing made next adds state = adds (without (diagnostic name text no_such_file) made) state
 adds-making_at anew name text (place.Makeable path) made next adds state =
-    grows-trans state (in_world (file_begun anew path) state) (next (with_file path made) (in_world (file_begun anew path) state)).state (grows-self state) (adds (with_file path made) (in_world (file_begun anew path) state))
+    grows-trans state (in_world (file_begun anew path) state) (next (with_file path made) (in_world (file_begun anew path) state)).state (grows-begun anew path state) (adds (with_file path made) (in_world (file_begun anew path) state))
 adds-making_at anew name text (place.Dir path) made next adds state = adds (without (diagnostic name text is_a_directory) made) state
 adds-making_at anew name text (place.File path) made next adds state =
-    grows-trans state (in_world (file_begun anew path) state) (next (with_file path made) (in_world (file_begun anew path) state)).state (grows-self state) (adds (with_file path made) (in_world (file_begun anew path) state))
+    grows-trans state (in_world (file_begun anew path) state) (next (with_file path made) (in_world (file_begun anew path) state)).state (grows-begun anew path state) (adds (with_file path made) (in_world (file_begun anew path) state))
 adds-making_at anew name text place.Null made next adds state = adds made state
 
-adds-making : (anew : Bool) (name : List ℕ) (texts : List (List ℕ)) (made : Made) (next : Made → Means) → ((made : Made) → Adds (next made)) → Adds (making anew name texts made next)
+pub adds-making : (anew : Bool) (name : List ℕ) (texts : List (List ℕ)) (made : Made) (next : Made → Means) → ((made : Made) → Adds (next made)) → Adds (making anew name texts made next)
 adds-making anew name [] made next adds state = adds made state
 adds-making anew name (text ∷ texts) made next adds state =
     adds-making_at anew name text (named_by state text) made (λ behind. making anew name texts behind next) (λ behind. adds-making anew name texts behind next adds) state
@@ -399,7 +430,7 @@ adds-making anew name (text ∷ texts) made next adds state =
 pub adds-copies : (called : Called) (files : List Components) (is_whole : Bool) → Adds (copies called files is_whole)
 adds-copies called files is_whole state = adds-takes files (tee_does called (status_by is_whole)) state
 
-adds-tells_and_copies : (called : Called) (made : Made) → Adds (tells_and_copies called made)
+pub adds-tells_and_copies : (called : Called) (made : Made) → Adds (tells_and_copies called made)
 adds-tells_and_copies called made state =
     grows-trans state (tells_some made.lines state) (copies called made.files made.is_whole (tells_some made.lines state)).state
     (grows-tells_some state made.lines state (grows-self state)) (adds-copies called made.files made.is_whole (tells_some made.lines state))

@@ -1,3 +1,4 @@
+pub mod KeptLemmas
 pub mod Growing
 pub mod Steps
 pub mod ListSteps

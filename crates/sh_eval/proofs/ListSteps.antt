@@ -153,6 +153,7 @@ pipeline-followed it commands old mid came same is found shell turned =
           session = has.session;
           home = has.home;
           held = has.held;
+          kept = has.kept;
           seen = has.seen;
         };
       };
@@ -275,7 +276,7 @@ module _ (means : Meaning) (enter : Session → Session) (leave : Session → Se
   inner_has : (base : Base) (shell : Shell) (session : Session) (tree : TreeState) (seen : Seen) (faults : Faults) (state : State) → Has base (point_of shell session tree seen faults) state
       → Has base (point_of (inside shell) (enter session) tree seen faults) (record { shell = inside state.shell; session = enter state.session; world = state.world })
   inner_has base shell session tree seen faults state has =
-      record { shell = ap inside has.shell; session = ap enter has.session; home = has.home; held = has.held; seen = has.seen }
+      record { shell = ap inside has.shell; session = ap enter has.session; home = has.home; held = has.held; kept = has.kept; seen = has.seen }
 
   outer_comes : (base : Base) (shell : Shell) (session : Session) (state : State) (came : How) (at : Point)
       → shell ≡ state.shell → session ≡ state.session → (expansions : Expansions)
@@ -289,6 +290,7 @@ module _ (means : Meaning) (enter : Session → Session) (leave : Session → Se
           session = ap2 leave session state.session at.session _ session_is ended.has.session;
           home = ended.has.home;
           held = ended.has.held;
+          kept = ended.has.kept;
           seen = ended.has.seen;
         };
       }

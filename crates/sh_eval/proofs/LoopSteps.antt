@@ -32,7 +32,7 @@ use Rattle.sh_eval.proofs.ListSteps.{meant}
 -- A LOOP around what stands in it
 inner-has : (base : Base) (shell : Shell) (session : Session) (tree : TreeState) (seen : Seen) (faults : Faults) (state : State) → Has base (point_of shell session tree seen faults) state
     → Has base (point_of (entered shell) session tree seen faults) (in_shell entered state)
-inner-has base shell session tree seen faults state has = record { shell = ap entered has.shell; session = has.session; home = has.home; held = has.held; seen = has.seen }
+inner-has base shell session tree seen faults state has = record { shell = ap entered has.shell; session = has.session; home = has.home; held = has.held; kept = has.kept; seen = has.seen }
 
 pub in-loop : (means : Meaning) (shell inner mid shell' : Shell) (session session' : Session) (tree tree' : TreeState) (seen seen' : Seen) (faults faults' : Faults) (came : How)
     → inner ≡ entered shell → shell' ≡ restored shell mid
@@ -62,6 +62,7 @@ in-loop means shell inner mid shell' session session' tree tree' seen seen' faul
             session = ended.has.session;
             home = ended.has.home;
             held = ended.has.held;
+            kept = ended.has.kept;
             seen = ended.has.seen;
           };
         }
@@ -119,7 +120,7 @@ used-up means shell session session' tree seen faults came new used found =
     let turns = one.turns in
     record {
       comes = λ expansions are base state has. one.comes expansions are base (in_session turn_used state)
-          (record { shell = has.shell; session = ap turn_used has.session; home = has.home; held = has.held; seen = has.seen });
+          (record { shell = has.shell; session = ap turn_used has.session; home = has.home; held = has.held; kept = has.kept; seen = has.seen });
       keeps = λ gone. let keeps = one.keeps gone in record { whole = keeps.whole; files = keeps.files; output = keeps.output; errors = keeps.errors };
       turns = omega arith;
       later = one.later;

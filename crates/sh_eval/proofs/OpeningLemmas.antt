@@ -29,7 +29,7 @@ use Rattle.sh_eval.specs.Growth.{Adds}
 use Rattle.sh_eval.specs.Contract.{Seen, Faults, Point, point_of, faults_of, Base, Has, Comes, IsSound, Meaning, Evaluates, PassesOn, StopsAt}
 use Rattle.sh_eval.specs.Reaching.{Reaches, DoesAll, Remembers, RemembersSome, CanSkip, Skips, has_read}
 use Rattle.sh_eval.specs.Inner.Opening.{freed, opened, held_opened, closed, Opens, Shuts, FindsUses, IsBusy, is_told, is_wanted, how_of}
-use Rattle.sh_eval.proofs.EndingLemmas.{blamed}
+use Rattle.sh_eval.proofs.EndingLemmas.{blamed, kept-same}
 use Rattle.sh_eval.proofs.Growing.{adds-where_free, adds-in_redirections}
 use Rattle.sh_eval.proofs.RedirectionLoops.{around}
 use Rattle.sh_eval.proofs.SkippingLemmas.{around-stopped}
@@ -185,7 +185,7 @@ pub shuts-led : (why : Stop) (way : Flow) (targets : List Target) (old mid last 
     → Shuts (λ expansions. in_redirections way targets) old came (point_of last.shell session last.tree last.seen last.faults)
 shuts-led why way [] old mid last came first before session some begun kept does skips streams back = absurd (omega (arith, some))
 shuts-led why way (target ∷ targets) old mid last came first before session some begun kept does skips streams back = λ next adds.
-    around-stopped why way target targets next old mid last came first before session (λ expansions. adds-in_redirections way (target ∷ targets) (next expansions) (adds expansions)) begun kept does skips streams back
+    around-stopped why way target targets next old mid last came first before session adds begun kept does skips streams back
 
 -- a line can be told where one stopped
 pub can-skip : (why : Stop) (targets : List Target) (old new : Point) → DoesAll targets old new (Err why) → IsSound old.session old.tree → CanSkip why new.session new.tree
@@ -218,7 +218,7 @@ held-before uses next shell session session' tree seen faults came last is found
       comes = λ expansions are base state has.
           subst (λ (it : State). Comes base came last (next expansions it)) (sym (held-none uses state))
           (one.comes expansions are base (in_session (in_streams (λ streams. record streams { held = streams.held ++ held_by uses })) state)
-          (record { shell = has.shell; session = ap (in_streams (λ streams. record streams { held = streams.held ++ held_by uses })) has.session; home = has.home; held = has.held; seen = has.seen }));
+          (record { shell = has.shell; session = ap (in_streams (λ streams. record streams { held = streams.held ++ held_by uses })) has.session; home = has.home; held = has.held; kept = has.kept; seen = has.seen }));
       keeps = λ gone. let keeps = one.keeps gone in record { whole = keeps.whole; files = keeps.files; output = keeps.output; errors = keeps.errors };
       turns = one.turns;
       later = one.later;
@@ -268,4 +268,5 @@ module _ (targets : List Target) (all : List Use) (shell : Shell) (session : Ses
       shuts-held how.Memory (point_of shell_in session_back tree_in seen_in faults_in)
       (λ next adds. opens next how.Memory (point_of shell_in session_held tree_in seen_in faults_in) session_back
       (blamed next (point_of shell_in session_in tree_in seen_in faults_in) (point_of shell_in session_held tree_in seen_in faults_in) how.Memory adds (λ gone. gone) refl refl
+      (kept-same next (point_of shell_in session_in tree_in seen_in faults_in) tree_in.held adds refl)
       (subst (λ (it : ℕ). session_in.turns ≤ it) (sym turns) (omega arith)) (no-fewer faults_in) tt (balanced-none tree_in)) back)

@@ -11,6 +11,7 @@ use Rattle.ps_world.specs.TreeState.{TreeState}
 use Rattle.ps_world.proofs.TreeStateLemmas.{balanced-none}
 use Rattle.sh_expand.specs.Separators.{ifs_of}
 use Rattle.ut_test.specs.Fields.{fields_read}
+use Rattle.fl_commands.specs.Writers.{ChangesOnly}
 use Rattle.sh_eval.specs.declared.flows.Flow.TheVariants as flow
 use Rattle.sh_eval.specs.declared.outcomes.How.TheVariants as how
 use Rattle.sh_eval.specs.declared.session.Session.{Session}
@@ -134,18 +135,19 @@ set_all-is (name ∷ names) (text ∷ texts) state = set_all-is names texts (in_
 -- READ
 left-so : (base : Base) (state : State) (change : Shell → Shell) (session : Session) (tree : TreeState) (left taken errors : Option (List ℕ)) (used : Option Log) (faults : Faults) (place : From) → state.session.streams.from ≡ place
     → session ≡ reading (from_behind place) state.session → left ≡ told_behind place (Some state.world.input) → used ≡ then_ran base.used state.world.ran → tree.home ≡ state.world.home → tree.held ≡ Some state.world.files
-    → taken ≡ then_bytes base.taken state.world.output → errors ≡ then_bytes base.errors state.world.errors
+    → ChangesOnly state.world.written (Some base.files) tree.held → taken ≡ then_bytes base.taken state.world.output → errors ≡ then_bytes base.errors state.world.errors
     → Has base (point_of (change state.shell) session tree (seen_of (drawn_of left used) taken errors) faults) (in_shell change (leaving place (behind_line (left_in place state.world)) state))
-left-so base state change session tree left taken errors used faults from.Standard is reads_on leaves_so uses home held writes tells =
+left-so base state change session tree left taken errors used faults from.Standard is reads_on leaves_so uses home held kept writes tells =
     record {
       shell = refl;
       session = reads_on ∙ ap (λ (it : From). reading it state.session) (sym is);
       home = home;
       held = held;
+      kept = kept;
       seen = λ i. seen_of (drawn_of (leaves_so i) (uses i)) (writes i) (tells i);
     }
-left-so base state change session tree left taken errors used faults (from.Kept text) is reads_on leaves_so uses home held writes tells =
-    record { shell = refl; session = reads_on; home = home; held = held; seen = λ i. seen_of (drawn_of (leaves_so i) (uses i)) (writes i) (tells i) }
+left-so base state change session tree left taken errors used faults (from.Kept text) is reads_on leaves_so uses home held kept writes tells =
+    record { shell = refl; session = reads_on; home = home; held = held; kept = kept; seen = λ i. seen_of (drawn_of (leaves_so i) (uses i)) (writes i) (tells i) }
 
 to-read : (place : From) (left : Option (List ℕ)) (state : State) → left ≡ Some state.world.input → left_of place left ≡ Some (left_in place state.world)
 to-read from.Standard left state is = is
@@ -190,7 +192,7 @@ read-so names shell shell' session session' tree left left' taken errors used fa
         let told_is : left' ≡ told_behind state.session.streams.from (Some state.world.input) =
         takes.left ∙ ap (λ (it : From). told_behind it left) from_is ∙ ap (told_behind state.session.streams.from) left_is in
         let there : Has base (point_of (change state.shell) session' tree (seen_of (drawn_of left' used) taken errors) faults) (in_shell change (reads_to (behind_line text) state)) =
-        left-so base state change session' tree left' taken errors used faults state.session.streams.from refl session_is told_is (ap (λ (it : Seen). it.drawn.used) has.seen) has.home has.held
+        left-so base state change session' tree left' taken errors used faults state.session.streams.from refl session_is told_is (ap (λ (it : Seen). it.drawn.used) has.seen) has.home has.held has.kept
         (ap (λ (it : Seen). it.taken) has.seen) (ap (λ (it : Seen). it.errors) has.seen) in
         subst (λ (it : State). Has base (point_of shell' session' tree (seen_of (drawn_of left' used) taken errors) faults) (leaves (if has_newline text then 0 else 1) it)) (sym (set_all-is names fields (reads_to (behind_line text) state)))
         (subst (λ (it : Shell). Has base (point_of it session' tree (seen_of (drawn_of left' used) taken errors) faults) (in_shell change (reads_to (behind_line text) state))) (sym shell_is) there)

@@ -6,7 +6,10 @@ use Rattle.std.proofs.lemmas.Bool.{true≢false}
 use Rattle.std.specs.Option.{unwrap_or}
 use Rattle.ps_world.specs.Counts.{Rose}
 use Rattle.ps_world.proofs.TreeStateLemmas.{balanced-none, balanced-more}
+use Rattle.fl_commands.specs.Writers.{ChangesOnly}
+use Rattle.fl_commands.proofs.WriterLemmas.{only-within}
 use Rattle.sh_eval.specs.declared.flows.Flow.{Flow}
+use Rattle.sh_eval.specs.declared.flows.Flow.TheVariants as flow
 use Rattle.sh_eval.specs.declared.stops.Stop.{Stop}
 use Rattle.sh_eval.specs.declared.stops.Stop.TheVariants as stop
 use Rattle.sh_eval.specs.declared.streams.From.{From}
@@ -15,13 +18,14 @@ use Rattle.sh_eval.specs.declared.session.Session.{Session}
 use Rattle.sh_eval.specs.declared.outcomes.How.{How}
 use Rattle.sh_eval.specs.declared.outcomes.How.TheVariants as how
 use Rattle.sh_eval.specs.Targets.{Target}
-use Rattle.sh_eval.specs.States.{State, Means, Ends, in_streams}
+use Rattle.sh_eval.specs.States.{State, Means, Ends, in_streams, on}
 use Rattle.sh_eval.specs.Redirections.{Redirected, redirected, named_by, redirecting, goes_on_in, skipped, is_read, led_back, within, in_redirections}
 use Rattle.sh_eval.specs.Contract.{Faults, Point, point_of, Base, HasCause, Comes, NoFewer, Meaning, Evaluates}
-use Rattle.sh_eval.specs.Redirecting.{LeavesOn, Led, TellsWhy, Breaks, Does}
-use Rattle.sh_eval.specs.Reaching.{Reaches, DoesAll, Remembers, RemembersSome, has_read}
+use Rattle.sh_eval.specs.Redirecting.{LeavesOn, Led, TellsWhy, Breaks, Does, wrote_by}
+use Rattle.sh_eval.specs.Reaching.{Reaches, DoesAll, Remembers, RemembersSome, has_read, written_by}
 use Rattle.sh_eval.specs.Leading.{kept_by, keeping, before_in, put_back}
 use Rattle.sh_eval.specs.declared.leading.Before.{Before}
+use Rattle.sh_eval.proofs.Growing.{adds-on, adds-redirecting, wrote-on}
 use Rattle.sh_eval.proofs.Steps.{held-none, held-more}
 
 pub leaves-none : (at : Point) → LeavesOn at at
@@ -72,11 +76,17 @@ reaches-line first target targets line old mid new reaches tells =
       leaves_on = reaches.leaves_on;
     })
 
-breaks-more : (old mid new : Point) → mid.seen ≡ old.seen → LeavesOn old mid → Breaks mid new → Breaks old new
-breaks-more old mid new seen leaves breaks =
+breaks-more : (targets rest : List Target) (target : Target) (old mid new : Point) → mid.seen ≡ old.seen → Reaches (λ way. redirecting way targets) (λ way. redirecting way (target ∷ rest)) old mid
+    → Breaks (wrote_by (by_target target)) mid new → Breaks (written_by targets) old new
+breaks-more targets rest target old mid new seen reaches breaks =
+    let leaves = reaches.leaves_on in
     let one = leaves.turns in
     let other = breaks.turns in
     record {
+      kept = λ base state has.
+          let there = reaches.at flow.On on base state has in
+          subst (λ (it : Ends). ChangesOnly it.state.world.written (Some base.files) new.tree.held) (sym there.same)
+          (only-within (wrote-on flow.On (redirecting flow.On rest on) (adds-redirecting flow.On rest on adds-on) (by_target target there.behind) there.behind) (breaks.kept base there.behind there.has));
       taken = breaks.taken ∙ seen;
       turns = omega arith;
       later = subst (λ (it : Faults). NoFewer it new.faults) leaves.faults breaks.later;
@@ -88,8 +98,8 @@ pub all-stopped : (targets rest : List Target) (target : Target) (old mid new : 
     → Does (by_target target) mid new (Err why) → DoesAll targets old new (Err why)
 all-stopped targets rest target old mid new (stop.Line line) seen reaches does = reaches-line (λ way. redirecting way targets) target rest line old mid new reaches does
 all-stopped targets rest target old mid new stop.Tree seen reaches does =
-    (breaks-more old mid new seen reaches.leaves_on does.0, subst (λ (it : Faults). Rose it.tree new.faults.tree) reaches.leaves_on.faults does.1)
-all-stopped targets rest target old mid new stop.Memory seen reaches does = breaks-more old mid new seen reaches.leaves_on does
+    (breaks-more targets rest target old mid new seen reaches does.0, subst (λ (it : Faults). Rose it.tree new.faults.tree) reaches.leaves_on.faults does.1)
+all-stopped targets rest target old mid new stop.Memory seen reaches does = breaks-more targets rest target old mid new seen reaches does
 
 -- all of them are done
 pub all-done : (targets : List Target) (place : ℕ) (old new : Point) → length targets ≤ place → Reaches (λ way. redirecting way targets) (λ way. redirecting way (drop place targets)) old new
@@ -199,6 +209,7 @@ comes-back targets streams base (how.Gone way) last session left is comes =
             session = is ∙ ap (in_streams (led_back targets streams)) comes.has.session;
             home = comes.has.home;
             held = comes.has.held;
+            kept = comes.has.kept;
             seen = comes.has.seen;
           };
     }

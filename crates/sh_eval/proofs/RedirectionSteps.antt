@@ -1,10 +1,10 @@
 -- Redirections, one after the other.
-use Rattle.std.proofs.Common.{◌≡◌, ℕ, ◌≤◌, ◌==◌, List, [], Bool, true, false, if◌then◌else◌, Option, Some, None, IfSome, Result, Ok, Err, codes, nat_eq, refl, sym, ap, ◌∙◌, subst, arith}
+use Rattle.std.proofs.Common.{◌≡◌, ℕ, ◌≤◌, ◌==◌, List, [], ◌∷◌, Bool, true, false, if◌then◌else◌, Option, Some, None, IfSome, Result, Ok, Err, codes, nat_eq, refl, sym, ap, ◌∙◌, subst, arith}
 use Rattle.std.specs.FinMap as map
 use Rattle.std.specs.Option.{option_map}
 use Rattle.ps_world.specs.Counts.{Rose}
 use Rattle.ps_world.specs.Paths.{Components}
-use Rattle.ps_world.specs.Files.{Files, Bytes, IsFile, NoWriterOut, bytes_at}
+use Rattle.ps_world.specs.Files.{Files, Bytes, IsFile, IsOneOf, NoWriterOut, bytes_at}
 use Rattle.ps_world.specs.Places.{resolve}
 use Rattle.ps_world.specs.TreeState.{TreeState, Balanced, OnlyLent}
 use Rattle.ps_world.specs.declared.error.WorldErr.{WorldErr}
@@ -23,13 +23,17 @@ use Rattle.sh_eval.specs.declared.streams.Streams.{Streams}
 use Rattle.sh_eval.specs.declared.streams.To.{To}
 use Rattle.sh_eval.specs.declared.streams.To.TheVariants as to
 use Rattle.sh_eval.specs.States.{State, in_session, in_streams, in_world, reading}
-use Rattle.sh_eval.specs.Redirections.{Redirected, led, stopped, named_by, read_from, reading_at, leads_to, led_to, leading, file_begun, redirected}
+use Rattle.sh_eval.specs.Redirections.{Redirected, led, stopped, named_by, read_from, reading_at, writing_at, leads_to, led_to, leading, file_begun, redirected}
 use Rattle.sh_eval.specs.Targets.{Target}
 use Rattle.sh_tree.specs.declared.commands.How.{How}
 use Rattle.std.specs.Cmp.Lexicographic.{pointwise}
 use Rattle.sh_eval.specs.Contract.{Seen, Faults, Point, point_of, faults_of, Base, Has, CanTake, Stands, Stay, HeldStays}
 use Rattle.sh_eval.specs.Leading.{begun_at}
-use Rattle.sh_eval.specs.Redirecting.{Led, Breaks, Does, TellsLine, of_tree}
+use Rattle.sh_eval.specs.Redirecting.{Led, Breaks, Does, TellsLine, left_off, of_tree, wrote_by}
+use Rattle.fl_commands.specs.Writers.{ChangesOnly}
+use Rattle.fl_commands.proofs.WriterLemmas.{only-more, only-same, only-within}
+use Rattle.sh_eval.proofs.Growing.{grows-reading, grows-writing, wrote-more}
+use Rattle.sh_eval.proofs.KeptLemmas.{kept-step, only-begun}
 use Rattle.sh_eval.proofs.Steps.{can-take, no-fewer, held-none}
 use Rattle.sh_eval.proofs.WritingLemmas.{stay-filled}
 
@@ -52,6 +56,7 @@ led-read text does shell session session' tree tree' seen faults faults' is only
                   session = is ∙ ap (reading (from.Kept text)) has.session;
                   home = only.home ∙ has.home;
                   held = only.held ∙ has.held;
+                  kept = only-more has.kept (only-same only.held);
                   seen = has.seen;
                 };
             same = same base state has;
@@ -129,6 +134,7 @@ led-begun does anew number path shell session session' tree tree' seen faults fa
                   session = is ∙ ap (in_streams (leads_to number (to.File path))) has.session;
                   home = lent.home ∙ has.home;
                   held = held ∙ ap (option_map (begun_at anew path)) has.held;
+                  kept = kept-step (Some base.files) tree.held state.world.written path tree'.held has.kept (only-begun anew path tree.held tree'.held held);
                   seen = has.seen;
                 };
             same = same state;
@@ -160,7 +166,7 @@ led-still does number place shell session session' tree seen faults same can is 
       at = λ base state has.
           record {
             behind = in_session (in_streams (leads_to number place)) state;
-            has = record { shell = has.shell; session = is ∙ ap (in_streams (leads_to number place)) has.session; home = has.home; held = has.held; seen = has.seen };
+            has = record { shell = has.shell; session = is ∙ ap (in_streams (leads_to number place)) has.session; home = has.home; held = has.held; kept = has.kept; seen = has.seen };
             same = same base state has;
           };
       leaves_on =
@@ -174,25 +180,56 @@ led-still does number place shell session session' tree seen faults same can is 
           };
     }
 
--- STOPPING
-breaks-none : (at : Point) → Breaks at at
-breaks-none at = record { taken = refl; turns = omega arith; later = no-fewer at.faults; lent = balanced-none at.tree }
+-- STOPPING. What was written before stays so
+abbrev pub WritesMore : (State → Redirected) → Type 0
+WritesMore does = (state : State) (path : Components) → IsOneOf state.world.written path → IsOneOf (wrote_by does state) path
 
-pub breaks-tree : (shell : Shell) (session : Session) (tree tree' : TreeState) (seen : Seen) (input output errors count count' : ℕ) → Balanced tree tree' → count ≤ count'
-    → Breaks (point_of shell session tree seen (faults_of input output errors count)) (point_of shell session tree' seen (faults_of input output errors count'))
-breaks-tree shell session tree tree' seen input output errors count count' lent later =
-    record { taken = refl; turns = omega arith; later = record { input = omega arith; output = omega arith; errors = omega arith; tree = later }; lent = lent }
+breaks-none : (does : State → Redirected) (at : Point) → WritesMore does → Breaks (wrote_by does) at at
+breaks-none does at more = record { kept = λ base state has. only-within (more state) has.kept; taken = refl; turns = omega arith; later = no-fewer at.faults; lent = balanced-none at.tree }
+
+breaks-by : (does : State → Redirected) (shell : Shell) (session : Session) (tree tree' : TreeState) (seen : Seen) (input output errors count count' : ℕ)
+    → ((base : Base) (state : State) → Has base (point_of shell session tree seen (faults_of input output errors count)) state → ChangesOnly (wrote_by does state) (Some base.files) tree'.held) → Balanced tree tree' → count ≤ count'
+    → Breaks (wrote_by does) (point_of shell session tree seen (faults_of input output errors count)) (point_of shell session tree' seen (faults_of input output errors count'))
+breaks-by does shell session tree tree' seen input output errors count count' kept lent later =
+    record { kept = kept; taken = refl; turns = omega arith; later = record { input = omega arith; output = omega arith; errors = omega arith; tree = later }; lent = lent }
+
+-- the files are as they were
+pub breaks-tree : (does : State → Redirected) (shell : Shell) (session : Session) (tree tree' : TreeState) (seen : Seen) (input output errors count count' : ℕ) → WritesMore does → tree'.held ≡ tree.held → Balanced tree tree' → count ≤ count'
+    → Breaks (wrote_by does) (point_of shell session tree seen (faults_of input output errors count)) (point_of shell session tree' seen (faults_of input output errors count'))
+breaks-tree does shell session tree tree' seen input output errors count count' more same lent later =
+    breaks-by does shell session tree tree' seen input output errors count count' (λ base state has. only-more (only-within (more state) has.kept) (only-same same)) lent later
+
+-- but for one, which it begins
+pub breaks-begun : (number : ℕ) (anew : Bool) (path : Components) (shell : Shell) (session : Session) (tree tree' : TreeState) (seen : Seen) (input output errors count count' : ℕ)
+    → ChangesOnly (path ∷ []) tree.held tree'.held → Balanced tree tree' → count ≤ count'
+    → Breaks (wrote_by (λ state. leading number (to.File path) (in_world (file_begun anew path) state))) (point_of shell session tree seen (faults_of input output errors count))
+    (point_of shell session tree' seen (faults_of input output errors count'))
+breaks-begun number anew path shell session tree tree' seen input output errors count count' only lent later =
+    breaks-by (λ state. leading number (to.File path) (in_world (file_begun anew path) state)) shell session tree tree' seen input output errors count count'
+    (λ base state has. kept-step (Some base.files) tree.held state.world.written path tree'.held has.kept only) lent later
+
+pub reading-more : (text : List ℕ) (place : Place) → WritesMore (reading_at text place)
+reading-more text place state = wrote-more (reading_at text place state) state (grows-reading text place state)
+
+pub reads-more : (text : List ℕ) → WritesMore (λ state. reading_at text (named_by state text) state)
+reads-more text state = reading-more text (named_by state text) state
+
+pub writes-more : (anew : Bool) (number : ℕ) (text : List ℕ) → WritesMore (λ state. writing_at anew number text (named_by state text) state)
+writes-more anew number text state = wrote-more (writing_at anew number text (named_by state text) state) state (grows-writing anew number text (named_by state text) state)
+
+more-stopped : (does : State → Redirected) (wanted : List ℕ) → ((state : State) → does state ≡ stopped wanted) → WritesMore does
+more-stopped does wanted same state path one = subst (λ (it : Redirected). IsOneOf (left_off it state).world.written path) (sym (same state)) one
 
 pub stops-line : (does : State → Redirected) (why : Stop) (wanted : List ℕ) (old : Point) → TellsLine why wanted → ((state : State) → does state ≡ stopped wanted) → Does does old old (Err why)
 stops-line does (stop.Line line) wanted old told same = record { at = λ base state has. same state ∙ ap stopped (sym told); same = refl }
 stops-line does stop.Tree wanted old told same = absurd told
-stops-line does stop.Memory wanted old told same = breaks-none old
+stops-line does stop.Memory wanted old told same = breaks-none does old (more-stopped does wanted same)
 
-stops-by : (does : State → Redirected) (old new : Point) (why : WorldErr) → Breaks old new → (why ≡ error.Failed → Rose old.faults.tree new.faults.tree) → Does does old new (Err (of_tree why))
+stops-by : (does : State → Redirected) (old new : Point) (why : WorldErr) → Breaks (wrote_by does) old new → (why ≡ error.Failed → Rose old.faults.tree new.faults.tree) → Does does old new (Err (of_tree why))
 stops-by does old new error.Failed breaks failed = (breaks, failed refl)
 stops-by does old new error.Memory breaks failed = breaks
 
-pub stops-tree : (does : State → Redirected) (old new : Point) (why : WorldErr) (told : Stop) → told ≡ of_tree why → Breaks old new → (why ≡ error.Failed → Rose old.faults.tree new.faults.tree)
+pub stops-tree : (does : State → Redirected) (old new : Point) (why : WorldErr) (told : Stop) → told ≡ of_tree why → Breaks (wrote_by does) old new → (why ≡ error.Failed → Rose old.faults.tree new.faults.tree)
     → Does does old new (Err told)
 stops-tree does old new why told is breaks failed = subst (λ (it : Stop). Does does old new (Err it)) (sym is) (stops-by does old new why breaks failed)
 
@@ -202,6 +239,21 @@ at-place by here found old new result is done = subst (λ (it : Place). Does (by
 
 pub line-at : (by : Place → State → Redirected) (here found : Place) (why : Stop) (wanted : List ℕ) (old : Point) → here ≡ found → TellsLine why wanted → ((state : State) → by found state ≡ stopped wanted) → Does (by here) old old (Err why)
 line-at by here found why wanted old is told same = at-place by here found old old (Err why) is (stops-line (by found) why wanted old told same)
+
+-- what is the same redirection writes the same
+breaks-so : (does other : State → Redirected) (old new : Point) → ((base : Base) (state : State) → Has base old state → other state ≡ does state) → Breaks (wrote_by does) old new → Breaks (wrote_by other) old new
+breaks-so does other old new same breaks =
+    record {
+      kept = λ base state has. subst (λ (it : Redirected). ChangesOnly (left_off it state).world.written (Some base.files) new.tree.held) (sym (same base state has)) (breaks.kept base state has);
+      taken = breaks.taken;
+      turns = breaks.turns;
+      later = breaks.later;
+      lent = breaks.lent;
+    }
+
+how-so : (target : Target) (here : How) (does : State → Redirected) → target.how ≡ here → ((state : State) → does state ≡ redirected target here (named_by state target.text) state)
+    → (state : State) → redirected target target.how (named_by state target.text) state ≡ does state
+how-so target here does is same state = ap (λ (it : How). redirected target it (named_by state target.text) state) is ∙ sym (same state)
 
 pub at-how : (target : Target) (here : How) (does : State → Redirected) (old new : Point) (result : Result (Option From) Stop) → target.how ≡ here → ((state : State) → does state ≡ redirected target here (named_by state target.text) state)
     → Does does old new result → Does (λ state. redirected target target.how (named_by state target.text) state) old new result
@@ -214,8 +266,10 @@ at-how target here does old new (Ok value) is same done =
     }
 at-how target here does old new (Err (stop.Line line)) is same done =
     record { at = λ base state has. ap (λ (it : How). redirected target it (named_by state target.text) state) is ∙ sym (same state) ∙ done.at base state has; same = done.same }
-at-how target here does old new (Err stop.Tree) is same done = done
-at-how target here does old new (Err stop.Memory) is same done = done
+at-how target here does old new (Err stop.Tree) is same done =
+    (breaks-so does (λ state. redirected target target.how (named_by state target.text) state) old new (λ base state has. how-so target here does is same state) done.0, done.1)
+at-how target here does old new (Err stop.Memory) is same done =
+    breaks-so does (λ state. redirected target target.how (named_by state target.text) state) old new (λ base state has. how-so target here does is same state) done
 
 -- a descriptor that is copied leads to what is there
 pub can-copy : (text : List ℕ) (streams : Streams) (files : Files) → Stands streams files → CanTake files (led_to text streams)
@@ -232,8 +286,8 @@ copied number text to_here shell session session' tree seen faults is session_is
     (λ base state has. ap (λ (it : To). leading number it state) (ap (λ (it : Session). led_to text it.streams) (sym has.session) ∙ sym is))
     (λ files stands. subst (CanTake files) (sym is) (can-copy text session.streams files stands)) session_is
 
-pub wants-memory : (does : State → Redirected) (at : Point) → Does does at at (Err stop.Memory)
-wants-memory does at = breaks-none at
+pub wants-memory : (does : State → Redirected) (at : Point) → WritesMore does → Does does at at (Err stop.Memory)
+wants-memory does at more = breaks-none does at more
 
 -- LOOKING UP. What a text names was looked up
 named-so : (text : List ℕ) (found : Place) (old : Point) (base : Base) (state : State) → IfSome old.tree.held (λ files. found ≡ resolve files old.tree.home text) → Has base old state → found ≡ named_by state text
@@ -252,8 +306,10 @@ does-named by text found old new (Ok value) is done =
     }
 does-named by text found old new (Err (stop.Line line)) is done =
     record { at = λ base state has. ap (λ (it : Place). by it state) (sym (named-so text found old base state is has)) ∙ done.at base state has; same = done.same }
-does-named by text found old new (Err stop.Tree) is done = done
-does-named by text found old new (Err stop.Memory) is done = done
+does-named by text found old new (Err stop.Tree) is done =
+    (breaks-so (by found) (λ state. by (named_by state text) state) old new (λ base state has. ap (λ (it : Place). by it state) (sym (named-so text found old base state is has))) done.0, done.1)
+does-named by text found old new (Err stop.Memory) is done =
+    breaks-so (by found) (λ state. by (named_by state text) state) old new (λ base state has. ap (λ (it : Place). by it state) (sym (named-so text found old base state is has))) done
 
 pub does-looked : (by : Place → State → Redirected) (text : List ℕ) (found : Place) (shell : Shell) (session : Session) (tree mid : TreeState) (seen : Seen) (input output errors count count_mid : ℕ) (new : Point) (result : Result (Option From) Stop)
     → IfSome tree.held (λ files. found ≡ resolve files tree.home text) → mid ≡ tree → count_mid ≡ count → Does (by found) (point_of shell session mid seen (faults_of input output errors count_mid)) new result

@@ -1,8 +1,8 @@
 -- What is run over its inputs is evaluated.
-use Rattle.std.proofs.Common.{◌≡◌, ◌≤◌, ℕ, List, [], ◌∷◌, ◌++◌, Bool, true, false, ◌&&◌, inl, Option, Some, None, IfSome, refl, sym, ap, ◌∙◌, subst, append_assoc, arith, if◌then◌else◌}
+use Rattle.std.proofs.Common.{◌≡◌, ◌≤◌, ℕ, List, [], ◌∷◌, ◌++◌, Bool, true, false, ◌&&◌, inl, inr, Option, Some, None, IfSome, refl, sym, ap, ◌∙◌, subst, append_assoc, arith, if◌then◌else◌}
 use Rattle.std.proofs.lemmas.Bool.{true≢false}
 use Rattle.std.specs.Option.{option_map, unwrap_or}
-use Rattle.ps_world.specs.Files.{Files, NoWriterOut}
+use Rattle.ps_world.specs.Files.{Files, IsOneOf, NoWriterOut}
 use Rattle.ps_world.specs.Paths.{Components}
 use Rattle.ps_world.specs.Told.{then_bytes, GrewByPrefix}
 use Rattle.ps_world.specs.TreeState.{TreeState}
@@ -14,9 +14,10 @@ use Rattle.fl_segments.specs.declared.stages.First.{First}
 use Rattle.fl_segments.proofs.NotedLemmas.{used-append}
 use Rattle.fl_commands.specs.Runs as runs
 use Rattle.fl_commands.specs.Runs.{Asks, Runs, counts_of, left_behind}
-use Rattle.fl_commands.specs.Writers.{AreFilesAt, AreFilled, filled}
+use Rattle.fl_commands.specs.Writers.{AreFilesAt, AreFilled, ChangesOnly, filled}
 use Rattle.fl_commands.specs.declared.runs.Ended.{Ended}
 use Rattle.fl_commands.specs.declared.runs.Ended.TheVariants as ended
+use Rattle.fl_commands.proofs.WriterLemmas.{only-more, only-same, only-within}
 use Rattle.sh_eval.specs.declared.flows.Flow.TheVariants as flow
 use Rattle.sh_eval.specs.declared.outcomes.How.{How}
 use Rattle.sh_eval.specs.declared.outcomes.How.TheVariants as how
@@ -36,7 +37,8 @@ use Rattle.sh_eval.specs.States.{State, in_world, leaves, leaving, left_in, on, 
 use Rattle.sh_eval.specs.Teeing.{spreads, writes}
 use Rattle.sh_eval.specs.Utilities.{notes, taken_in}
 use Rattle.sh_eval.specs.Writing.{added_to}
-use Rattle.sh_eval.proofs.Growing.{adds-takes}
+use Rattle.sh_eval.proofs.Growing.{adds-takes, grows-self, grows-writes}
+use Rattle.sh_eval.proofs.KeptLemmas.{kept-more, kept-step, only-added}
 use Rattle.sh_eval.proofs.Steps.{behind-told, followed, held-none, meant-at, sound-behind}
 use Rattle.sh_eval.proofs.WritingLemmas.{stay-filled}
 
@@ -74,6 +76,7 @@ module _ (base : Base) (shell : Shell) (session : Session) (tree : TreeState) (l
         session = session_is ∙ ap (λ (it : From). reading it state.session) (sym is);
         home = home ∙ has.home;
         held = held ∙ has.held;
+        kept = only-more has.kept (only-same held);
         seen = λ i. seen_of (drawn_of ((left_is ∙ ap (option_map (λ _. [])) left-is) i) (used-is i)) (taken-is i) (errors-is i);
       }
   takes-so session' tree' left' faults' true (from.Kept text) is home held session_is left_is =
@@ -82,6 +85,7 @@ module _ (base : Base) (shell : Shell) (session : Session) (tree : TreeState) (l
         session = session_is;
         home = home ∙ has.home;
         held = held ∙ has.held;
+        kept = only-more has.kept (only-same held);
         seen = λ i. seen_of (drawn_of ((left_is ∙ left-is) i) (used-is i)) (taken-is i) (errors-is i);
       }
   takes-so session' tree' left' faults' false place is home held session_is left_is =
@@ -90,6 +94,7 @@ module _ (base : Base) (shell : Shell) (session : Session) (tree : TreeState) (l
         session = session_is;
         home = home ∙ has.home;
         held = held ∙ has.held;
+        kept = only-more has.kept (only-same held);
         seen = λ i. seen_of (drawn_of ((left_is ∙ left-is) i) (used-is i)) (taken-is i) (errors-is i);
       }
 
@@ -102,6 +107,7 @@ module _ (base : Base) (shell : Shell) (session : Session) (tree : TreeState) (l
         session = has.session;
         home = has.home;
         held = has.held;
+        kept = has.kept;
         seen = λ i. seen_of (drawn_of (left-is i) ((used_is ∙ ap (λ (it : Option Log). then_ran it ran) used-is ∙ then-more base.used state.world.ran ran) i)) (taken-is i) (errors-is i);
       }
 
@@ -114,6 +120,7 @@ module _ (base : Base) (shell : Shell) (session : Session) (tree : TreeState) (l
         session = has.session;
         home = has.home;
         held = has.held;
+        kept = has.kept;
         seen = has.seen;
       }
 
@@ -126,6 +133,7 @@ module _ (base : Base) (shell : Shell) (session : Session) (tree : TreeState) (l
         session = has.session;
         home = has.home;
         held = has.held;
+        kept = has.kept;
         seen = λ i. seen_of (drawn_of (left-is i) (used-is i)) ((is ∙ ap (λ (it : Option (List ℕ)). then_bytes it bytes) taken-is ∙ then_bytes-append base.taken state.world.output bytes) i) (errors-is i);
       }
 
@@ -149,6 +157,14 @@ module _ (does : Does) where
 
   pub nothing-written : (state : State) → ((takes_in does state).world.output ≡ state.world.output) × ((takes_in does state).world.errors ≡ state.world.errors)
   nothing-written state = written-same does.reads state.session.streams.from state
+
+  written-still : (reads : Bool) (place : From) (state : State) → (if reads then leaving place [] state else state).world.written ≡ state.world.written
+  written-still true from.Standard state = refl
+  written-still true (from.Kept text) state = refl
+  written-still false place state = refl
+
+  none-written : (state : State) → (takes_in does state).world.written ≡ state.world.written
+  none-written state = written-still does.reads state.session.streams.from state
 
   abbrev pub meant_by : List Components → Meaning
   meant_by files expansions state = takes files does state
@@ -275,17 +291,35 @@ whole-filled paths held held' are whole = subst (λ (it : Option Files). IfSome 
     by_held (Some files) whole = whole-all paths are.texts files whole
 
 -- what is written to files is theirs alone
-behind-writes : (files : List Components) (text : List ℕ) (base : Base) (seen : Seen) (state : State) → IsBehind base seen state.world → IsBehind base seen (writes files text state).world
-behind-writes [] text base seen state behind = behind
-behind-writes (path ∷ files) text base seen state behind = behind-writes files text base seen (write (to.File path) text state) (record { output = behind.output; errors = behind.errors })
+behind-writes : (files : List Components) (text : List ℕ) (base : Base) (held : Option Files) (seen : Seen) (state : State) → IsBehind base held seen state.world → IsBehind base held seen (writes files text state).world
+behind-writes [] text base held seen state behind = behind
+behind-writes (path ∷ files) text base held seen state behind =
+    behind-writes files text base held seen (write (to.File path) text state) (record { kept = only-within (λ at one. inr one) behind.kept; output = behind.output; errors = behind.errors })
+
+-- and they are written then
+files-written : (files : List Components) (text : List ℕ) (state : State) (at : Components) → IsOneOf files at → IsOneOf (writes files text state).world.written at
+files-written [] text state at one = absurd one
+files-written (path ∷ files) text state at one =
+    elim one [
+      | inl same ↦ (grows-writes (write (to.File path) text state) files text (write (to.File path) text state) (grows-self (write (to.File path) text state))).written at (inl same)
+      | inr others ↦ files-written files text (write (to.File path) text state) at others
+    ]
 
 files-so : (files : List Components) (text : List ℕ) (base : Base) (shell : Shell) (session : Session) (tree tree' : TreeState) (seen : Seen) (faults : Faults) (state : State) → Has base (point_of shell session tree seen faults) state
     → tree'.home ≡ tree.home → tree'.held ≡ Some (given_all files text state.world.files) → Has base (point_of shell session tree' seen faults) (writes files text state)
 files-so [] text base shell session tree tree' seen faults state has home held =
-    record { shell = has.shell; session = has.session; home = home ∙ has.home; held = held; seen = has.seen }
+    record { shell = has.shell; session = has.session; home = home ∙ has.home; held = held; kept = only-more has.kept (only-same (held ∙ sym has.held)); seen = has.seen }
 files-so (path ∷ files) text base shell session tree tree' seen faults state has home held =
     files-so files text base shell session (record { home = tree.home; held = Some (added_to path text state.world.files); lent = tree.lent; back = tree.back }) tree' seen faults (write (to.File path) text state)
-    (record { shell = has.shell; session = has.session; home = has.home; held = refl; seen = has.seen }) home held
+    (record {
+      shell = has.shell;
+      session = has.session;
+      home = has.home;
+      held = refl;
+      kept = kept-step (Some base.files) tree.held state.world.written path (Some (added_to path text state.world.files)) has.kept
+          (only-added path text tree.held (Some (added_to path text state.world.files)) (sym (ap (option_map (added_to path text)) has.held)));
+      seen = has.seen;
+    }) home held
 
 -- what holds where a run has come to its end
 of-done : (came : Ended) (P : Type 0) → IsGone (how_ended came) → runs.IfDone came (λ status. P) → P
@@ -312,6 +346,7 @@ module _ (asks : Asks) (status : ℕ) (tree tree' : TreeState) (left left' taken
         filled = ran.filled;
         part = ran.part;
         held = ran.held;
+        kept = ran.kept;
         lent = ran.lent;
         later = ran.later;
         cause = ran.cause;
@@ -328,6 +363,7 @@ module _ (asks : Asks) (status : ℕ) (tree tree' : TreeState) (left left' taken
         filled = ran.filled;
         part = ran.part;
         held = ran.held;
+        kept = ran.kept;
         lent = ran.lent;
         later = ran.later;
         cause = ran.cause;
@@ -354,17 +390,27 @@ module _ (asks : First → Asks) (reads : Bool) (does : Does) (first : First) (s
   meant-so : (base : Base) (state : State) → Has base old-point state → IsMeant (asks first) reads does state
   meant-so base state has = meant-here asks reads does first shell session session' tree tree' left left' used used' taken errors (all_counts old of_errors) (all_counts new of_errors) meant stream base state has
 
+  -- nothing else is changed than these files
+  kept-so : (base : Base) (state : State) → Has base old-point state → ChangesOnly (takes files does state).state.world.written (Some base.files) tree'.held
+  kept-so base state has =
+      kept-more (Some base.files) tree.held state.world.written (takes files does state).state.world.written files tree'.held
+      (adds-takes files does state).written (files-written files (does.written state) (puts (does.written state) (takes_in does state))) has.kept
+      (subst (λ (it : List Components). ChangesOnly it tree.held tree'.held) own ran.kept)
+
   -- a front of the output is written, in the place of which this many bytes are meant
-  behind-so : (base : Base) (state : State) → Has base old-point state → session.streams.to ≡ to.Output → IsBehind base (seen_of (drawn_of left' used') taken' errors) (takes files does state).state.world
+  behind-so : (base : Base) (state : State) → Has base old-point state → session.streams.to ≡ to.Output → IsBehind base tree'.held (seen_of (drawn_of left' used') taken' errors) (takes files does state).state.world
   behind-so base state has leads =
-      behind-writes files (does.written state) base (seen_of (drawn_of left' used') taken' errors) (puts (does.written state) (takes_in does state))
-      (subst (λ (it : To). IsBehind base (seen_of (drawn_of left' used') taken' errors) (write it (does.written state) (takes_in does state)).world)
+      let behind : IsBehind base tree.held (seen_of (drawn_of left' used') taken' errors) (takes files does state).state.world =
+      behind-writes files (does.written state) base tree.held (seen_of (drawn_of left' used') taken' errors) (puts (does.written state) (takes_in does state))
+      (subst (λ (it : To). IsBehind base tree.held (seen_of (drawn_of left' used') taken' errors) (write it (does.written state) (takes_in does state)).world)
       (sym (to-is does state ∙ sym (ap (λ (it : Session). it.streams.to) has.session) ∙ leads))
       (record {
+        kept = subst (λ (it : List Components). ChangesOnly it (Some base.files) tree.held) (sym (none-written does state)) has.kept;
         output = subst (λ (it : List ℕ). GrewByPrefix base.taken taken' (it ++ does.written state)) (sym (nothing-written does state).0)
             (grew_by_more base.taken taken taken' state.world.output (does.written state) (ap (λ (it : Seen). it.taken) has.seen) part);
         errors = subst (λ (it : List ℕ). GrewByPrefix base.errors errors it) (sym (nothing-written does state).1) (grew_by_whole base.errors errors state.world.errors (ap (λ (it : Seen). it.errors) has.seen));
-      }))
+      })) in
+      record { kept = kept-so base state has; output = behind.output; errors = behind.errors }
     where
       part : GrewByPrefix taken taken' (does.written state)
       part = subst (λ (it : List ℕ). GrewByPrefix taken taken' it) (meant-so base state has).output (ran.part state.world.input state.world.files has.held (ap (λ (it : Seen). it.drawn.left) has.seen))
@@ -429,11 +475,11 @@ module _ (asks : First → Asks) (reads : Bool) (does : Does) (first : First) (s
   kept-new = point_of shell' session' tree' (seen_of (drawn_of left' used') taken errors) (faults_of input' of_output of_errors of_tree')
 
   -- what is there is a front of all that is meant
-  kept-behind : (base : Base) (state : State) → Has base kept-old state → IsBehind base (seen_of (drawn_of left' used') taken errors) (takes files does state).state.world
+  kept-behind : (base : Base) (state : State) → Has base kept-old state → IsBehind base tree'.held (seen_of (drawn_of left' used') taken errors) (takes files does state).state.world
   kept-behind base state has =
-      let behind : IsBehind base (seen_of (drawn_of left used) taken errors) (takes files does state).state.world =
-      behind-told base (seen_of (drawn_of left used) taken errors) state (takes files does state).state has.seen (adds-takes files does state) in
-      record { output = behind.output; errors = behind.errors }
+      let behind : IsBehind base tree.held (seen_of (drawn_of left used) taken errors) (takes files does state).state.world =
+      behind-told base kept-old state (takes files does state).state has (adds-takes files does state) in
+      record { kept = only-more behind.kept (only-same (ran.held none)); output = behind.output; errors = behind.errors }
 
   -- where the run has come to its end
   abbrev kept_by : Meaning

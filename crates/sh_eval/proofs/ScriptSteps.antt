@@ -14,10 +14,12 @@ use Rattle.sh_eval.specs.declared.outcomes.How.{How}
 use Rattle.sh_eval.specs.declared.outcomes.How.TheVariants as how
 use Rattle.sh_eval.specs.declared.session.Session.{Session}
 use Rattle.sh_eval.specs.declared.shell.Shell.{Shell}
+use Rattle.fl_commands.specs.Writers.{ChangesOnly}
+use Rattle.fl_commands.proofs.WriterLemmas.{only-same}
 use Rattle.fl_engines.specs.Logs.{Log, at_width, log_of}
 use Rattle.fl_segments.specs.Noted.{Noted, used_at}
 use Rattle.sh_eval.specs.States.{Ends}
-use Rattle.sh_eval.specs.Contract.{Seen, drawn_of, then_ran, Faults, Point, point_of, seen_of, Has, Comes, Stands, IsSound, Meaning, Evaluates}
+use Rattle.sh_eval.specs.Contract.{Base, Seen, drawn_of, then_ran, Faults, Point, point_of, seen_of, Has, Comes, Stands, IsSound, Meaning, Evaluates}
 use Rattle.sh_eval.specs.Meaning.{begun, begun_session, list_means, script_means}
 use Rattle.sh_eval.specs.Scripts.{Leaves, ran_at}
 use Rattle.sh_eval.specs.Table.{pages}
@@ -28,22 +30,23 @@ ran-none None = refl
 ran-none (Some log) = ap (λ words. Some (log_of log.width words)) (sym (append-nil log.words))
 
 begun-has : (shell : Shell) (tree : TreeState) (seen : Seen) (faults : Faults) (files : Files) (text : List ℕ) → tree.held ≡ Some files → seen.drawn.left ≡ Some text
-    → Has (record { used = seen.drawn.used; taken = seen.taken; errors = seen.errors }) (point_of shell begun_session tree seen faults) (begun shell tree.home files text)
+    → Has (record { files = files; used = seen.drawn.used; taken = seen.taken; errors = seen.errors }) (point_of shell begun_session tree seen faults) (begun shell tree.home files text)
 begun-has shell tree seen faults files text held left =
     record {
       shell = refl;
       session = refl;
       home = refl;
       held = held;
+      kept = only-same held;
       seen = ap (λ (it : Option (List ℕ)). seen_of (drawn_of it seen.drawn.used) seen.taken seen.errors) left
           ∙ ap (λ (it : Option Log). seen_of (drawn_of (Some text) it) seen.taken seen.errors) (ran-none seen.drawn.used)
           ∙ ap (λ (it : Option (List ℕ)). seen_of (drawn_of (Some text) (then_ran seen.drawn.used [])) it seen.errors) (sym (then_bytes-nil seen.taken))
           ∙ ap (seen_of (drawn_of (Some text) (then_ran seen.drawn.used [])) (then_bytes seen.taken [])) (sym (then_bytes-nil seen.errors));
     }
 
-leaves-so : (old : Seen) (came : How) (at : Point) (meant : Ends) → Comes (record { used = old.drawn.used; taken = old.taken; errors = old.errors }) came at meant
+leaves-so : (old : Seen) (files : Files) (came : How) (at : Point) (meant : Ends) → Comes (record { files = files; used = old.drawn.used; taken = old.taken; errors = old.errors }) came at meant
     → Leaves (then_ran old.drawn.used) old came at.shell at.tree at.seen meant
-leaves-so old (how.Gone it) at meant ended =
+leaves-so old files (how.Gone it) at meant ended =
     record {
       flow = ended.flow;
       shell = ended.has.shell;
@@ -53,10 +56,10 @@ leaves-so old (how.Gone it) at meant ended =
       output = ap (λ (it : Seen). it.taken) ended.has.seen;
       errors = ap (λ (it : Seen). it.errors) ended.has.seen;
     }
-leaves-so old how.ReadFault at meant behind = record { output = behind.output; errors = behind.errors }
-leaves-so old how.WriteFault at meant behind = record { output = behind.output; errors = behind.errors }
-leaves-so old how.TreeFault at meant behind = record { output = behind.output; errors = behind.errors }
-leaves-so old how.Memory at meant behind = record { output = behind.output; errors = behind.errors }
+leaves-so old files how.ReadFault at meant behind = record { output = behind.output; errors = behind.errors }
+leaves-so old files how.WriteFault at meant behind = record { output = behind.output; errors = behind.errors }
+leaves-so old files how.TreeFault at meant behind = record { output = behind.output; errors = behind.errors }
+leaves-so old files how.Memory at meant behind = record { output = behind.output; errors = behind.errors }
 
 -- a script that was evaluated leaves what it means
 pub script-leaves : (means : Meaning) (shell : Shell) (session : Session) (tree : TreeState) (seen : Seen) (faults : Faults) (came : How) (new : Point) → session ≡ begun_session
@@ -71,8 +74,33 @@ script-leaves means shell session tree seen faults came new is found expansions 
     by_told (Some files) None held_is left_is = tt
     by_told (Some files) (Some text) held_is left_is =
         let one = subst (λ (it : Session). Evaluates means (point_of shell it tree seen faults) came new) is found in
-        leaves-so seen came new (means expansions (begun shell tree.home files text))
-        (one.comes expansions are (record { used = seen.drawn.used; taken = seen.taken; errors = seen.errors }) (begun shell tree.home files text) (begun-has shell tree seen faults files text held_is left_is))
+        leaves-so seen files came new (means expansions (begun shell tree.home files text))
+        (one.comes expansions are (record { files = files; used = seen.drawn.used; taken = seen.taken; errors = seen.errors }) (begun shell tree.home files text) (begun-has shell tree seen faults files text held_is left_is))
+
+-- and nothing else is changed than what it writes
+kept-so : (base : Base) (came : How) (at : Point) (meant : Ends) → Comes base came at meant → ChangesOnly meant.state.world.written (Some base.files) at.tree.held
+kept-so base (how.Gone it) at meant ended = ended.has.kept
+kept-so base how.ReadFault at meant behind = behind.kept
+kept-so base how.WriteFault at meant behind = behind.kept
+kept-so base how.TreeFault at meant behind = behind.kept
+kept-so base how.Memory at meant behind = behind.kept
+
+pub script-kept : (means : Meaning) (shell : Shell) (session : Session) (tree : TreeState) (seen : Seen) (faults : Faults) (came : How) (new : Point) → session ≡ begun_session
+    → Evaluates means (point_of shell session tree seen faults) came new
+    → (expansions : Expansions) → AreExpansions expansions → IfSome tree.held (λ files. IfSome seen.drawn.left (λ text.
+    ChangesOnly (means expansions (begun shell tree.home files text)).state.world.written tree.held new.tree.held))
+script-kept means shell session tree seen faults came new is found expansions are = by_told tree.held seen.drawn.left refl refl
+  where
+    by_told : (held : Option Files) (left : Option (List ℕ)) → tree.held ≡ held → seen.drawn.left ≡ left
+        → IfSome held (λ files. IfSome left (λ text. ChangesOnly (means expansions (begun shell tree.home files text)).state.world.written tree.held new.tree.held))
+    by_told None left held_is left_is = tt
+    by_told (Some files) None held_is left_is = tt
+    by_told (Some files) (Some text) held_is left_is =
+        let one = subst (λ (it : Session). Evaluates means (point_of shell it tree seen faults) came new) is found in
+        subst (λ (it : Option Files). ChangesOnly (means expansions (begun shell tree.home files text)).state.world.written it new.tree.held) (sym held_is)
+        (kept-so (record { files = files; used = seen.drawn.used; taken = seen.taken; errors = seen.errors }) came new (means expansions (begun shell tree.home files text))
+        (one.comes expansions are (record { files = files; used = seen.drawn.used; taken = seen.taken; errors = seen.errors }) (begun shell tree.home files text)
+        (begun-has shell tree seen faults files text held_is left_is)))
 
 -- AT A WIDTH: the engine spreads graphs so while the script runs, and as before behind it
 ran-spread : (width before : ℕ) (used : Option Log) (ran : List Noted) → IfSome used (λ log. before ≡ log.width)

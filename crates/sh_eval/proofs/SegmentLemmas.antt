@@ -36,7 +36,7 @@ module _ (one other : State) (files : one.world.files ≡ other.world.files) (ho
       record {
         shell = one.shell;
         session = reading (from.Kept text) one.session;
-        world = record { home = home; files = files; input = []; output = []; errors = []; ran = [] };
+        world = record { home = home; files = files; written = []; input = []; output = []; errors = []; ran = [] };
       }
 
   module _ (same : to_read one ≡ to_read other) (deals : Bool) (name : List ℕ) where

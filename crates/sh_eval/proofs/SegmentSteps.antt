@@ -105,7 +105,7 @@ emptied-so shell session session' tree seen faults is =
     record {
       comes = λ expansions are base state has. record {
         flow = refl;
-        has = record { shell = has.shell; session = is ∙ ap no_pipe has.session; home = has.home; held = has.held; seen = has.seen };
+        has = record { shell = has.shell; session = is ∙ ap no_pipe has.session; home = has.home; held = has.held; kept = has.kept; seen = has.seen };
       };
       keeps = λ gone. record { whole = λ held. held; files = held-none tree.held; output = ap (λ (it : Session). it.streams.to) is; errors = ap (λ (it : Session). it.streams.errors_to) is };
       turns = rw is (omega arith);
@@ -131,7 +131,7 @@ module _ (all : List Member) (lines : List ℕ) where
   all_means expansions state = emptied (runs_through pages (calls_of all) state)
 
   then-adds : (expansions : Expansions) → Adds (takes_then expansions)
-  then-adds expansions state = let grows = adds-takes [] (pipeline_does (calls_of all)) state in record { output = grows.output; errors = grows.errors; turns = grows.turns }
+  then-adds expansions state = let grows = adds-takes [] (pipeline_does (calls_of all)) state in record { output = grows.output; errors = grows.errors; written = grows.written; turns = grows.turns }
 
   module _ (old : Point) (told : AreTold all lines old.tree) where
     same : (expansions : Expansions) (base : Base) (state : State) → Has base old state → all_means expansions state ≡ after (tells_lines expansions state) (takes_then expansions)

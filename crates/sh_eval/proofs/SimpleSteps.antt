@@ -305,6 +305,7 @@ undone-behind is_special assigns means saved shell mid shell' session session' t
             session = ended.has.session;
             home = ended.has.home;
             held = ended.has.held;
+            kept = ended.has.kept;
             seen = ended.has.seen;
           };
         }

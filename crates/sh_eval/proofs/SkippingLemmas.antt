@@ -22,8 +22,10 @@ use Rattle.sh_eval.specs.Contract.{Seen, Faults, Point, point_of, Meaning, Evalu
 use Rattle.sh_eval.specs.Ending.{how_behind, status_behind}
 use Rattle.sh_eval.specs.Leading.{before_in, put_back}
 use Rattle.sh_eval.specs.Redirecting.{Breaks}
-use Rattle.sh_eval.specs.Reaching.{DoesAll, RemembersSome, Skips, has_read}
+use Rattle.sh_eval.specs.Reaching.{DoesAll, RemembersSome, Skips, has_read, written_by}
+use Rattle.fl_commands.proofs.WriterLemmas.{only-within}
 use Rattle.sh_eval.proofs.EndingLemmas.{ended, blamed}
+use Rattle.sh_eval.proofs.Growing.{adds-in_redirections, written-on}
 use Rattle.sh_eval.proofs.RedirectionLoops.{around-back, put-back}
 
 pub skips-line : (why : Stop) (way : Flow) (line told : List ℕ) (shell shell' : Shell) (session session' : Session) (tree tree' : TreeState) (seen seen' : Seen) (faults faults' : Faults) (came came' : How) → why ≡ stop.Line line → told ≡ line
@@ -58,7 +60,7 @@ led-back-some targets streams now first before last session begun some still bac
 
 -- the command in its redirections, where one of them stopped
 pub around-stopped : (why : Stop) (way : Flow) (target : Target) (targets : List Target) (next : Meaning) (old mid last : Point) (came : How) (first before : Before) (session : Session)
-    → ((expansions : Expansions) → Adds (in_redirections way (target ∷ targets) (next expansions))) → first ≡ before_in old.session.streams
+    → ((expansions : Expansions) → Adds (next expansions)) → first ≡ before_in old.session.streams
     → RemembersSome (target ∷ targets) old.session.streams.from mid.session.streams.from first before → DoesAll (target ∷ targets) old mid (Err why) → Skips why way mid came last
     → last.session.streams ≡ mid.session.streams → session ≡ in_streams (put_back before) last.session
     → Evaluates (λ expansions. in_redirections way (target ∷ targets) (next expansions)) old came (point_of last.shell session last.tree last.seen last.faults)
@@ -66,16 +68,20 @@ around-stopped (stop.Line line) way target targets next old mid last came first 
     around-back way target targets (λ way next. skipped way line) next old mid last came session does skips
     (led-back-some (target ∷ targets) old.session.streams mid.session.streams.from first before last.session session begun some (ap (λ (it : Streams). it.from) streams) back)
 around-stopped stop.Tree way target targets next old mid last came first before session adds begun some does skips streams back =
-    let breaks : Breaks old last = subst (Breaks old) (sym skips.1) does.0 in
+    let breaks : Breaks (written_by (target ∷ targets)) old last = subst (Breaks (written_by (target ∷ targets)) old) (sym skips.1) does.0 in
     let turns = breaks.turns in
     subst (λ (it : How). Evaluates (λ expansions. in_redirections way (target ∷ targets) (next expansions)) old it (point_of last.shell session last.tree last.seen last.faults)) (sym skips.0)
-    (blamed (λ expansions. in_redirections way (target ∷ targets) (next expansions)) old (point_of last.shell session last.tree last.seen last.faults) how.TreeFault adds (λ gone. gone)
-    (ap (λ (it : Seen). it.taken) breaks.taken) (ap (λ (it : Seen). it.errors) breaks.taken) (subst (λ (it : Session). old.session.turns ≤ it.turns) (sym back) turns) breaks.later
+    (blamed (λ expansions. in_redirections way (target ∷ targets) (next expansions)) old (point_of last.shell session last.tree last.seen last.faults) how.TreeFault (λ expansions. adds-in_redirections way (target ∷ targets) (next expansions) (adds expansions)) (λ gone. gone)
+    (ap (λ (it : Seen). it.taken) breaks.taken) (ap (λ (it : Seen). it.errors) breaks.taken)
+    (λ expansions base state has. only-within (written-on way (target ∷ targets) (next expansions) (adds expansions) state) (breaks.kept base state has))
+    (subst (λ (it : Session). old.session.turns ≤ it.turns) (sym back) turns) breaks.later
     (subst (λ (it : Point). Rose old.faults.tree it.faults.tree) (sym skips.1) does.1) breaks.lent)
 around-stopped stop.Memory way target targets next old mid last came first before session adds begun some does skips streams back =
-    let breaks : Breaks old last = subst (Breaks old) (sym skips.1) does in
+    let breaks : Breaks (written_by (target ∷ targets)) old last = subst (Breaks (written_by (target ∷ targets)) old) (sym skips.1) does in
     let turns = breaks.turns in
     subst (λ (it : How). Evaluates (λ expansions. in_redirections way (target ∷ targets) (next expansions)) old it (point_of last.shell session last.tree last.seen last.faults)) (sym skips.0)
-    (blamed (λ expansions. in_redirections way (target ∷ targets) (next expansions)) old (point_of last.shell session last.tree last.seen last.faults) how.Memory adds (λ gone. gone)
-    (ap (λ (it : Seen). it.taken) breaks.taken) (ap (λ (it : Seen). it.errors) breaks.taken) (subst (λ (it : Session). old.session.turns ≤ it.turns) (sym back) turns) breaks.later
+    (blamed (λ expansions. in_redirections way (target ∷ targets) (next expansions)) old (point_of last.shell session last.tree last.seen last.faults) how.Memory (λ expansions. adds-in_redirections way (target ∷ targets) (next expansions) (adds expansions)) (λ gone. gone)
+    (ap (λ (it : Seen). it.taken) breaks.taken) (ap (λ (it : Seen). it.errors) breaks.taken)
+    (λ expansions base state has. only-within (written-on way (target ∷ targets) (next expansions) (adds expansions) state) (breaks.kept base state has))
+    (subst (λ (it : Session). old.session.turns ≤ it.turns) (sym back) turns) breaks.later
     tt breaks.lent)

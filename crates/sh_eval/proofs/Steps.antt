@@ -7,6 +7,7 @@ use Rattle.ps_world.specs.Files.{Files, NoWriterOut}
 use Rattle.ps_world.specs.Told.{then_bytes, GrewByPrefix}
 use Rattle.ps_world.specs.TreeState.{TreeState}
 use Rattle.ps_world.proofs.TreeStateLemmas.{balanced-none, balanced-more}
+use Rattle.fl_commands.proofs.WriterLemmas.{only-within}
 use Rattle.sh_expand.specs.Outcomes.{Expansions}
 use Rattle.sh_eval.specs.declared.flows.Flow.{Flow}
 use Rattle.sh_eval.specs.declared.flows.Flow.TheVariants as flow
@@ -37,19 +38,21 @@ front-told : (base seen : Option (List ℕ)) (text whole : List ℕ) → seen �
 front-told base seen text whole told begins =
     (drop (length text) whole, record { part = text; whole = begins-whole whole text begins; grew = told })
 
-behind-more : (base : Base) (seen : Seen) (old new : State) → Grows old new → IsBehind base seen old.world → IsBehind base seen new.world
-behind-more base seen old new grows behind =
+behind-more : (base : Base) (held : Option Files) (seen : Seen) (old new : State) → Grows old new → IsBehind base held seen old.world → IsBehind base held seen new.world
+behind-more base held seen old new grows behind =
     record {
+      kept = only-within grows.written behind.kept;
       output = front-more base.taken seen.taken old.world.output new.world.output grows.output behind.output;
       errors = front-more base.errors seen.errors old.world.errors new.world.errors grows.errors behind.errors;
     }
 
 -- where nothing more was written, what is there is a front of all that is meant
-pub behind-told : (base : Base) (seen : Seen) (old new : State) → seen ≡ told base old.world → Grows old new → IsBehind base seen new.world
-behind-told base seen old new is grows =
+pub behind-told : (base : Base) (at : Point) (old new : State) → Has base at old → Grows old new → IsBehind base at.tree.held at.seen new.world
+behind-told base at old new has grows =
     record {
-      output = front-told base.taken seen.taken old.world.output new.world.output (ap (λ (seen : Seen). seen.taken) is) grows.output;
-      errors = front-told base.errors seen.errors old.world.errors new.world.errors (ap (λ (seen : Seen). seen.errors) is) grows.errors;
+      kept = only-within grows.written has.kept;
+      output = front-told base.taken at.seen.taken old.world.output new.world.output (ap (λ (seen : Seen). seen.taken) has.seen) grows.output;
+      errors = front-told base.errors at.seen.errors old.world.errors new.world.errors (ap (λ (seen : Seen). seen.errors) has.seen) grows.errors;
     }
 
 -- counts
@@ -165,7 +168,7 @@ module _ (first : Meaning) (next : Expansions → Flow → Means) (goes : Flow �
             let ended : HasEnd base it (point_of shell session tree seen faults) (first expansions state) = one.comes expansions are base state has in
             subst (λ (came : Flow). HasEnd base (turned it) (point_of (change it shell) session tree seen faults) (next expansions came (first expansions state).state)) ended.flow
             (subst (λ (left : Ends). HasEnd base (turned it) (point_of (change it shell) session tree seen faults) left) (sym (law expansions it (first expansions state).state is))
-            (record { flow = refl; has = record { shell = ap (change it) ended.has.shell; session = ended.has.session; home = ended.has.home; held = ended.has.held; seen = ended.has.seen } }));
+            (record { flow = refl; has = record { shell = ap (change it) ended.has.shell; session = ended.has.session; home = ended.has.home; held = ended.has.held; kept = ended.has.kept; seen = ended.has.seen } }));
         keeps = λ gone. let keeps = one.keeps tt in record { whole = keeps.whole; files = keeps.files; output = keeps.output; errors = keeps.errors };
         turns = one.turns;
         later = one.later;
@@ -179,13 +182,13 @@ module _ (first : Meaning) (next : Expansions → Flow → Means) (goes : Flow �
   remade old (how.Gone it) came' shell shell' session tree seen faults is came_is shell_is one =
       rw came_is rw shell_is (ended-so old it shell session tree seen faults is one)
   remade old how.ReadFault came' shell shell' session tree seen faults is came_is shell_is one = rw came_is rw shell_is
-      (record { comes = λ expansions are base state has. behind-more base seen (first expansions state).state (then_by first next expansions state).state (grows expansions (first expansions state).flow (first expansions state).state) (one.comes expansions are base state has); keeps = λ gone. absurd gone; turns = one.turns; later = one.later; cause = one.cause; lent = one.lent })
+      (record { comes = λ expansions are base state has. behind-more base tree.held seen (first expansions state).state (then_by first next expansions state).state (grows expansions (first expansions state).flow (first expansions state).state) (one.comes expansions are base state has); keeps = λ gone. absurd gone; turns = one.turns; later = one.later; cause = one.cause; lent = one.lent })
   remade old how.WriteFault came' shell shell' session tree seen faults is came_is shell_is one = rw came_is rw shell_is
-      (record { comes = λ expansions are base state has. behind-more base seen (first expansions state).state (then_by first next expansions state).state (grows expansions (first expansions state).flow (first expansions state).state) (one.comes expansions are base state has); keeps = λ gone. absurd gone; turns = one.turns; later = one.later; cause = one.cause; lent = one.lent })
+      (record { comes = λ expansions are base state has. behind-more base tree.held seen (first expansions state).state (then_by first next expansions state).state (grows expansions (first expansions state).flow (first expansions state).state) (one.comes expansions are base state has); keeps = λ gone. absurd gone; turns = one.turns; later = one.later; cause = one.cause; lent = one.lent })
   remade old how.TreeFault came' shell shell' session tree seen faults is came_is shell_is one = rw came_is rw shell_is
-      (record { comes = λ expansions are base state has. behind-more base seen (first expansions state).state (then_by first next expansions state).state (grows expansions (first expansions state).flow (first expansions state).state) (one.comes expansions are base state has); keeps = λ gone. absurd gone; turns = one.turns; later = one.later; cause = one.cause; lent = one.lent })
+      (record { comes = λ expansions are base state has. behind-more base tree.held seen (first expansions state).state (then_by first next expansions state).state (grows expansions (first expansions state).flow (first expansions state).state) (one.comes expansions are base state has); keeps = λ gone. absurd gone; turns = one.turns; later = one.later; cause = one.cause; lent = one.lent })
   remade old how.Memory came' shell shell' session tree seen faults is came_is shell_is one = rw came_is rw shell_is
-      (record { comes = λ expansions are base state has. behind-more base seen (first expansions state).state (then_by first next expansions state).state (grows expansions (first expansions state).flow (first expansions state).state) (one.comes expansions are base state has); keeps = λ gone. absurd gone; turns = one.turns; later = one.later; cause = one.cause; lent = one.lent })
+      (record { comes = λ expansions are base state has. behind-more base tree.held seen (first expansions state).state (then_by first next expansions state).state (grows expansions (first expansions state).flow (first expansions state).state) (one.comes expansions are base state has); keeps = λ gone. absurd gone; turns = one.turns; later = one.later; cause = one.cause; lent = one.lent })
 
 -- the next command is evaluated where the first goes on to it
 only-on : (next : Means) (it : Flow) (state : State) → goes_on_by it ≡ true → followed_by next it state ≡ next state
@@ -249,7 +252,7 @@ changed it change shell shell' session tree seen faults is =
     record {
       comes = λ expansions are base state has. record {
         flow = refl;
-        has = record { shell = is ∙ ap change has.shell; session = has.session; home = has.home; held = has.held; seen = has.seen };
+        has = record { shell = is ∙ ap change has.shell; session = has.session; home = has.home; held = has.held; kept = has.kept; seen = has.seen };
       };
       keeps = λ gone. record { whole = λ held. held; files = held-none tree.held; output = refl; errors = refl };
       turns = omega arith;
@@ -265,7 +268,7 @@ changed-before means change shell inner session tree seen faults came new is fou
     let one : Evaluates means (point_of (change shell) session tree seen faults) came new = subst (λ (it : Shell). Evaluates means (point_of it session tree seen faults) came new) is found in
     record {
       comes = λ expansions are base state has. one.comes expansions are base (in_shell change state)
-          (record { shell = ap change has.shell; session = has.session; home = has.home; held = has.held; seen = has.seen });
+          (record { shell = ap change has.shell; session = has.session; home = has.home; held = has.held; kept = has.kept; seen = has.seen });
       keeps = λ gone. let keeps = one.keeps gone in record { whole = keeps.whole; files = keeps.files; output = keeps.output; errors = keeps.errors };
       turns = one.turns;
       later = one.later;
@@ -281,7 +284,7 @@ nothing at = changed flow.On (λ shell. shell) at.shell at.shell at.session at.t
 pub wanted : (means : Meaning) (at : Point) → ((expansions : Expansions) → Adds (means expansions)) → Evaluates means at how.Memory at
 wanted means at adds =
     record {
-      comes = λ expansions are base state has. behind-told base at.seen state (means expansions state).state has.seen (adds expansions state);
+      comes = λ expansions are base state has. behind-told base at state (means expansions state).state has (adds expansions state);
       keeps = λ gone. keeps-none at;
       turns = omega arith;
       later = no-fewer at.faults;
@@ -293,10 +296,10 @@ wanted means at adds =
 early-comes : (means : Meaning) → ((expansions : Expansions) → Adds (means expansions)) → (base : Base) (old : Point) (shell : Shell) (faults : Faults) (came : How) → (IsGone came → ⊥) → (expansions : Expansions) (state : State) → Has base old state
     → Comes base came (point_of shell old.session old.tree old.seen faults) (means expansions state)
 early-comes means adds base old shell faults (how.Gone it) off expansions state has = absurd (off tt)
-early-comes means adds base old shell faults how.ReadFault off expansions state has = behind-told base old.seen state (means expansions state).state has.seen (adds expansions state)
-early-comes means adds base old shell faults how.WriteFault off expansions state has = behind-told base old.seen state (means expansions state).state has.seen (adds expansions state)
-early-comes means adds base old shell faults how.TreeFault off expansions state has = behind-told base old.seen state (means expansions state).state has.seen (adds expansions state)
-early-comes means adds base old shell faults how.Memory off expansions state has = behind-told base old.seen state (means expansions state).state has.seen (adds expansions state)
+early-comes means adds base old shell faults how.ReadFault off expansions state has = behind-told base old state (means expansions state).state has (adds expansions state)
+early-comes means adds base old shell faults how.WriteFault off expansions state has = behind-told base old state (means expansions state).state has (adds expansions state)
+early-comes means adds base old shell faults how.TreeFault off expansions state has = behind-told base old state (means expansions state).state has (adds expansions state)
+early-comes means adds base old shell faults how.Memory off expansions state has = behind-told base old state (means expansions state).state has (adds expansions state)
 
 pub failed-early : (means : Meaning) → ((expansions : Expansions) → Adds (means expansions)) → (shell shell' : Shell) (session : Session) (tree : TreeState) (seen : Seen) (faults faults' : Faults) (came : How) → (IsGone came → ⊥)
     → NoFewer faults faults' → HasCause came faults faults' → Evaluates means (point_of shell session tree seen faults) came (point_of shell' session tree seen faults')

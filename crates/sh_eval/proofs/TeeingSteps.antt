@@ -15,7 +15,8 @@ use Rattle.ps_world.specs.declared.error.WorldErr.TheVariants as error
 use Rattle.ps_world.specs.declared.places.Place.{Place}
 use Rattle.ps_world.proofs.TreeStateLemmas.{balanced-more, balanced-none}
 use Rattle.ut_args.specs.Inputs.{files_by}
-use Rattle.fl_commands.specs.Writers.{AreFilesAt}
+use Rattle.fl_commands.specs.Writers.{AreFilesAt, ChangesOnly}
+use Rattle.fl_commands.proofs.WriterLemmas.{only-more, only-same, only-within}
 use Rattle.sh_expand.specs.Outcomes.{Expansions}
 use Rattle.sh_eval.specs.declared.flows.Flow.TheVariants as flow
 use Rattle.sh_eval.specs.declared.outcomes.How.{How}
@@ -34,7 +35,8 @@ use Rattle.sh_eval.specs.States.{State, Ends, Means, in_world, on, puts, write}
 use Rattle.sh_eval.specs.Teeing.{Made, begins_anew, copies, making, making_at, making_one, none_made, spreads, tees, tells_and_copies, with_file, writes}
 use Rattle.sh_eval.specs.Utilities.{Called, tells_some}
 use Rattle.sh_eval.proofs.EndingLemmas.{blamed}
-use Rattle.sh_eval.proofs.Growing.{adds-copies, adds-tees, grows-self, grows-writes}
+use Rattle.sh_eval.proofs.Growing.{adds-copies, adds-making, adds-tells_and_copies, adds-tees, grows-self, grows-writes}
+use Rattle.sh_eval.proofs.KeptLemmas.{kept-step, only-begun}
 use Rattle.sh_eval.proofs.RedirectionSteps.{file-here, stays-begun, whole-begun}
 use Rattle.sh_eval.proofs.Steps.{followed, held-none, held-more, keeps-more, nothing, sound-behind, stopped}
 use Rattle.sh_eval.proofs.WritingLemmas.{stay-filled}
@@ -48,7 +50,7 @@ on_ok (Err error) gives fact = tt
 pub begins-same : (first second : Making) (tree : TreeState) → ((next : Made → Means) (state : State) → first next state ≡ second next state) → Begins first second tree tree
 begins-same first second tree same =
     record {
-      at = λ state held home. record { files = state.world.files; told = held; same = λ next. same next state };
+      at = λ state held home. record { files = state.world.files; written = state.world.written; told = held; kept = λ begun kept. kept; same = λ next. same next state };
       whole = λ whole. whole;
       files = held-none tree.held;
       lent = balanced-none tree;
@@ -65,8 +67,8 @@ begins-more first second third old mid new one two =
     record {
       at = λ state held home.
           let here = one.at state held home in
-          let there = two.at (in_world (λ world. record world { files = here.files }) state) here.told (one.lent.home ∙ home) in
-          record { files = there.files; told = there.told; same = λ next. here.same next ∙ there.same next };
+          let there = two.at (in_world (λ world. record world { files = here.files; written = here.written }) state) here.told (one.lent.home ∙ home) in
+          record { files = there.files; written = there.written; told = there.told; kept = λ begun kept. there.kept begun (here.kept begun kept); same = λ next. here.same next ∙ there.same next };
       whole = λ whole. two.whole (one.whole whole);
       files = held-more old.held mid.held new.held one.files two.files;
       lent = balanced-more old mid new one.lent two.lent;
@@ -79,7 +81,7 @@ begins-step anew name text rest made made' old new one =
     record {
       at = λ state held home.
           let here = one.at state held home in
-          record { files = here.files; told = here.told; same = λ next. here.same (λ behind. making anew name rest behind next) };
+          record { files = here.files; written = here.written; told = here.told; kept = here.kept; same = λ next. here.same (λ behind. making anew name rest behind next) };
       whole = one.whole;
       files = one.files;
       lent = one.lent;
@@ -122,7 +124,7 @@ begins-named anew name text found made second tree mid new is same begins =
       at = λ state held home.
           let one = here.at state held home in
           let named : found ≡ named_by state text = subst (λ (it : Option Files). IfSome it (λ files. found ≡ resolve files tree.home text)) held is ∙ ap (λ (it : Components). resolve state.world.files it text) home in
-          record { files = one.files; told = one.told; same = λ next. ap (λ (it : Place). making_at anew name text it made next state) (sym named) ∙ one.same next };
+          record { files = one.files; written = one.written; told = one.told; kept = one.kept; same = λ next. ap (λ (it : Place). making_at anew name text it made next state) (sym named) ∙ one.same next };
       whole = here.whole;
       files = here.files;
       lent = here.lent;
@@ -135,6 +137,8 @@ begins-file anew path made made' old new held lent made_is =
     record {
       at = λ state told home. record {
         files = begun_at anew path state.world.files;
+        written = path ∷ state.world.written;
+        kept = λ begun kept. kept-step begun old.held state.world.written path new.held kept (only-begun anew path old.held new.held held);
         told = held ∙ ap (option_map (begun_at anew path)) told;
         same = λ next. ap (λ (it : Made). next it (in_world (file_begun anew path) state)) (sym made_is);
       };
@@ -178,22 +182,79 @@ there-none paths held none = subst (λ (it : List Components). IfSome held (λ h
     by_held None = tt
     by_held (Some files) = tt
 
--- what it is over with
-pub fails-by : (why : WorldErr) (came : How) (old new : TreeState) (before now : ℕ) → came ≡ how_of why → Balanced old new → before ≤ now → (why ≡ error.Failed → Rose before now) → Fails came old new before now
-fails-by why came old new before now is lent later failed = subst (λ (it : How). Fails it old new before now) (sym is) (by_why why failed)
+-- what it is over with: nothing else is changed than what it writes
+abbrev pub FailsKept : Making → TreeState → TreeState → Type 0
+FailsKept part old new =
+    (next : Made → Means) → ((made : Made) → Adds (next made)) → (state : State) → old.held ≡ Some state.world.files → old.home ≡ state.world.home
+    → (begun : Option Files) → ChangesOnly state.world.written begun old.held → ChangesOnly (part next state).state.world.written begun new.held
+
+pub fails-by : (part : Making) (why : WorldErr) (came : How) (old new : TreeState) (before now : ℕ) → FailsKept part old new → came ≡ how_of why → Balanced old new → before ≤ now → (why ≡ error.Failed → Rose before now)
+    → Fails part came old new before now
+fails-by part why came old new before now kept is lent later failed = subst (λ (it : How). Fails part it old new before now) (sym is) (by_why why failed)
   where
-    by_why : (it : WorldErr) → (it ≡ error.Failed → Rose before now) → Fails (how_of it) old new before now
-    by_why error.Failed failed = record { off = λ gone. gone; later = later; cause = λ input output errors. failed refl; lent = lent }
-    by_why error.Memory failed = record { off = λ gone. gone; later = later; cause = λ input output errors. tt; lent = lent }
+    by_why : (it : WorldErr) → (it ≡ error.Failed → Rose before now) → Fails part (how_of it) old new before now
+    by_why error.Failed failed = record { kept = kept; off = λ gone. gone; later = later; cause = λ input output errors. failed refl; lent = lent }
+    by_why error.Memory failed = record { kept = kept; off = λ gone. gone; later = later; cause = λ input output errors. tt; lent = lent }
 
-pub fails-wanted : (came : How) (old new : TreeState) (before now : ℕ) → came ≡ how.Memory → Balanced old new → now ≡ before → Fails came old new before now
-fails-wanted came old new before now is lent same =
-    subst (λ (it : How). Fails it old new before now) (sym is) (record { off = λ gone. gone; later = omega (arith, same); cause = λ input output errors. tt; lent = lent })
+pub fails-wanted : (part : Making) (came : How) (old new : TreeState) (before now : ℕ) → FailsKept part old new → came ≡ how.Memory → Balanced old new → now ≡ before → Fails part came old new before now
+fails-wanted part came old new before now kept is lent same =
+    subst (λ (it : How). Fails part it old new before now) (sym is) (record { kept = kept; off = λ gone. gone; later = omega (arith, same); cause = λ input output errors. tt; lent = lent })
 
-pub fails-behind : (came : How) (old mid new : TreeState) (before between now : ℕ) → Balanced old mid → between ≡ before → Fails came mid new between now → Fails came old new before now
-fails-behind came old mid new before between now lent same fails =
-    let here : Fails came mid new before now = subst (λ (it : ℕ). Fails came mid new it now) same fails in
-    record { off = here.off; later = here.later; cause = here.cause; lent = balanced-more old mid new lent here.lent }
+-- the files are as they were
+pub kept-same_files : (part : Making) (old new : TreeState) → ((next : Made → Means) → ((made : Made) → Adds (next made)) → Adds (part next)) → new.held ≡ old.held → FailsKept part old new
+kept-same_files part old new adds same next goes_on state held home begun kept = only-more (only-within (adds next goes_on state).written kept) (only-same same)
+
+-- but for one, which was begun
+pub kept-begun : (anew : Bool) (path : Components) (made : Made) (old new : TreeState) → ChangesOnly (path ∷ []) old.held new.held
+    → FailsKept (λ next state. next (with_file path made) (in_world (file_begun anew path) state)) old new
+kept-begun anew path made old new only next adds state held home begun kept =
+    only-within (adds (with_file path made) (in_world (file_begun anew path) state)).written (kept-step begun old.held state.world.written path new.held kept only)
+
+-- behind files that were begun
+pub fails-behind : (first second : Making) (came : How) (old mid new : TreeState) (before between now : ℕ) → Begins first second old mid → between ≡ before → Fails second came mid new between now → Fails first came old new before now
+fails-behind first second came old mid new before between now begins same fails =
+    let here : Fails second came mid new before now = subst (λ (it : ℕ). Fails second came mid new it now) same fails in
+    record {
+      kept = λ next adds state held home begun kept.
+          let one = begins.at state held home in
+          subst (λ (it : Ends). ChangesOnly it.state.world.written begun new.held) (sym (one.same next))
+          (here.kept next adds (in_world (λ world. record world { files = one.files; written = one.written }) state) one.told (begins.lent.home ∙ home) begun (one.kept begun kept));
+      off = here.off;
+      later = here.later;
+      cause = here.cause;
+      lent = balanced-more old mid new begins.lent here.lent;
+    }
+
+-- the next of some files
+fails-step : (anew : Bool) (name text : List ℕ) (rest : List (List ℕ)) (made : Made) (came : How) (old new : TreeState) (before now : ℕ) → Fails (making_one anew name text made) came old new before now
+    → Fails (making anew name (text ∷ rest) made) came old new before now
+fails-step anew name text rest made came old new before now fails =
+    record {
+      kept = λ next adds. fails.kept (λ behind. making anew name rest behind next) (λ behind. adds-making anew name rest behind next adds);
+      off = fails.off;
+      later = fails.later;
+      cause = fails.cause;
+      lent = fails.lent;
+    }
+
+pub fails-next : (anew : Bool) (name text : List ℕ) (texts : List (Vec ℕ)) (place : ℕ) (one : Vec ℕ) (first : Making) (made : Made) (came : How) (old mid new : TreeState) (before between now : ℕ)
+    → one ≡ get_or texts place one → place < length texts → text ≡ one.items
+    → Begins first (making anew name (texts_of (drop place texts)) made) old mid → between ≡ before → Fails (making_one anew name text made) came mid new between now → Fails first came old new before now
+fails-next anew name text texts place one first made came old mid new before between now here below same begins calm fails =
+    fails-behind first (making anew name (one.items ∷ texts_of (drop (place + 1) texts)) made) came old mid new before between now
+    (subst (λ (it : List (List ℕ)). Begins first (making anew name it made) old mid) (texts-cut texts place one here below) begins) calm
+    (fails-step anew name one.items (texts_of (drop (place + 1) texts)) made came mid new between now (subst (λ (it : List ℕ). Fails (making_one anew name it made) came mid new between now) same fails))
+
+-- what stands at a place
+pub fails-at : (anew : Bool) (name text : List ℕ) (here found : Place) (made : Made) (came : How) (old new : TreeState) (before now : ℕ) → here ≡ found → Fails (making_at anew name text found made) came old new before now
+    → Fails (making_at anew name text here made) came old new before now
+fails-at anew name text here found made came old new before now is fails = subst (λ (it : Place). Fails (making_at anew name text it made) came old new before now) (sym is) fails
+
+pub fails-named : (anew : Bool) (name text : List ℕ) (found : Place) (made : Made) (came : How) (tree mid new : TreeState) (before between now : ℕ) → IfSome tree.held (λ files. found ≡ resolve files tree.home text) → mid ≡ tree
+    → between ≡ before → Fails (making_at anew name text found made) came mid new between now → Fails (making_one anew name text made) came tree new before now
+fails-named anew name text found made came tree mid new before between now is same calm fails =
+    fails-behind (making_one anew name text made) (making_at anew name text found made) came tree mid new before between now
+    (begins-named anew name text found made (making_at anew name text found made) tree mid mid is same (begins-same (making_at anew name text found made) (making_at anew name text found made) mid (λ next state. refl))) calm fails
 
 -- WHAT IS EVALUATED BEHIND THE FILES
 module _ (first : Making) (made : Made) (next : Made → Means) (shell : Shell) (session : Session) (tree mid : TreeState) (seen : Seen) (input output errors count between : ℕ) (begins : Begins first (λ next. next made) tree mid) (same : between ≡ count) where
@@ -215,8 +276,15 @@ module _ (first : Making) (made : Made) (next : Made → Means) (shell : Shell) 
         comes = λ expansions are base state has.
             let here = begins.at state has.held has.home in
             subst (λ (it : Ends). Comes base came new it) (sym (here.same next))
-            (one.comes expansions are base (in_world (λ world. record world { files = here.files }) state)
-            (record { shell = has.shell; session = has.session; home = begins.lent.home ∙ has.home; held = here.told; seen = has.seen }));
+            (one.comes expansions are base (in_world (λ world. record world { files = here.files; written = here.written }) state)
+            (record {
+              shell = has.shell;
+              session = has.session;
+              home = begins.lent.home ∙ has.home;
+              held = here.told;
+              kept = here.kept (Some base.files) has.kept;
+              seen = has.seen;
+            }));
         keeps = λ gone. keeps-more at_first behind_files new keeps-begun (one.keeps gone);
         turns = one.turns;
         later = subst (λ (it : ℕ). NoFewer (faults_of input output errors it) new.faults) same one.later;
@@ -224,12 +292,16 @@ module _ (first : Making) (made : Made) (next : Made → Means) (shell : Shell) 
         lent = balanced-more tree mid new.tree begins.lent one.lent;
       }
 
-pub tees-failed : (name : List ℕ) (called : Called) (shell : Shell) (session : Session) (tree new : TreeState) (seen : Seen) (input output errors before now : ℕ) (came : How) → Fails came tree new before now
+pub tees-failed : (name : List ℕ) (called : Called) (anew : Bool) (texts : List (List ℕ)) (shell : Shell) (session : Session) (tree new : TreeState) (seen : Seen) (input output errors before now : ℕ) (came : How) → anew ≡ begins_anew called.command → texts ≡ files_by called.command
+    → Fails (making anew name texts none_made) came tree new before now
     → Evaluates (λ expansions. tees name called) (point_of shell session tree seen (faults_of input output errors before)) came (point_of shell session new seen (faults_of input output errors now))
-tees-failed name called shell session tree new seen input output errors before now came fails =
+tees-failed name called anew texts shell session tree new seen input output errors before now came anew_is texts_are found =
+    let fails : Fails (making (begins_anew called.command) name (files_by called.command) none_made) came tree new before now =
+    subst (λ (it : Bool). Fails (making it name (files_by called.command) none_made) came tree new before now) anew_is
+    (subst (λ (it : List (List ℕ)). Fails (making anew name it none_made) came tree new before now) texts_are found) in
     let later = fails.later in
     blamed (λ expansions. tees name called) (point_of shell session tree seen (faults_of input output errors before)) (point_of shell session new seen (faults_of input output errors now)) came (λ expansions. adds-tees name called)
-    fails.off refl refl (omega arith) (record { input = omega arith; output = omega arith; errors = omega arith; tree = later }) (fails.cause input output errors) fails.lent
+    fails.off refl refl (λ expansions base state has. fails.kept (tells_and_copies called) (adds-tells_and_copies called) state has.held has.home (Some base.files) has.kept) (omega arith) (record { input = omega arith; output = omega arith; errors = omega arith; tree = later }) (fails.cause input output errors) fails.lent
 
 -- the files of an invocation, by those that were looked at
 pub tees-so : (name : List ℕ) (called : Called) (anew : Bool) (texts : List (List ℕ)) (made : Made) (shell : Shell) (session : Session) (tree mid : TreeState) (seen : Seen) (input output errors count between : ℕ) (new : Point) (came : How)

@@ -16,6 +16,7 @@ use Rattle.ps_world.specs.declared.error.WorldErr.TheVariants as error
 use Rattle.ps_world.proofs.ToldLemmas.{then_bytes-append, grew_by_more, grew_by_whole}
 use Rattle.ps_world.proofs.TreeStateLemmas.{balanced-none, balanced-written}
 use Rattle.ps_world.proofs.WritingLemmas.{no_writer_out-filled, fill-take_out}
+use Rattle.fl_commands.specs.Writers.{ChangesOnly}
 use Rattle.sh_expand.specs.Outcomes.{Expansions}
 use Rattle.sh_eval.specs.declared.flows.Flow.TheVariants as flow
 use Rattle.sh_eval.specs.declared.outcomes.How.{How}
@@ -28,6 +29,7 @@ use Rattle.sh_eval.specs.States.{State, Ends, on, write, puts, tells, grown_at}
 use Rattle.sh_eval.specs.Contract.{Drawn, Seen, Faults, Point, point_of, seen_of, faults_of, Base, Has, IsBehind, Comes, HasCause, IsGone, Stay, HeldStays, NoFewer, Meaning, Evaluates, goes_on}
 use Rattle.sh_eval.specs.Writing.{written, kept, added_to}
 use Rattle.sh_eval.proofs.Growing.{grows-write}
+use Rattle.sh_eval.proofs.KeptLemmas.{kept-step}
 use Rattle.sh_eval.proofs.Steps.{nothing, wanted, no-fewer, held-none}
 
 -- what is meant may be said otherwise, where it is the same at every state of the point
@@ -91,9 +93,10 @@ module _ (shell : Shell) (session : Session) (tree : TreeState) (drawn : Drawn) 
     abbrev pub output-new : Point
     output-new = point_of shell session tree (seen_of drawn taken' errors) (faults_of input of_output' of_errors of_tree)
 
-    output-behind : GrewByPrefix taken taken' bytes → (base : Base) (state : State) → Has base output-old state → IsBehind base output-new.seen (write to.Output bytes state).world
+    output-behind : GrewByPrefix taken taken' bytes → (base : Base) (state : State) → Has base output-old state → IsBehind base tree.held output-new.seen (write to.Output bytes state).world
     output-behind front base state has =
         record {
+          kept = has.kept;
           output = grew-partly base.taken taken taken' state.world.output (ap (λ (seen : Seen). seen.taken) has.seen) front;
           errors = grew_by_whole base.errors errors state.world.errors (ap (λ (seen : Seen). seen.errors) has.seen);
         }
@@ -111,6 +114,7 @@ module _ (shell : Shell) (session : Session) (tree : TreeState) (drawn : Drawn) 
                       session = has.session;
                       home = has.home;
                       held = has.held;
+                      kept = has.kept;
                       seen = λ i. seen_of ((ap (λ (seen : Seen). seen.drawn) has.seen) i) ((grew base.taken taken taken' state.world.output (ap (λ (seen : Seen). seen.taken) has.seen) whole) i) ((ap (λ (seen : Seen). seen.errors) has.seen) i);
                     };
               };
@@ -149,9 +153,10 @@ module _ (shell : Shell) (session : Session) (tree : TreeState) (drawn : Drawn) 
     abbrev pub errors-new : Point
     errors-new = point_of shell session tree (seen_of drawn taken errors') (faults_of input of_output of_errors' of_tree)
 
-    errors-behind : GrewByPrefix errors errors' bytes → (base : Base) (state : State) → Has base errors-old state → IsBehind base errors-new.seen (write to.Errors bytes state).world
+    errors-behind : GrewByPrefix errors errors' bytes → (base : Base) (state : State) → Has base errors-old state → IsBehind base tree.held errors-new.seen (write to.Errors bytes state).world
     errors-behind front base state has =
         record {
+          kept = has.kept;
           output = grew_by_whole base.taken taken state.world.output (ap (λ (seen : Seen). seen.taken) has.seen);
           errors = grew-partly base.errors errors errors' state.world.errors (ap (λ (seen : Seen). seen.errors) has.seen) front;
         }
@@ -169,6 +174,7 @@ module _ (shell : Shell) (session : Session) (tree : TreeState) (drawn : Drawn) 
                       session = has.session;
                       home = has.home;
                       held = has.held;
+                      kept = has.kept;
                       seen = λ i. seen_of ((ap (λ (seen : Seen). seen.drawn) has.seen) i) ((ap (λ (seen : Seen). seen.taken) has.seen) i) ((grew base.errors errors errors' state.world.errors (ap (λ (seen : Seen). seen.errors) has.seen) whole) i);
                     };
               };
@@ -214,6 +220,7 @@ module _ (shell : Shell) (session : Session) (tree : TreeState) (seen : Seen) (f
                         ∙ ap (λ (it : Session). record it { pipes = grown_at number bytes it.pipes }) has.session;
                     home = has.home;
                     held = has.held;
+                    kept = has.kept;
                     seen = has.seen;
                   };
             };
@@ -301,12 +308,15 @@ module _ (shell : Shell) (session : Session) (old new : TreeState) (seen : Seen)
   file-new = point_of shell session new seen (faults_of input of_output of_errors of_tree')
 
   -- a file that couldn't be written
-  file-stopped : (came : How) → (IsGone came → ⊥) → HasCause came file-old.faults file-new.faults → Balanced old new → of_tree ≤ of_tree' → Evaluates (λ expansions state. on (write (to.File path) bytes state)) file-old how.Memory file-old
-      → ((expansions : Expansions) (base : Base) (state : State) → IsBehind base seen (write (to.File path) bytes state).world → Comes base came file-new (on (write (to.File path) bytes state)))
+  file-stopped : (came : How) → (IsGone came → ⊥) → ChangesOnly (path ∷ []) old.held new.held → HasCause came file-old.faults file-new.faults → Balanced old new → of_tree ≤ of_tree' → Evaluates (λ expansions state. on (write (to.File path) bytes state)) file-old how.Memory file-old
+      → ((expansions : Expansions) (base : Base) (state : State) → IsBehind base new.held seen (write (to.File path) bytes state).world → Comes base came file-new (on (write (to.File path) bytes state)))
       → Evaluates (λ expansions state. on (write (to.File path) bytes state)) file-old came file-new
-  file-stopped came off cause lent later none here =
+  file-stopped came off only cause lent later none here =
       record {
-        comes = λ expansions are base state has. here expansions base state (none.comes expansions are base state has);
+        comes = λ expansions are base state has.
+            let behind : IsBehind base old.held seen (write (to.File path) bytes state).world = none.comes expansions are base state has in
+            here expansions base state
+            (record { kept = kept-step (Some base.files) old.held state.world.written path new.held has.kept only; output = behind.output; errors = behind.errors });
         keeps = λ gone. absurd (off gone);
         turns = omega arith;
         later = record { input = omega arith; output = omega arith; errors = omega arith; tree = later };
@@ -314,9 +324,9 @@ module _ (shell : Shell) (session : Session) (old new : TreeState) (seen : Seen)
         lent = lent;
       }
 
-  pub written-file : (outcome : Result Unit WorldErr) → OnOk outcome (new.held ≡ option_map (added_to path bytes) old.held) → Balanced old new → of_tree ≤ of_tree' → OnOk outcome (of_tree' ≡ of_tree)
+  pub written-file : (outcome : Result Unit WorldErr) → ChangesOnly (path ∷ []) old.held new.held → OnOk outcome (new.held ≡ option_map (added_to path bytes) old.held) → Balanced old new → of_tree ≤ of_tree' → OnOk outcome (of_tree' ≡ of_tree)
       → (IsErrOf outcome error.Failed → Rose of_tree of_tree') → Evaluates (λ expansions state. on (write (to.File path) bytes state)) file-old (kept outcome) file-new
-  written-file (Ok value) held lent later ok failed =
+  written-file (Ok value) only held lent later ok failed =
       record {
         comes = λ expansions are base state has.
             record {
@@ -327,6 +337,7 @@ module _ (shell : Shell) (session : Session) (old new : TreeState) (seen : Seen)
                     session = has.session;
                     home = lent.home ∙ has.home;
                     held = held ∙ ap (option_map (added_to path bytes)) has.held;
+                    kept = kept-step (Some base.files) old.held state.world.written path new.held has.kept only;
                     seen = has.seen;
                   };
             };
@@ -342,19 +353,19 @@ module _ (shell : Shell) (session : Session) (old new : TreeState) (seen : Seen)
         cause = ap (λ (count : ℕ). faults_of input of_output of_errors count) ok;
         lent = lent;
       }
-  written-file (Err error.Failed) held lent later ok failed =
-      file-stopped how.TreeFault (λ gone. gone) (failed refl) lent later (wanted (λ expansions state. on (write (to.File path) bytes state)) file-old (λ expansions state. grows-write (to.File path) bytes state))
+  written-file (Err error.Failed) only held lent later ok failed =
+      file-stopped how.TreeFault (λ gone. gone) only (failed refl) lent later (wanted (λ expansions state. on (write (to.File path) bytes state)) file-old (λ expansions state. grows-write (to.File path) bytes state))
       (λ expansions base state behind. behind)
-  written-file (Err error.Memory) held lent later ok failed =
-      file-stopped how.Memory (λ gone. gone) tt lent later (wanted (λ expansions state. on (write (to.File path) bytes state)) file-old (λ expansions state. grows-write (to.File path) bytes state))
+  written-file (Err error.Memory) only held lent later ok failed =
+      file-stopped how.Memory (λ gone. gone) only tt lent later (wanted (λ expansions state. on (write (to.File path) bytes state)) file-old (λ expansions state. grows-write (to.File path) bytes state))
       (λ expansions base state behind. behind)
 
 -- how a command goes on behind it
 pub kept-file : (shell : Shell) (session : Session) (old new : TreeState) (seen : Seen) (input of_output of_errors of_tree of_tree' : ℕ) (path : Components) (bytes : List ℕ) (outcome : Result Unit WorldErr) (came : How) → came ≡ kept outcome
-    → OnOk outcome (new.held ≡ option_map (added_to path bytes) old.held) → Balanced old new → of_tree ≤ of_tree' → OnOk outcome (of_tree' ≡ of_tree) → (IsErrOf outcome error.Failed → Rose of_tree of_tree')
+    → ChangesOnly (path ∷ []) old.held new.held → OnOk outcome (new.held ≡ option_map (added_to path bytes) old.held) → Balanced old new → of_tree ≤ of_tree' → OnOk outcome (of_tree' ≡ of_tree) → (IsErrOf outcome error.Failed → Rose of_tree of_tree')
     → Evaluates (λ expansions state. on (write (to.File path) bytes state)) (point_of shell session old seen (faults_of input of_output of_errors of_tree)) came (point_of shell session new seen (faults_of input of_output of_errors of_tree'))
-kept-file shell session old new seen input of_output of_errors of_tree of_tree' path bytes outcome came is held lent later ok failed =
-    rw is (written-file shell session old new seen input of_output of_errors of_tree of_tree' path bytes outcome held lent later ok failed)
+kept-file shell session old new seen input of_output of_errors of_tree of_tree' path bytes outcome came is only held lent later ok failed =
+    rw is (written-file shell session old new seen input of_output of_errors of_tree of_tree' path bytes outcome only held lent later ok failed)
 
 -- files are files still where it goes on
 pub kept-stays : (old new : Option Files) (path : Components) (bytes : List ℕ) (outcome : Result Unit WorldErr) (came : How) → came ≡ kept outcome → goes_on came ≡ true → OnOk outcome (new ≡ option_map (added_to path bytes) old) → HeldStays old new

@@ -10,6 +10,7 @@ use Rattle.ps_world.specs.Files.{Files, NoWriterOut, IsFileAt}
 use Rattle.fl_engines.specs.Logs.{Log}
 use Rattle.fl_segments.specs.Noted.{Noted}
 use Rattle.fl_commands.specs.Runs.{with_noted}
+use Rattle.fl_commands.specs.Writers.{ChangesOnly}
 use Rattle.sh_expand.specs.Outcomes.{Expansions, AreExpansions}
 use Rattle.sh_eval.specs.declared.flows.Flow.{Flow}
 use Rattle.sh_eval.specs.declared.flows.Flow.TheVariants as flow
@@ -63,8 +64,9 @@ pub record Point : Type 0 where
 abbrev pub point_of : Shell → Session → TreeState → Seen → Faults → Point
 point_of shell session tree seen faults = record { shell = shell; session = session; tree = tree; seen = seen; faults = faults }
 
--- what the engine, output and errors told as the run began
+-- what the engine, output and errors told as the run began, and the files then
 pub record Base : Type 0 where
+  pub files : Files
   pub used : Option Log
   pub taken : Option (List ℕ)
   pub errors : Option (List ℕ)
@@ -88,6 +90,8 @@ pub record Has (base : Base) (at : Point) (state : State) : Type 0 where
   pub session : at.session ≡ state.session
   pub home : at.tree.home ≡ state.world.home
   pub held : at.tree.held ≡ Some state.world.files
+  -- since the run began nothing else was changed than what was written
+  pub kept : ChangesOnly state.world.written (Some base.files) at.tree.held
   pub seen : at.seen ≡ told base state.world
 
 -- the command is over as it is meant
@@ -95,17 +99,18 @@ pub record HasEnd (base : Base) (came : Flow) (at : Point) (left : Ends) : Type 
   pub flow : came ≡ left.flow
   pub has : Has base at left.state
 
--- output and errors have grown by fronts of what is meant
-pub record IsBehind (base : Base) (seen : Seen) (world : World) : Type 0 where
+-- output and errors have grown by fronts of what is meant, and nothing else is changed than what the meaning writes
+pub record IsBehind (base : Base) (held : Option Files) (seen : Seen) (world : World) : Type 0 where
+  pub kept : ChangesOnly world.written (Some base.files) held
   pub output : GrewByPrefix base.taken seen.taken world.output
   pub errors : GrewByPrefix base.errors seen.errors world.errors
 
 abbrev pub Comes : Base → How → Point → Ends → Type 0
 Comes base (how.Gone came) at left = HasEnd base came at left
-Comes base how.ReadFault at left = IsBehind base at.seen left.state.world
-Comes base how.WriteFault at left = IsBehind base at.seen left.state.world
-Comes base how.TreeFault at left = IsBehind base at.seen left.state.world
-Comes base how.Memory at left = IsBehind base at.seen left.state.world
+Comes base how.ReadFault at left = IsBehind base at.tree.held at.seen left.state.world
+Comes base how.WriteFault at left = IsBehind base at.tree.held at.seen left.state.world
+Comes base how.TreeFault at left = IsBehind base at.tree.held at.seen left.state.world
+Comes base how.Memory at left = IsBehind base at.tree.held at.seen left.state.world
 
 -- no count falls
 pub record NoFewer (old new : Faults) : Type 0 where

@@ -112,5 +112,5 @@ begun shell home files input =
     record {
       shell = shell;
       session = begun_session;
-      world = record { home = home; files = files; input = input; output = []; errors = []; ran = [] };
+      world = record { home = home; files = files; written = []; input = input; output = []; errors = []; ran = [] };
     }

@@ -4,14 +4,16 @@ use Rattle.std.specs.List.{list_any}
 use Rattle.sh_eval.specs.declared.leading.Before.{Before}
 use Rattle.sh_eval.specs.declared.streams.From.{From}
 use Rattle.ps_world.specs.Counts.{Rose}
+use Rattle.ps_world.specs.Paths.{Components}
 use Rattle.ps_world.specs.TreeState.{TreeState}
 use Rattle.sh_eval.specs.declared.flows.Flow.{Flow}
+use Rattle.sh_eval.specs.declared.flows.Flow.TheVariants as flow
 use Rattle.sh_eval.specs.declared.outcomes.How.{How}
 use Rattle.sh_eval.specs.declared.outcomes.How.TheVariants as how
 use Rattle.sh_eval.specs.declared.stops.Stop.{Stop}
 use Rattle.sh_eval.specs.declared.stops.Stop.TheVariants as stop
 use Rattle.sh_eval.specs.Targets.{Target}
-use Rattle.sh_eval.specs.States.{State, Means}
+use Rattle.sh_eval.specs.States.{State, Means, on}
 use Rattle.sh_eval.specs.Redirections.{redirecting, skipped, is_read}
 use Rattle.sh_eval.specs.declared.session.Session.{Session}
 use Rattle.sh_eval.specs.Contract.{Point, Base, Has, Evaluates, IsSound}
@@ -28,12 +30,16 @@ pub record Reaches (first second : Flow → Means → Means) (old new : Point) :
   pub at : (way : Flow) (next : Means) (base : Base) (state : State) → Has base old state → ReachesAt base (first way next) (second way next) state new
   pub leaves_on : LeavesOn old new
 
+-- the paths that redirections write
+abbrev pub written_by : List Target → State → List Components
+written_by targets state = (redirecting flow.On targets on state).state.world.written
+
 -- redirections are done, or the first that stops is told
 abbrev pub DoesAll : List Target → Point → Point → Result Unit Stop → Type 0
 DoesAll targets old new (Ok value) = Reaches (λ way. redirecting way targets) (λ way next. next) old new
 DoesAll targets old new (Err (stop.Line line)) = Reaches (λ way. redirecting way targets) (λ way next. skipped way line) old new
-DoesAll targets old new (Err stop.Tree) = Breaks old new × Rose old.faults.tree new.faults.tree
-DoesAll targets old new (Err stop.Memory) = Breaks old new
+DoesAll targets old new (Err stop.Tree) = Breaks (written_by targets) old new × Rose old.faults.tree new.faults.tree
+DoesAll targets old new (Err stop.Memory) = Breaks (written_by targets) old new
 
 -- one of them has descriptor 0 read something else
 abbrev pub has_read : List Target → Bool

@@ -1,10 +1,12 @@
 -- What is left of a redirection that is done, and of one that stops (XCU 2.7, 2.8.1).
-use Rattle.std.specs.Prelude.{◌≡◌, ℕ, ◌≤◌, List, Option, IfSome, Result, Ok, Err}
+use Rattle.std.specs.Prelude.{◌≡◌, ℕ, ◌≤◌, List, Option, Some, IfSome, Result, Ok, Err}
 use Rattle.ps_world.specs.Counts.{Rose}
 use Rattle.ps_world.specs.declared.error.WorldErr.{WorldErr}
 use Rattle.ps_world.specs.declared.error.WorldErr.TheVariants as error
 use Rattle.ps_world.specs.TreeState.{Balanced}
 use Rattle.ps_world.specs.Files.{NoWriterOut}
+use Rattle.ps_world.specs.Paths.{Components}
+use Rattle.fl_commands.specs.Writers.{ChangesOnly}
 use Rattle.sh_eval.specs.declared.stops.Stop.{Stop}
 use Rattle.sh_eval.specs.declared.stops.Stop.TheVariants as stop
 use Rattle.sh_eval.specs.declared.streams.From.{From}
@@ -37,8 +39,18 @@ pub record TellsWhy (does : State → Redirected) (line : List ℕ) (old new : P
   pub at : (base : Base) (state : State) → Has base old state → does state ≡ stopped line
   pub same : new ≡ old
 
--- the tree failed, or memory was wanted
-pub record Breaks (old new : Point) : Type 0 where
+-- the state in which a redirection leaves off
+abbrev pub left_off : Redirected → State → State
+left_off (led first) state = first
+left_off (stopped line) state = state
+
+-- the paths that are written by then
+abbrev pub wrote_by : (State → Redirected) → State → List Components
+wrote_by does state = (left_off (does state) state).world.written
+
+-- the tree failed, or memory was wanted: nothing else is changed than what these redirections write
+pub record Breaks (wrote : State → List Components) (old new : Point) : Type 0 where
+  pub kept : (base : Base) (state : State) → Has base old state → ChangesOnly (wrote state) (Some base.files) new.tree.held
   pub taken : new.seen ≡ old.seen
   pub turns : old.session.turns ≤ new.session.turns
   pub later : NoFewer old.faults new.faults
@@ -48,8 +60,8 @@ pub record Breaks (old new : Point) : Type 0 where
 abbrev pub Does : (State → Redirected) → Point → Point → Result (Option From) Stop → Type 0
 Does does old new (Ok value) = Led does old new
 Does does old new (Err (stop.Line line)) = TellsWhy does line old new
-Does does old new (Err stop.Tree) = Breaks old new × Rose old.faults.tree new.faults.tree
-Does does old new (Err stop.Memory) = Breaks old new
+Does does old new (Err stop.Tree) = Breaks (wrote_by does) old new × Rose old.faults.tree new.faults.tree
+Does does old new (Err stop.Memory) = Breaks (wrote_by does) old new
 
 -- a line tells why, unless memory is wanted
 abbrev pub TellsLine : Stop → List ℕ → Type 0

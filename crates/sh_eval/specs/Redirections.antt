@@ -1,10 +1,9 @@
 -- Redirections (XCU 2.7), and paths that are busy (own).
 use Rattle.std.specs.Prelude.{ℕ, List, [], ◌∷◌, ◌++◌, Bool, true, false, ◌&&◌, ◌||◌, ◌==◌, Option, Some, None, nat_eq, codes, if◌then◌else◌}
-use Rattle.std.specs.FinMap as map
 use Rattle.std.specs.List.{list_any}
 use Rattle.std.specs.Cmp.Lexicographic.{pointwise}
 use Rattle.ps_world.specs.Paths.{Components}
-use Rattle.ps_world.specs.Files.{Bytes, bytes_at}
+use Rattle.ps_world.specs.Files.{bytes_at}
 use Rattle.ps_world.specs.Places.{resolve}
 use Rattle.ps_world.specs.declared.places.Place.{Place}
 use Rattle.ps_world.specs.declared.places.Place.TheVariants as place
@@ -17,7 +16,7 @@ use Rattle.sh_eval.specs.declared.refusals.Refusal.TheVariants as refusal
 use Rattle.sh_eval.specs.declared.streams.From.TheVariants as from
 use Rattle.sh_eval.specs.declared.streams.Held.{Held}
 use Rattle.sh_eval.specs.declared.streams.Streams.{Streams}
-use Rattle.sh_eval.specs.States.{World, State, Ends, Means, ends, refused, in_session, in_world, in_streams, leaves, tells}
+use Rattle.sh_eval.specs.States.{World, State, Ends, Means, ends, refused, in_session, in_world, in_streams, leaves, tells, with_file_at}
 use Rattle.sh_eval.specs.Lines.{diagnostic, no_such_file, is_a_directory}
 use Rattle.sh_eval.specs.Targets.{Target}
 pub use Rattle.sh_eval.specs.declared.busy.Use.{Use}
@@ -107,7 +106,7 @@ reading_at text place.Null state = read_from [] state
 
 -- a file is written: anew, or behind the bytes that it has
 abbrev pub file_begun : Bool → Components → World → World
-file_begun anew path world = record world { files = map.insert world.files path (Bytes (if anew then [] else bytes_at world.files path)) }
+file_begun anew path world = with_file_at path (if anew then [] else bytes_at world.files path) world
 
 abbrev pub leading : ℕ → To → State → Redirected
 leading number place state = led (in_session (in_streams (leads_to number place)) state)

@@ -16,11 +16,12 @@ use Rattle.sh_eval.specs.declared.session.Session.{Session}
 use Rattle.sh_eval.specs.declared.shell.Shell.{Shell}
 use Rattle.sh_eval.specs.Shells.{with_status}
 
--- what a run has of the outside: the working directory, files, what is left of the standard input, what was written to the standard output
--- and error, and the utilities that ran
+-- what a run has of the outside: the working directory, files, the paths at which a file was begun or written, what is left of the standard
+-- input, what was written to the standard output and error, and the utilities that ran
 pub record World : Type 0 where
   pub home : Components
   pub files : Files
+  pub written : List Components
   pub input : List ℕ
   pub output : List ℕ
   pub errors : List ℕ
@@ -85,12 +86,16 @@ grown_at place bytes [] = []
 grown_at zero bytes (text ∷ texts) = (text ++ bytes) ∷ texts
 grown_at (suc place) bytes (text ∷ texts) = text ∷ grown_at place bytes texts
 
+-- a file of these bytes is at the path
+abbrev pub with_file_at : Components → List ℕ → World → World
+with_file_at path bytes world = record world { files = map.insert world.files path (Bytes bytes); written = path ∷ world.written }
+
 -- the bytes are written to where a descriptor leads
 abbrev pub write : To → List ℕ → State → State
 write to.Output bytes state = in_world (λ world. record world { output = world.output ++ bytes }) state
 write to.Errors bytes state = in_world (λ world. record world { errors = world.errors ++ bytes }) state
 write (to.Pipe number) bytes state = in_session (λ session. record session { pipes = grown_at number bytes session.pipes }) state
-write (to.File path) bytes state = in_world (λ world. record world { files = map.insert world.files path (Bytes (bytes_at world.files path ++ bytes)) }) state
+write (to.File path) bytes state = in_world (λ world. with_file_at path (bytes_at world.files path ++ bytes) world) state
 write to.Null bytes state = state
 
 -- a command's output, and its diagnostics

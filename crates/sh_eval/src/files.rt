@@ -1,9 +1,10 @@
 //! Files that redirections read and begin (XCU 2.7).
-ghost use Rattle.std.specs.Prelude.{◌≡◌, ◌≤◌, IfOk, IfSome, IsErrOf, OnOk, if◌then◌else◌};
+ghost use Rattle.std.specs.Prelude.{◌≡◌, ◌≤◌, ◌∷◌, [], IfOk, IfSome, IsErrOf, OnOk, if◌then◌else◌};
 ghost use Rattle.std.specs.Option.{option_map};
 ghost use Rattle.ps_world.specs.Counts.{Counts, Rose};
 ghost use Rattle.ps_world.specs.Files.{CanBeMade, IsFileAt, bytes_at};
 ghost use Rattle.ps_world.specs.TreeState.{Balanced, OnlyLent};
+ghost use Rattle.fl_commands.specs.Writers.{ChangesOnly};
 ghost use Rattle.sh_eval.specs.Leading.{begun_at, mode_of as mode_of_lem};
 
 use ps_world::{Mode, Path, Tree, WorldErr, read_all};
@@ -30,6 +31,7 @@ pub(crate) fn read_file<T: Tree>(
 pub(crate) fn begin_file<T: Tree>(anew: bool, path: &Path, tree: &mut T) -> Result<(), WorldErr>
     requires made { IfSome (T.state tree.old).held (λ files. CanBeMade files path.now) }
     ensures held { OnOk result ((T.state tree.new).held ≡ option_map (begun_at anew path.now) (T.state tree.old).held) }
+    ensures kept { ChangesOnly (path.now ∷ []) (T.state tree.old).held (T.state tree.new).held }
     ensures lent { Balanced (T.state tree.old) (T.state tree.new) }
     ensures later { T.faults tree.old ≤ T.faults tree.new }
     ensures ok { OnOk result (T.faults tree.new ≡ T.faults tree.old) }

@@ -97,7 +97,7 @@ fn begin_all<T: Tree>(
         Begins (making anew name.now (texts_of texts.now) none_made) (λ next. next (made_of begun)) (T.state tree.old) (T.state tree.new)) }
     ensures there { IfOk result (λ begun. IfSome (T.state tree.new).held (λ held. AreFilesAt held begun.files.items)) }
     ensures calm { OnOk result (T.faults tree.new ≡ T.faults tree.old) }
-    ensures err { IfErr result (λ how. Fails how (T.state tree.old) (T.state tree.new) (T.faults tree.old) (T.faults tree.new)) }
+    ensures err { IfErr result (λ how. Fails (making anew name.now (texts_of texts.now) none_made) how (T.state tree.old) (T.state tree.new) (T.faults tree.old) (T.faults tree.new)) }
 {
     let mut begun = Begun {
         files: Vec::new(alloc),
@@ -126,7 +126,7 @@ fn begin_one<T: Tree>(
     ensures begins { OnOk result (Begins (making_one anew name.now text.now (made_of begun.old)) (λ next. next (made_of begun.new)) (T.state tree.old) (T.state tree.new)) }
     ensures there { OnOk result (IfSome (T.state tree.old).held (λ held. AreFilesAt held begun.old.files.items) → IfSome (T.state tree.new).held (λ held. AreFilesAt held begun.new.files.items)) }
     ensures calm { OnOk result (T.faults tree.new ≡ T.faults tree.old) }
-    ensures err { IfErr result (λ how. Fails how (T.state tree.old) (T.state tree.new) (T.faults tree.old) (T.faults tree.new)) }
+    ensures err { IfErr result (λ how. Fails (making_one anew name.now text.now (made_of begun.old)) how (T.state tree.old) (T.state tree.new) (T.faults tree.old) (T.faults tree.new)) }
 {
     match look(alloc, tree, text) {
         Ok(place) => begin_at(alloc, anew, name, text, place, begun, tree),
@@ -149,7 +149,7 @@ fn begin_at<T: Tree>(
     ensures begins { OnOk result (Begins (making_at anew name.now text.now place (made_of begun.old)) (λ next. next (made_of begun.new)) (T.state tree.old) (T.state tree.new)) }
     ensures there { OnOk result (IfSome (T.state tree.old).held (λ held. AreFilesAt held begun.old.files.items) → IfSome (T.state tree.new).held (λ held. AreFilesAt held begun.new.files.items)) }
     ensures calm { OnOk result (T.faults tree.new ≡ T.faults tree.old) }
-    ensures err { IfErr result (λ how. Fails how (T.state tree.old) (T.state tree.new) (T.faults tree.old) (T.faults tree.new)) }
+    ensures err { IfErr result (λ how. Fails (making_at anew name.now text.now place (made_of begun.old)) how (T.state tree.old) (T.state tree.new) (T.faults tree.old) (T.faults tree.new)) }
 {
     match place {
         Place::Missing => leave_out(alloc, name, text, NO_SUCH_FILE, begun),
@@ -167,7 +167,7 @@ fn begin_path<T: Tree>(anew: bool, path: Path, begun: &mut Begun, tree: &mut T) 
         (T.state tree.old) (T.state tree.new)) }
     ensures there { OnOk result (IfSome (T.state tree.old).held (λ held. AreFilesAt held begun.old.files.items) → IfSome (T.state tree.new).held (λ held. AreFilesAt held begun.new.files.items)) }
     ensures calm { OnOk result (T.faults tree.new ≡ T.faults tree.old) }
-    ensures err { IfErr result (λ how. Fails how (T.state tree.old) (T.state tree.new) (T.faults tree.old) (T.faults tree.new)) }
+    ensures err { IfErr result (λ how. Fails (λ next state. next (with_file path (made_of begun.old)) (in_world (file_begun anew path) state)) how (T.state tree.old) (T.state tree.new) (T.faults tree.old) (T.faults tree.new)) }
 {
     match begin_file(anew, &path, tree) {
         Ok(()) => add_file(path, begun),

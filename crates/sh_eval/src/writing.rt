@@ -1,10 +1,10 @@
 //! What a shell writes, where its descriptors lead (XCU 2.7), and to files beside.
-ghost use Rattle.std.specs.Prelude.{◌≡◌, ℕ, ◌≤◌, List, true, IfSome, IsErrOf, OnOk};
+ghost use Rattle.std.specs.Prelude.{◌≡◌, ℕ, ◌≤◌, ◌∷◌, [], List, true, IfSome, IsErrOf, OnOk};
 ghost use Rattle.std.specs.Option.{option_map};
 ghost use Rattle.ps_world.specs.Counts.{Rose};
 ghost use Rattle.ps_world.specs.Files.{IsFileAt};
 ghost use Rattle.ps_world.specs.TreeState.{Balanced};
-ghost use Rattle.fl_commands.specs.Writers.{AreFilesAt};
+ghost use Rattle.fl_commands.specs.Writers.{AreFilesAt, ChangesOnly};
 ghost use Rattle.sh_eval.specs.Contract.{CanTake, Drawn, Evaluates, IsSound, Seen, faults_of, point_of, seen_of};
 ghost use Rattle.sh_eval.specs.Segments.{is_plain_place};
 ghost use Rattle.sh_eval.specs.States.{on, puts, tells, write};
@@ -173,6 +173,7 @@ fn kept(outcome: Result<(), WorldErr>) -> How
 fn append_to<T: Tree>(tree: &mut T, path: &Path, bytes: &[u8]) -> Result<(), WorldErr>
     requires there { IfSome (T.state tree.old).held (λ files. IsFileAt files path.now) }
     ensures held { OnOk result ((T.state tree.new).held ≡ option_map (added_to path.now bytes.now) (T.state tree.old).held) }
+    ensures kept { ChangesOnly (path.now ∷ []) (T.state tree.old).held (T.state tree.new).held }
     ensures lent { Balanced (T.state tree.old) (T.state tree.new) }
     ensures later { T.faults tree.old ≤ T.faults tree.new }
     ensures ok { OnOk result (T.faults tree.new ≡ T.faults tree.old) }

@@ -8,4 +8,4 @@ pub returns-in-Ok-clause-does : goal.returns-in-Ok-clause-does
 returns-in-Ok-clause-does c = λ shell tree seen faults. copied c.args.number c.args.text.now _ shell _ _ tree seen faults c.in-Ok.ensures c.lead.ensures
 
 pub returns-in-Err-clause-does : goal.returns-in-Err-clause-does
-returns-in-Err-clause-does c = λ shell tree seen faults. wants-memory (λ (state : State). leading c.args.number (led_to c.args.text.now state.session.streams) state) (point_of shell c.args.session.now tree seen faults)
+returns-in-Err-clause-does c = λ shell tree seen faults. wants-memory (λ (state : State). leading c.args.number (led_to c.args.text.now state.session.streams) state) (point_of shell c.args.session.now tree seen faults) (λ state path one. one)

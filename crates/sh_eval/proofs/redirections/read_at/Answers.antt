@@ -7,7 +7,7 @@ use Rattle.sh_eval.specs.States.{State, reading}
 use Rattle.sh_eval.specs.Lines.{diagnostic, no_such_file, is_a_directory}
 use Rattle.sh_eval.specs.Contract.{point_of, faults_of}
 use Rattle.sh_eval.specs.Redirections.{reading_at}
-use Rattle.sh_eval.proofs.RedirectionSteps.{led-file, led-null, breaks-tree, stops-tree, at-place, line-at}
+use Rattle.sh_eval.proofs.RedirectionSteps.{led-file, led-null, breaks-tree, reading-more, stops-tree, at-place, line-at}
 use Rattle.sh_eval.proofs.redirections.read_at.Goals as goal
 
 pub returns-in-Missing-clause-does : goal.returns-in-Missing-clause-does
@@ -32,7 +32,7 @@ pub returns-in-Err-clause-does : goal.returns-in-Err-clause-does
 returns-in-Err-clause-does g c =
     λ shell seen input output errors. at-place (λ (it : Place) (state : State). reading_at c.args.text.now it state) _ (place.File c.in-File.path) (point_of shell c.args.session.now (g.T.Tree.state c.args.tree.now) seen (faults_of input output errors (g.T.Tree.faults c.args.tree.now))) (point_of shell c.args.session.now (g.T.Tree.state c.read_file.new.tree) seen (faults_of input output errors (g.T.Tree.faults c.read_file.new.tree))) (Err c.of_tree.result) c.in-File.is
     (stops-tree (reading_at c.args.text.now (place.File c.in-File.path)) (point_of shell c.args.session.now (g.T.Tree.state c.args.tree.now) seen (faults_of input output errors (g.T.Tree.faults c.args.tree.now))) (point_of shell c.args.session.now (g.T.Tree.state c.read_file.new.tree) seen (faults_of input output errors (g.T.Tree.faults c.read_file.new.tree))) _ c.of_tree.result c.of_tree.ensures
-    (breaks-tree shell _ _ _ seen input output errors _ _ (balanced-only_lent _ _ c.read_file.ensures.lent) c.read_file.ensures.cause.later) (λ is. c.read_file.ensures.cause.failed (search rules)))
+    (breaks-tree (reading_at c.args.text.now (place.File c.in-File.path)) shell _ _ _ seen input output errors _ _ (reading-more c.args.text.now (place.File c.in-File.path)) c.read_file.ensures.lent.held (balanced-only_lent _ _ c.read_file.ensures.lent) c.read_file.ensures.cause.later) (λ is. c.read_file.ensures.cause.failed (search rules)))
 
 pub returns-in-Null-clause-does : goal.returns-in-Null-clause-does
 returns-in-Null-clause-does g c =

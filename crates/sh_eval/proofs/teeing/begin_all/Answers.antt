@@ -2,7 +2,7 @@ use Rattle.std.proofs.Common.{◌∙◌, refl}
 use Rattle.ps_lines.specs.Texts.{texts_of}
 use Rattle.sh_eval.specs.Inner.Teeing.{made_of}
 use Rattle.sh_eval.specs.Teeing.{making, none_made}
-use Rattle.sh_eval.proofs.TeeingSteps.{begins-done, begins-next, begins-none, fails-behind, there-none}
+use Rattle.sh_eval.proofs.TeeingSteps.{begins-done, begins-next, begins-none, fails-next, there-none}
 use Rattle.sh_eval.proofs.teeing.begin_all.Goals as goal
 
 pub loop-text-init : goal.loop-text-init
@@ -27,7 +27,9 @@ loop-text-preserved g c =
 
 pub returns-in-Err-clause-err : goal.returns-in-Err-clause-err
 returns-in-Err-clause-err g c =
-    fails-behind _ (g.T.Tree.state c.args.tree.now) (g.T.Tree.state c.loop-text.tree) (g.T.Tree.state c.begin_one.new.tree) _ _ _ c.loop-text.invariant.begins.lent c.loop-text.invariant.calm c.in-Err.ensures.err
+    fails-next c.args.anew c.args.name.now _ c.args.texts.now c.loop-text.text-index c.text-item.result (making c.args.anew c.args.name.now (texts_of c.args.texts.now) none_made) (made_of c.loop-text.begun) _
+    (g.T.Tree.state c.args.tree.now) (g.T.Tree.state c.loop-text.tree) (g.T.Tree.state c.begin_one.new.tree) _ _ _ c.text-item.is c.loop-text-test.true c.as_slice.ensures.value c.loop-text.invariant.begins c.loop-text.invariant.calm
+    c.in-Err.ensures.err
 
 pub returns-clause-begins : goal.returns-clause-begins
 returns-clause-begins g c =

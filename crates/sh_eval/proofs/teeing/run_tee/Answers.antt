@@ -15,4 +15,5 @@ returns-in-Ok g c =
     c.in-Ok.ensures.calm c.tell_and_copy.ensures
 
 pub returns-in-Err : goal.returns-in-Err
-returns-in-Err g c = tees-failed c.args.name.now (called_by c.args.inv.now) _ _ (g.T.Tree.state c.args.tree.now) (g.T.Tree.state c.begin_all.new.tree) _ _ _ _ _ _ _ c.in-Err.ensures.err
+returns-in-Err g c = tees-failed c.args.name.now (called_by c.args.inv.now) _ _ _ _ (g.T.Tree.state c.args.tree.now) (g.T.Tree.state c.begin_all.new.tree) _ _ _ _ _ _ _ c.begins_anew.ensures c.files_written.ensures
+    c.in-Err.ensures.err

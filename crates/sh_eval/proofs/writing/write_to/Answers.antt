@@ -24,7 +24,7 @@ pub returns-in-File-clause-evaluates : goal.returns-in-File-clause-evaluates
 returns-in-File-clause-evaluates g c =
     λ shell session drawn input same. rw (c.in-File.is, c.kept.ensures)
     (same-pipes _ _ _ _ _ _ _ _ _ same
-    (written-file shell session _ _ _ input _ _ _ _ _ c.args.bytes.now _ c.append_to.ensures.held c.append_to.ensures.lent c.append_to.ensures.later c.append_to.ensures.ok c.append_to.ensures.failed))
+    (written-file shell session _ _ _ input _ _ _ _ _ c.args.bytes.now _ c.append_to.ensures.kept c.append_to.ensures.held c.append_to.ensures.lent c.append_to.ensures.later c.append_to.ensures.ok c.append_to.ensures.failed))
 
 pub returns-in-Null-clause-evaluates : goal.returns-in-Null-clause-evaluates
 returns-in-Null-clause-evaluates g c = λ shell session drawn input same. rw c.in-Null.is (same-pipes _ _ _ _ _ _ _ _ _ same (written-null c.args.bytes.now _))

@@ -9,6 +9,8 @@ use Rattle.ps_world.specs.TreeState.{TreeState, Balanced, OnlyLent}
 use Rattle.ps_world.proofs.ToldLemmas.{grew_by_front, grew_by_more, grew_by_nothing, grew_by_whole, then_bytes-append, then_bytes-nil}
 use Rattle.ps_world.proofs.TreeStateLemmas.{balanced-more, balanced-none, balanced-only_lent}
 use Rattle.fl_engines.specs.Logs.{Log, log_of, with_words}
+use Rattle.fl_commands.specs.Writers.{ChangesOnly}
+use Rattle.fl_commands.proofs.WriterLemmas.{only-same}
 use Rattle.sh_tree.specs.Trees.{ScriptTree}
 use Rattle.sh_tree.specs.Views.{script_tree}
 use Rattle.sh_tree.specs.declared.commands.Script.{Script}
@@ -59,6 +61,12 @@ ran-none : (used : Option Log) → used ≡ option_map (with_words []) used
 ran-none None = refl
 ran-none (Some log) = ap (λ words. Some (log_of log.width words)) (sym (append-nil log.words))
 
+-- where the files are as they were, nothing is changed
+unchanged : (written : Files → List ℕ → List Components) (held : Option Files) (left : Option (List ℕ)) (old new : Option Files) → new ≡ old
+    → IfSome held (λ files. IfSome left (λ text. ChangesOnly (written files text) old new))
+unchanged written held left old new same =
+    told_anyway (λ files text. ChangesOnly (written files text) old new) held left (λ files text held_is left_is. only-same same)
+
 -- nothing stops where there is an answer
 stops-not : (faults : Faults) (outcome : Outcome) → Stops faults faults (Ok outcome)
 stops-not faults outcome = record { ok = refl; read = λ never. cc; write = λ never. cc; tree = λ never. cc }
@@ -79,6 +87,7 @@ run-answered answer at whole =
             input = left;
             used = ran-none at.seen.drawn.used;
           });
+      kept = λ reads are expansions exps. unchanged (λ files text. (run_of (answered answer) expansions (outside_of at.tree.home files text)).world.written) at.tree.held at.seen.drawn.left at.tree.held at.tree.held refl;
       whole = whole;
       cause = stops-not at.faults (refusing answer);
       lent = balanced-none at.tree;
@@ -124,9 +133,11 @@ module _ (old new : Point) (status width : ℕ) (own : Shell) (same : status ≡
       → result ≡ came_of came status
       → ((expansions : Expansions) → AreExpansions expansions → IfSome old.tree.held (λ files. IfSome old.seen.drawn.left (λ text.
       scripts.Leaves (ran_at width old.seen.drawn.used) old.seen came own new.tree new.seen (script_means expansions pages (script_tree script) (begun setup.shell old.tree.home files text)))))
+      → ((expansions : Expansions) → AreExpansions expansions → IfSome old.tree.held (λ files. IfSome old.seen.drawn.left (λ text.
+      ChangesOnly (script_means expansions pages (script_tree script) (begun setup.shell old.tree.home files text)).state.world.written old.tree.held new.tree.held)))
       → (IsGone came → IfSome new.tree.held NoWriterOut) → HasCause came old.faults new.faults → Balanced old.tree new.tree
       → RunsAs (λ reads. run_of (as_start start)) old result new
-  run-script start script setup start_is spread came result is meaning whole cause lent =
+  run-script start script setup start_is spread came result is meaning kept whole cause lent =
       subst (λ (it : ReadStart). RunsAs (λ reads. run_of (as_start it)) old result new) (sym start_is)
       (subst (λ (it : Result Outcome Stop). RunsAs (λ reads. run_of (runs (script_tree script) setup)) old it new) (sym is) (record {
         comes = λ reads are expansions exps.
@@ -139,6 +150,7 @@ module _ (old new : Point) (status width : ℕ) (own : Shell) (same : status ≡
             subst (λ (it : ℕ). Comes (over it (script_means expansions pages (script_tree script) (begun setup.shell old.tree.home files text))) (came_of came status) new.tree.held old.seen new.seen)
             (sym spread) (comes-so came (script_means expansions pages (script_tree script) (begun setup.shell old.tree.home files text)) left))
             (meaning expansions exps);
+        kept = λ reads are expansions exps. kept expansions exps;
         whole = whole-so came whole;
         cause = stops-so came cause;
         lent = lent;
@@ -188,6 +200,7 @@ module _ (tree : TreeState) (drawn : Drawn) (taken errors taken' : Option (List 
             told_anyway (λ files left. Comes (written text (outside_of tree.home files left)) result tree.held (seen_of drawn taken errors)
             (seen_of drawn taken' errors))
             tree.held drawn.left (λ files left held left_is. comes-written files left result held left_is is grew part);
+        kept = λ reads are expansions exps. unchanged (λ files left. []) tree.held drawn.left tree.held tree.held refl;
         whole = whole-written result whole;
         cause = stops-written result stops;
         lent = balanced-none tree;
@@ -213,6 +226,8 @@ run-wanted means at =
             output = grew_by_nothing at.seen.taken (means reads expansions (outside_of at.tree.home files text)).world.output;
             errors = grew_by_nothing at.seen.errors (means reads expansions (outside_of at.tree.home files text)).world.errors;
           });
+      kept = λ reads are expansions exps.
+          unchanged (λ files text. (means reads expansions (outside_of at.tree.home files text)).world.written) at.tree.held at.seen.drawn.left at.tree.held at.tree.held refl;
       whole = tt;
       cause = record { ok = tt; read = λ is. cc; write = λ is. cc; tree = λ is. cc };
       lent = balanced-none at.tree;
@@ -294,11 +309,13 @@ module _ (old new : TreeState) (used used' : Option Log) (taken errors taken' er
       → ((expansions : Expansions) → AreExpansions expansions → IfSome old.held (λ files. IfSome source (λ text.
       scripts.Leaves (ran_at width used) (seen_of (drawn_of source used) taken errors) came own new (seen_of (drawn_of source' used') taken' errors')
       (script_means expansions pages script (begun setup.shell old.home files text)))))
+      → ((expansions : Expansions) → AreExpansions expansions → IfSome old.held (λ files. IfSome source (λ text.
+      ChangesOnly (script_means expansions pages script (begun setup.shell old.home files text)).state.world.written old.held new.held)))
       → (IsGone came → IfSome new.held NoWriterOut) → HasCause came (faults_of 0 output said tree_faults) (faults_of 0 output' said' tree_faults')
       → Balanced old new → (left : Option (List ℕ)) (faults : ℕ)
       → RunsAs (λ reads. run_of (tries script setup text)) (point_of old (seen_of (drawn_of left used) taken errors) (faults_of faults output said tree_faults))
       result (point_of new (seen_of (drawn_of left used') taken' errors') (faults_of faults output' said' tree_faults'))
-  run-tried script setup text source source' source_is spread came result is meaning whole cause lent left faults =
+  run-tried script setup text source source' source_is spread came result is meaning kept whole cause lent left faults =
       subst (λ (it : Result Outcome Stop). RunsAs (λ reads. run_of (tries script setup text))
       (point_of old (seen_of (drawn_of left used) taken errors) (faults_of faults output said tree_faults)) it
       (point_of new (seen_of (drawn_of left used') taken' errors') (faults_of faults output' said' tree_faults'))) (sym is) (record {
@@ -313,6 +330,10 @@ module _ (old new : TreeState) (used used' : Option Log) (taken errors taken' er
             (came_of came status) new.held (seen_of (drawn_of left used) taken errors) (seen_of (drawn_of left used') taken' errors')) (sym spread)
             (comes-tried source source' left input left_is came (script_means expansions pages script (begun setup.shell old.home files text)) ends))
             (meaning expansions exps);
+        kept = λ reads are expansions exps.
+            over_own (λ files text. ChangesOnly (script_means expansions pages script (begun setup.shell old.home files text)).state.world.written old.held new.held)
+            (λ files input. ChangesOnly (run_of (tries script setup text) expansions (outside_of old.home files input)).world.written old.held new.held)
+            old.held source left text source_is (λ files input left_is only. only) (kept expansions exps);
         whole = whole-tried came whole;
         cause = stops-tried faults came cause;
         lent = lent;
@@ -404,6 +425,7 @@ module _ (means : Means) (old : Point) (outcome : Outcome) (tree : TreeState) (d
               old.tree.held old.seen.drawn.left
               (λ files text left. comes-told (means reads expansions (outside_of old.tree.home files text)) result is grew part left)
               (ran.comes reads are expansions exps);
+          kept = ran.kept;
           whole = whole-told result ran.whole;
           cause = stops-told result ran.cause.ok stops;
           lent = ran.lent;
@@ -427,6 +449,7 @@ run-untold means old new stopped came came_is came_so =
           (let run = means reads expansions (outside_of old.tree.home files text) in
           record { output = behind.output; errors = grew_by_front old.seen.errors new.seen.errors run.world.errors (line_of run.outcome.why) behind.errors }))
           (ran.comes reads are expansions exps);
+      kept = ran.kept;
       whole = tt;
       cause = ran.cause;
       lent = ran.lent;
@@ -475,6 +498,19 @@ module _ (start_by : Readings → Files → Components → Start) (start : Start
       (subst (λ (held : Option Files). IfSome held (λ files. IfSome seen.drawn.left (λ text.
       Comes (told (run_of start expansions (outside_of tree.home files text))) result new.tree.held seen new.seen))) lent.held ran))
 
+  kept-begun : (reads : Readings) (expansions : Expansions) (new : Option Files) → IfSome old.held (λ files. start ≡ start_by reads files old.home)
+      → IfSome tree.held (λ files. IfSome seen.drawn.left (λ text.
+      ChangesOnly (run_of start expansions (outside_of tree.home files text)).world.written tree.held new))
+      → IfSome old.held (λ files. IfSome seen.drawn.left (λ text.
+      ChangesOnly (run_of (start_by reads files old.home) expansions (outside_of old.home files text)).world.written old.held new))
+  kept-begun reads expansions new is ran =
+      with-start (λ it files text. ChangesOnly (run_of it expansions (outside_of old.home files text)).world.written old.held new)
+      reads old.home old.held seen.drawn.left is
+      (subst (λ (home : Components). IfSome old.held (λ files. IfSome seen.drawn.left (λ text.
+      ChangesOnly (run_of start expansions (outside_of home files text)).world.written old.held new))) lent.home
+      (subst (λ (held : Option Files). IfSome held (λ files. IfSome seen.drawn.left (λ text.
+      ChangesOnly (run_of start expansions (outside_of tree.home files text)).world.written held new))) lent.held ran))
+
   pub run-begun : (input output errors before now : ℕ) (result : Result Outcome Stop) (new : Point)
       → faults_of 0 0 0 now ≡ faults_of 0 0 0 before
       → ((reads : Readings) → AreOutcomes reads → IfSome old.held (λ files. start ≡ start_by reads files old.home))
@@ -484,6 +520,7 @@ module _ (start_by : Readings → Files → Components → Start) (start : Start
   run-begun input output errors before now result new calm is ran =
       record {
         comes = λ reads are expansions exps. comes-begun reads expansions result new (is reads are) (ran.comes reads are expansions exps);
+        kept = λ reads are expansions exps. kept-begun reads expansions new.tree.held (is reads are) (ran.kept reads are expansions exps);
         whole = ran.whole;
         cause = subst (λ (it : Faults). Stops (faults_of input output errors it.tree) new.faults result) calm ran.cause;
         lent = balanced-more old tree new.tree (balanced-only_lent old tree lent) ran.lent;
@@ -504,6 +541,8 @@ run-unbegun means old tree seen input output errors before now stopped lent {Beg
             output = grew_by_nothing seen.taken (means reads expansions (outside_of old.home files text)).world.output;
             errors = grew_by_nothing seen.errors (means reads expansions (outside_of old.home files text)).world.errors;
           });
+      kept = λ reads are expansions exps.
+          unchanged (λ files text. (means reads expansions (outside_of old.home files text)).world.written) old.held seen.drawn.left old.held tree.held lent.held;
       whole = tt;
       cause = record {
         ok = tt;

@@ -37,6 +37,7 @@ untouched outside =
     record {
       home = outside.home;
       files = outside.files;
+      written = [];
       input = outside.input;
       output = [];
       errors = [];

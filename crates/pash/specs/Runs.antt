@@ -10,6 +10,7 @@ use Rattle.ps_world.specs.declared.WorldErr.TheVariants as world
 use Rattle.sh_parse.specs.Outcomes.{AreOutcomes, Readings}
 use Rattle.sh_expand.specs.Outcomes.{AreExpansions, Expansions}
 use Rattle.fl_engines.specs.Logs.{with_words}
+use Rattle.fl_commands.specs.Writers.{ChangesOnly}
 use Rattle.sh_eval.specs.Contract.{Faults, Seen}
 use Rattle.sh_eval.specs.Scripts.{Stopped}
 use Rattle.sh_eval.specs.declared.outcomes.How.{How}
@@ -79,6 +80,10 @@ pub record RunsAs (means : Means) (old : Point) (result : Result Outcome Stop) (
   pub comes : (reads : Readings) → AreOutcomes reads → (expansions : Expansions) → AreExpansions expansions → IfSome old.tree.held
       (λ files. IfSome old.seen.drawn.left (λ input.
       Comes (means reads expansions (outside_of old.tree.home files input)) result new.tree.held old.seen new.seen))
+  -- whatever came, nothing else is changed than what it writes
+  pub kept : (reads : Readings) → AreOutcomes reads → (expansions : Expansions) → AreExpansions expansions → IfSome old.tree.held
+      (λ files. IfSome old.seen.drawn.left (λ input.
+      ChangesOnly (means reads expansions (outside_of old.tree.home files input)).world.written old.tree.held new.tree.held))
   -- no writer is out behind it
   pub whole : OnOk result (IfSome new.tree.held NoWriterOut)
   pub cause : Stops old.faults new.faults result

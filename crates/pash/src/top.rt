@@ -5,6 +5,7 @@ ghost use Rattle.ps_world.specs.Files.{NoWriterOut};
 ghost use Rattle.ps_world.specs.TreeState.{Balanced, OnlyLent};
 ghost use Rattle.sh_parse.specs.Outcomes.{AreOutcomes, Readings};
 ghost use Rattle.sh_expand.specs.Outcomes.{AreExpansions, Expansions};
+ghost use Rattle.fl_commands.specs.Writers.{ChangesOnly};
 ghost use Rattle.sh_eval.specs.Contract.{drawn_of, faults_of, seen_of};
 ghost use Rattle.sh_eval.specs.Scripts.{Stopped};
 ghost use Rattle.pash.specs.Answers.{HasFaultStatus, IsAnswer, IsWithoutScript};
@@ -32,7 +33,8 @@ use std::alloc::Global;
 ///
 /// After every answer but the faults and Memory, output and errors have grown by exactly the meaning's and were flushed. ReadFault comes only
 /// where the count of the input rose in this call, WriteFault only where that of the output or the errors rose, TreeFault only where the
-/// tree's did; after these and Memory, output and errors have grown by prefixes of the meaning's.
+/// tree's did; after these and Memory, output and errors have grown by prefixes of the meaning's. After any answer no path is changed that the
+/// meaning never writes.
 pub fn pash<T: Tree, I: Source + Send, O: Sink + Send, E: Sink, G: Gate, X: Engine>(
     alloc: Global,
     words: &[String],
@@ -57,6 +59,10 @@ pub fn pash<T: Tree, I: Source + Send, O: Sink + Send, E: Sink, G: Gate, X: Engi
         (seen_of (drawn_of (I.left input) (X.used engine.old)) (O.taken out) (E.taken err.old))
         (seen_of (drawn_of (I.left result.input) (X.used engine.new)) (O.taken result.out) (E.taken err.new))
         (meaning reads expansions (texts words.now) (outside_of (T.state tree.old).home files text)).world)) }
+    ensures kept { (reads : Readings) → AreOutcomes reads → (expansions : Expansions) → AreExpansions expansions →
+        IfSome (T.state tree.old).held (λ files. IfSome (I.left input) (λ text.
+        ChangesOnly (meaning reads expansions (texts words.now) (outside_of (T.state tree.old).home files text)).world.written
+        (T.state tree.old).held (T.state tree.new).held)) }
     ensures usage_only { result.why ≡ Why.Usage → command_of (texts words.now) ≡ None }
     ensures usage { IsAnswer result.why → IfNone (command_of (texts words.now)) (result.why ≡ Why.Usage) }
     ensures without_script { IsWithoutScript result.why → (result.input ≡ input) × OnlyLent (T.state tree.old) (T.state tree.new)

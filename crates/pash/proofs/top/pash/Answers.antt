@@ -19,3 +19,9 @@ returns-in-Ok-clause-status g c =
 
 pub returns-in-Err-clause-prefixes : goal.returns-in-Err-clause-prefixes
 returns-in-Err-clause-prefixes g c = prefixes-so (λ reads expansions. meaning reads expansions (texts c.args.words.now)) _ _ _ c.run_words-outcome.ensures.runs
+
+pub returns-in-Ok-clause-kept : goal.returns-in-Ok-clause-kept
+returns-in-Ok-clause-kept g c = c.run_words-outcome.ensures.runs.kept
+
+pub returns-in-Err-clause-kept : goal.returns-in-Err-clause-kept
+returns-in-Err-clause-kept g c = c.run_words-outcome.ensures.runs.kept

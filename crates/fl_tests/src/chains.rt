@@ -151,7 +151,20 @@ fn graph_of<H: Abort + Threads + Wait + Sync>(
 }
 
 /// A pipeline, and its graph at width 1.
-static GRAPHS: [(&str, &str); 10] = [
+static GRAPHS: [(&str, &str); 14] = [
+    ("cat", "0 Source [] [0]; 0 Sink [0] []; status 0"),
+    (
+        "grep x",
+        "0 Source [] [0]; 0 Whole grep x [0] [1]; 0 Sink [1] []; status of [1] 0 1",
+    ),
+    (
+        "grep -q x f no",
+        "0 Source /w/f [] [0]; 0 Whole grep -q x f  [0] [1]; 0 Sink [1] []; status of [1] 0 2",
+    ),
+    (
+        "grep -c x f no",
+        "0 Source /w/f [] [0]; 0 Whole grep -c x f  [0] [1]; 0 Sink [1] []; status 2",
+    ),
     (
         "cat f g | wc -l",
         "0 Source /w/f [] [0]; 0 Source /w/g [] [1]; 0 Cat [0, 1] [2]; 1 Whole wc -l [2] [3]; 1 Sink [3] []; status 0",
@@ -205,7 +218,104 @@ fn stages_have_their_nodes_in_order(rt: HostRuntime) -> Result<(), Fail> {
 }
 
 /// A width, a pipeline, and its graph at the width.
-static SPREAD: [(u32, &str, &str); 18] = [
+static SPREAD: [(u32, &str, &str); 39] = [
+    (2, "cat", "0 Source [] [0]; 0 Sink [0] []; status 0"),
+    (2, "cat f", "0 Source /w/f [] [0]; 0 Sink [0] []; status 0"),
+    (
+        2,
+        "grep x f",
+        "0 Source /w/f [] [0]; 0 Split [0] [1, 2]; 0 Map grep x f [1] [3]; 0 Map grep x f [2] [4]; 0 Cat [3, 4] [5]; 0 Sink [5] []; status of [2, 3] 0 1",
+    ),
+    (
+        3,
+        "wc f",
+        "0 Source /w/f [] [0]; 0 Split [0] [1, 2, 3]; 0 Map wc f [1] [4]; 0 Map wc f [2] [5]; 0 Map wc f [3] [6]; 0 Agg wc f [4, 5] [7]; 0 Agg wc f [7, 6] [8]; 0 Finish wc f [8] [9]; 0 Sink [9] []; status 0",
+    ),
+    (
+        2,
+        "tr -s a",
+        "0 Source [] [0]; 0 Split [0] [1, 2]; 0 Map tr -s a [1] [3]; 0 Map tr -s a [2] [4]; 0 Agg tr -s a [3, 4] [5]; 0 Sink [5] []; status 0",
+    ),
+    (
+        3,
+        "uniq -d f",
+        "0 Source /w/f [] [0]; 0 Split [0] [1, 2, 3]; 0 Map uniq -d f [1] [4]; 0 Map uniq -d f [2] [5]; 0 Map uniq -d f [3] [6]; 0 Agg uniq -d f [4, 5] [7]; 0 Agg uniq -d f [7, 6] [8]; 0 Finish uniq -d f [8] [9]; 0 Sink [9] []; status 0",
+    ),
+    (
+        2,
+        "sort -u f g",
+        "0 Source /w/f [] [0]; 0 Source /w/g [] [1]; 0 Cat closing [0, 1] [2]; 0 Split [2] [3, 4]; 0 Map sort -u f g [3] [5]; 0 Map sort -u f g [4] [6]; 0 Agg sort -u f g [5, 6] [7]; 0 Sink [7] []; status 0",
+    ),
+    (
+        4,
+        "head -n 1 f g",
+        "0 Source /w/f [] [0]; 0 Source /w/g [] [1]; 0 Whole head -n 1 f g [0, 1] [2]; 0 Sink [2] []; status 0",
+    ),
+    (
+        2,
+        "cat f f | grep x",
+        "0 Source /w/f [] [0]; 0 Source /w/f [] [1]; 0 Cat [0] [2]; 0 Cat [1] [3]; 1 Map grep x [2] [4]; 1 Map grep x [3] [5]; 1 Cat [4, 5] [6]; 1 Sink [6] []; status of [4, 5] 0 1",
+    ),
+    (
+        2,
+        "cat g f | grep x",
+        "0 Source /w/g [] [0]; 0 Source /w/f [] [1]; 0 Cat [0, 1] [2]; 1 Split [2] [3, 4]; 1 Map grep x [3] [5]; 1 Map grep x [4] [6]; 1 Cat [5, 6] [7]; 1 Sink [7] []; status of [4, 5] 0 1",
+    ),
+    (
+        2,
+        "cat f f g | tr a b",
+        "0 Source /w/f [] [0]; 0 Source /w/f [] [1]; 0 Source /w/g [] [2]; 0 Cat [0] [3]; 0 Cat [1, 2] [4]; 1 Map tr a b [3] [5]; 1 Map tr a b [4] [6]; 1 Cat [5, 6] [7]; 1 Sink [7] []; status 0",
+    ),
+    (
+        2,
+        "cat f - | sort",
+        "0 Source /w/f [] [0]; 0 Source [] [1]; 0 Cat [0, 1] [2]; 1 Split [2] [3, 4]; 1 Map sort [3] [5]; 1 Map sort [4] [6]; 1 Agg sort [5, 6] [7]; 1 Sink [7] []; status 0",
+    ),
+    (
+        2,
+        "cat /dev/null | uniq -c",
+        "0 Text [] [0]; 1 Split [0] [1, 2]; 1 Map uniq -c [1] [3]; 1 Map uniq -c [2] [4]; 1 Agg uniq -c [3, 4] [5]; 1 Sink [5] []; status 0",
+    ),
+    (
+        2,
+        "grep x f | cut -b 1 | sort | uniq -c",
+        "0 Source /w/f [] [0]; 0 Split [0] [1, 2]; 0 Map grep x f [1] [3]; 0 Map grep x f [2] [4]; 1 Map cut -b 1 [3] [5]; 1 Map cut -b 1 [4] [6]; 2 Map sort [5] [7]; 2 Map sort [6] [8]; 2 Agg sort [7, 8] [9]; 3 Split [9] [10, 11]; 3 Map uniq -c [10] [12]; 3 Map uniq -c [11] [13]; 3 Agg uniq -c [12, 13] [14]; 3 Sink [14] []; status 0",
+    ),
+    (
+        3,
+        "tr a b | grep -c b",
+        "0 Source [] [0]; 0 Split [0] [1, 2, 3]; 0 Map tr a b [1] [4]; 0 Map tr a b [2] [5]; 0 Map tr a b [3] [6]; 1 Map grep -c b [4] [7]; 1 Map grep -c b [5] [8]; 1 Map grep -c b [6] [9]; 1 Agg grep -c b [7, 8] [10]; 1 Agg grep -c b [10, 9] [11]; 1 Sink [11] []; status of [5, 6, 7] 0 1",
+    ),
+    (
+        2,
+        "sort -r | head -n 1",
+        "0 Source [] [0]; 0 Split [0] [1, 2]; 0 Map sort -r [1] [3]; 0 Map sort -r [2] [4]; 0 Agg sort -r [3, 4] [5]; 1 Split [5] [6, 7]; 1 Map head -n 1 [6] [8]; 1 Map head -n 1 [7] [9]; 1 Agg head -n 1 [8, 9] [10]; 1 Sink [10] []; status 0",
+    ),
+    (
+        2,
+        "paste f -",
+        "0 Source /w/f [] [0]; 0 Source [] [1]; 0 Whole paste f - [0, 1] [2]; 0 Sink [2] []; status 0",
+    ),
+    (
+        2,
+        "tail -n +2 f | wc -c",
+        "0 Source /w/f [] [0]; 0 Whole tail -n +2 f [0] [1]; 1 Split [1] [2, 3]; 1 Map wc -c [2] [4]; 1 Map wc -c [3] [5]; 1 Agg wc -c [4, 5] [6]; 1 Sink [6] []; status 0",
+    ),
+    (
+        2,
+        "cat | grep x f",
+        "0 Source [] [0]; 1 Drain [0] []; 1 Source /w/f [] [1]; 1 Split [1] [2, 3]; 1 Map grep x f [2] [4]; 1 Map grep x f [3] [5]; 1 Cat [4, 5] [6]; 1 Sink [6] []; status of [4, 5] 0 1",
+    ),
+    (
+        2,
+        "grep x | cat",
+        "0 Source [] [0]; 0 Split [0] [1, 2]; 0 Map grep x [1] [3]; 0 Map grep x [2] [4]; 1 Map cat [3] [5]; 1 Map cat [4] [6]; 1 Cat [5, 6] [7]; 1 Sink [7] []; status 0",
+    ),
+    (
+        2,
+        "cat | grep -q x",
+        "0 Source [] [0]; 1 Split [0] [1, 2]; 1 Map grep -q x [1] [3]; 1 Map grep -q x [2] [4]; 1 Cat [3, 4] [5]; 1 Sink [5] []; status of [2, 3] 0 1",
+    ),
     // Parts that are closed go on to the next stage as they are.
     (
         2,

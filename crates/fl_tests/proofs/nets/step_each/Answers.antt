@@ -17,13 +17,13 @@ step-requires-clause-fits c =
 pub loop-node-preserved : goal.loop-node-preserved
 loop-node-preserved c =
     let before = c.loop-node.invariant.1 in (
-      c.step.ensures.machines ∙ c.loop-node.invariant.0,
+      c.step.ensures.kept.machines ∙ c.loop-node.invariant.0,
       record {
         cells = before.cells;
         inputs = before.inputs;
         moves = if has_moved c.in-Ok.progress then suc before.moves else before.moves;
         failed = before.failed;
         over = c.in-Ok.ensures.over before.cells before.inputs before.moves before.failed before.over;
-        all_ports = ap (λ (ports : Vec Ports). length ports.items) c.step.ensures.ports ∙ before.all_ports ∙ sym c.step.ensures.machines;
+        all_ports = ap (λ (ports : Vec Ports). length ports.items) c.step.ensures.kept.ports ∙ before.all_ports ∙ sym c.step.ensures.kept.machines;
       },
     )

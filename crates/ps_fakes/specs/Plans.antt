@@ -12,7 +12,8 @@ is_planned fails call = list_any (λ number. nat_eq number call) fails
 abbrev pub fails_next : Plan → Bool
 fails_next plan = is_planned plan.fails.items plan.calls
 
--- one call more was made, by the same list
+-- one call more was made, by the same list and with the same delays
 pub record CountsCall (old new : Plan) : Type 0 where
   pub calls : new.calls ≡ one_more old.calls
   pub fails : new.fails ≡ old.fails
+  pub seed : new.seed ≡ old.seed

@@ -112,6 +112,7 @@ reads_of tree path = reads_at tree.read_plans.items path
 -- what was planned for the tree's calls and its readers stays
 pub record KeepsPlans (old new : MemTree) : Type 0 where
   pub fails : new.plan.fails ≡ old.plan.fails
+  pub seed : new.plan.seed ≡ old.plan.seed
   pub reads : new.read_plans ≡ old.read_plans
 
 -- the reader is one of these bytes that gives them as it is planned, before its first read

@@ -2,8 +2,8 @@
 //!
 //! Each keeps its trait's contract and tells its content. Its calls that answer a Result have numbers from 0: a call fails where its
 //! number is on the object's list, and the count of faults rises there. A number past the last call changes nothing. The `NoFail` objects
-//! are the same ones without such a list: their count is the constant 0. `DelayGate` and `DelayedSource` let others run, as a seed gives, where
-//! nodes begin and end and before reads.
+//! are the same ones without such a list: their count is the constant 0. `DelayGate` lets others run where nodes begin and end, as a seed gives;
+//! so do the calls of a source or a tree that was told to `delay`, and the reads of what such a tree lends.
 //!
 //! `specs/` has the words that callers' contracts cite: `Trees` for what a tree is made of, `Standing` and `Bounded` for what its maker
 //! owes, `Reads` for how the readers of a path give their bytes.
@@ -23,7 +23,7 @@ mod standing;
 mod stored;
 mod tree;
 
-pub use delays::{DelayGate, DelayedSource};
+pub use delays::DelayGate;
 pub use gates::OpenGate;
 pub use meet_gate::MeetGate;
 pub use no_fail::{NoFailSink, NoFailSource, NoFailTree, are_bounded};

@@ -100,6 +100,16 @@ impl MemSource {
         }
     }
 
+    /// From now on each read waits first, as long as this seed gives.
+    pub fn delay(&mut self, seed: u64)
+        ensures plan { self.new.plan ≡ record self.old.plan { seed = Some seed } }
+        ensures bytes { self.new.bytes ≡ self.old.bytes }
+        ensures at { self.new.at ≡ self.old.at }
+        ensures most { self.new.most ≡ self.old.most }
+    {
+        self.plan.delay(seed);
+    }
+
     /// How many of its reads have failed.
     pub fn faults(&self) -> u64
         ensures { result ≡ ⟦<MemSource as Source>⟧.faults self.now }

@@ -270,6 +270,15 @@ impl MemTree {
         Ok(())
     }
 
+    /// From now on each of its calls that answers a Result waits first, and each read of the readers that it lends, as long as this seed gives.
+    pub fn delay(&mut self, seed: u64)
+        ensures plan { self.new.plan ≡ record self.old.plan { seed = Some seed } }
+        ensures reads { self.new.read_plans ≡ self.old.read_plans }
+        ensures state { ⟦<MemTree as Tree>⟧.state self.new ≡ ⟦<MemTree as Tree>⟧.state self.old }
+    {
+        self.plan.delay(seed);
+    }
+
     /// Counts a reader or writer that is lent.
     fn count_lent(&mut self)
         ensures { self.new ≡ record self.old { lent = one_more self.old.lent } }
@@ -342,7 +351,9 @@ impl MemTree {
         let reads = reads_at(self.read_plans.as_slice(), path);
         let bytes = Vec::from_slice(alloc, bytes_at(self.stored.as_slice(), path))?;
         let fails = listed(alloc, reads.fail_at)?;
-        Ok(MemSource::in_pieces(bytes, reads.most, fails))
+        let mut reader = MemSource::in_pieces(bytes, reads.most, fails);
+        reader.plan.seed = self.plan.lent_seed();
+        Ok(reader)
     }
 }
 

@@ -446,6 +446,7 @@ fn a_source_gives_its_bytes(rt: HostRuntime) -> Result<(), Fail> {
     assert_eq!(rt; source.faults(), 1);
     let bytes = Vec::from_slice(alloc, b"abc")?;
     let mut slow = MemSource::in_pieces(bytes, 2, Vec::new(alloc));
+    slow.delay(7);
     read_once(&rt, &mut slow, Some(b"ab"));
     read_once(&rt, &mut slow, Some(b"c"));
     let mut stuck = MemSource::in_pieces(Vec::from_slice(alloc, b"a")?, 0, Vec::new(alloc));
@@ -515,6 +516,7 @@ fn a_tree_fails_where_planned(rt: HostRuntime) -> Result<(), Fail> {
     assert_eq!(rt; (tree.lent(), tree.back(), tree.faults()), (1, 1, 2));
     assert!(rt; look(alloc, &mut tree, b"a").is_err());
     tree.plan(b"/w/a", 9, None)?;
+    tree.delay(7);
     read_file(
         &rt,
         &mut tree,

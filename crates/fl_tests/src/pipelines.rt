@@ -279,7 +279,7 @@ fn members_run_over_what_the_ones_before_write(rt: HostRuntime) -> Result<(), Fa
 #[test]
 fn members_on_threads_write_what_they_write_in_turn(rt: HostRuntime) -> Result<(), Fail> {
     for &row in PIPELINES.iter() {
-        for width in [1, 2, 16] {
+        for width in [1, 2, 4, 16] {
             let is_right = runs_on_threads(&rt, rt.alloc(), width, row)?;
             assert!(rt; is_right, "{} at {width}", row.0);
         }

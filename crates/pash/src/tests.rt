@@ -22,6 +22,9 @@ use std::sync::Wait;
 use std::test::Fail;
 use std::thread::Threads;
 
+/// The widths at which rows are run, as words.
+static WIDTHS: [&str; 5] = ["1", "2", "3", "4", "16"];
+
 /// A path of the tree, and a file's bytes.
 type Entry<'a> = (&'a [u8], Option<&'a [u8]>);
 

@@ -1,12 +1,9 @@
 //! Scripts over a file of their own: what they tell at each width, and what they leave in it.
-use super::{Entry, Failing, finished, repeated, run};
+use super::{Entry, Failing, WIDTHS, finished, repeated, run};
 use std::process::Abort;
 use std::sync::Wait;
 use std::test::Fail;
 use std::thread::Threads;
-
-/// The widths at which a row is run, as words.
-static WIDTHS: [&str; 4] = ["1", "2", "3", "4"];
 
 /// The bytes of the file `f`, a script, its output and errors, and the file's bytes behind it.
 type Row<'a> = (&'a str, &'a str, &'a str, &'a str, &'a str);

@@ -1,5 +1,5 @@
 //! What is told of a script that isn't run, or not run further.
-use super::{Entry, Failing, INPUT, Reply, finished, refused, repeated, run};
+use super::{Entry, Failing, INPUT, Reply, WIDTHS, finished, refused, repeated, run};
 use ps_lines::Text;
 use sh_eval::Refusal;
 use std::process::Abort;
@@ -7,17 +7,22 @@ use std::sync::Wait;
 use std::test::Fail;
 use std::thread::Threads;
 
-/// The script isn't run: this is told, and nothing else is read or written.
+/// The bytes of the file `f`.
+const FILE: &[u8] = b"k\n";
+
+/// The script isn't run at any width: this is told, and nothing else is read or written.
 fn tells<R: Abort + AllocGlobal + Threads + Wait + Sync>(
     rt: &R,
     script: &[u8],
     reply: &Reply,
 ) -> Result<(), Fail> {
     let entries = [(b"/w/s".as_slice(), Some(script))];
-    let mut ran = run(rt, &["run", "2", "s"], &entries, Failing::Nothing)?;
-    assert!(rt; ran.is(reply), "{script:?} ended with {:?}", ran.why);
-    assert_eq!(rt; (ran.tree.lent(), ran.tree.back()), (1, 1), "{script:?}");
-    assert!(rt; ran.has_left(INPUT), "{script:?}");
+    for width in WIDTHS {
+        let mut ran = run(rt, &["run", width, "s"], &entries, Failing::Nothing)?;
+        assert!(rt; ran.is(reply), "{script:?} ended with {:?}", ran.why);
+        assert_eq!(rt; (ran.tree.lent(), ran.tree.back()), (1, 1), "{script:?}");
+        assert!(rt; ran.has_left(INPUT), "{script:?}");
+    }
     Ok(())
 }
 
@@ -124,16 +129,20 @@ fn a_comment_counts_to_the_length_of_a_script(rt: HostRuntime) -> Result<(), Fai
     tells_of_comment(&rt, 1_048_576, &too_long)
 }
 
-/// The script is refused in the middle: what it did before stays.
+/// The script is refused in the middle, at every width: what it did before stays, and this is in the file `f`.
 fn tells_behind<R: Abort + AllocGlobal + Threads + Wait + Sync>(
     rt: &R,
     script: &[u8],
     reply: &Reply,
+    left: &[u8],
 ) -> Result<(), Fail> {
-    let entries: [Entry; 2] = [(b"/w/s", Some(script)), (b"/w/f", Some(b"k\n"))];
-    let ran = run(rt, &["run", "2", "s"], &entries, Failing::Nothing)?;
-    assert!(rt; ran.is(reply), "{script:?} ended with {:?}", ran.why);
-    assert_eq!(rt; ran.tree.lent(), ran.tree.back(), "{script:?}");
+    let entries: [Entry; 2] = [(b"/w/s", Some(script)), (b"/w/f", Some(FILE))];
+    for width in WIDTHS {
+        let ran = run(rt, &["run", width, "s"], &entries, Failing::Nothing)?;
+        assert!(rt; ran.is(reply), "{script:?} ended with {:?}", ran.why);
+        assert!(rt; ran.tree.file(b"/w/f")? == Some(left), "{script:?}");
+        assert_eq!(rt; ran.tree.lent(), ran.tree.back(), "{script:?}");
+    }
     Ok(())
 }
 
@@ -148,6 +157,7 @@ fn commands_are_refused_in_the_middle(rt: HostRuntime) -> Result<(), Fail> {
             b"pash: refused: UnknownCommand sleep\n",
             Refusal::UnknownCommand(sleep),
         ),
+        FILE,
     )?;
     let sort = Text::copy_of(rt.alloc(), b"sort")?;
     tells_behind(
@@ -158,6 +168,7 @@ fn commands_are_refused_in_the_middle(rt: HostRuntime) -> Result<(), Fail> {
             b"pash: refused: UnsupportedFlag sort c\n",
             Refusal::UnsupportedFlag(sort, b'c'),
         ),
+        FILE,
     )?;
     let pattern = Text::copy_of(rt.alloc(), b"\\(a\\)\\1")?;
     tells_behind(
@@ -168,24 +179,25 @@ fn commands_are_refused_in_the_middle(rt: HostRuntime) -> Result<(), Fail> {
             b"pash: refused: UnsupportedPattern \\(a\\)\\1\n",
             Refusal::UnsupportedPattern(pattern),
         ),
+        FILE,
     )
+}
+
+/// The script is refused since it writes and reads `f` at once, and leaves this in it.
+fn tells_busy<R: Abort + AllocGlobal + Threads + Wait + Sync>(
+    rt: &R,
+    script: &[u8],
+    left: &[u8],
+) -> Result<(), Fail> {
+    let busy = Text::copy_of(rt.alloc(), b"f")?;
+    let reply = refused(b"", b"pash: refused: PathBusy f\n", Refusal::PathBusy(busy));
+    tells_behind(rt, script, &reply, left)
 }
 
 /// A file that is written and read at once stays as it is, or as the redirection around has left it.
 #[test]
 fn a_busy_path_is_refused(rt: HostRuntime) -> Result<(), Fail> {
-    let rows: [(&[u8], &[u8]); 3] = [
-        (b"cat f > f", b"k\n"),
-        (b"{ cat f; } > f", b""),
-        (b"tee f f", b"k\n"),
-    ];
-    for (script, left) in rows {
-        let entries: [Entry; 2] = [(b"/w/s", Some(script)), (b"/w/f", Some(b"k\n"))];
-        let ran = run(&rt, &["run", "2", "s"], &entries, Failing::Nothing)?;
-        let busy = Text::copy_of(rt.alloc(), b"f")?;
-        let reply = refused(b"", b"pash: refused: PathBusy f\n", Refusal::PathBusy(busy));
-        assert!(rt; ran.is(&reply), "{script:?} ended with {:?}", ran.why);
-        assert!(rt; ran.tree.file(b"/w/f")? == Some(left), "{script:?}");
-    }
-    Ok(())
+    tells_busy(&rt, b"cat f > f", FILE)?;
+    tells_busy(&rt, b"{ cat f; } > f", b"")?;
+    tells_busy(&rt, b"tee f f", FILE)
 }

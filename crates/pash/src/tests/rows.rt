@@ -1,5 +1,7 @@
 //! What scripts and words tell, where nothing fails.
-use super::{Entry, Failing, INPUT, Reply, finished, in_turn, refused, repeated, run, run_on};
+use super::{
+    Entry, Failing, INPUT, Reply, WIDTHS, finished, in_turn, refused, repeated, run, run_on,
+};
 use crate::answers::Why;
 use ps_fakes::MemTree;
 use ps_lines::Text;
@@ -8,9 +10,6 @@ use std::process::Abort;
 use std::sync::Wait;
 use std::test::Fail;
 use std::thread::Threads;
-
-/// The widths at which a row is run, as words.
-static WIDTHS: [&str; 3] = ["1", "2", "4"];
 
 /// A script with the arguments `A` and `b c` tells this at every width, over a few files.
 fn tells_script<R: Abort + AllocGlobal + Threads + Wait + Sync>(
@@ -288,22 +287,41 @@ fn redirections_are_done(rt: HostRuntime) -> Result<(), Fail> {
     )
 }
 
-/// What a script leaves in its files, and of its input.
-#[test]
-fn files_and_input_are_left(rt: HostRuntime) -> Result<(), Fail> {
+/// What a script leaves in its files, and of its input, which it doesn't read.
+fn leaves_files<R: Abort + AllocGlobal + Threads + Wait + Sync>(
+    rt: &R,
+    width: &str,
+) -> Result<(), Fail> {
     let entries: [Entry; 2] = [
         (b"/w/s", Some(b"sort b | tail -n +2 > f; cat b >> f")),
         (b"/w/b", Some(b"y\nx\n")),
     ];
-    let mut ran = run(&rt, &["run", "1", "s"], &entries, Failing::Nothing)?;
+    let mut ran = run(rt, &["run", width, "s"], &entries, Failing::Nothing)?;
     assert!(rt; ran.is(&finished(b"", b"", 0)), "{:?}", ran.why);
     assert!(rt; ran.tree.file(b"/w/f")? == Some(b"y\ny\nx\n"));
     assert!(rt; ran.tree.file(b"/w/b")? == Some(b"y\nx\n"));
     assert!(rt; ran.has_left(INPUT));
+    Ok(())
+}
+
+/// A script that reads its input leaves nothing of it.
+fn leaves_no_input<R: Abort + AllocGlobal + Threads + Wait + Sync>(
+    rt: &R,
+    width: &str,
+) -> Result<(), Fail> {
     let entries: [Entry; 1] = [(b"/w/s", Some(b"read -r x; echo \"<$x>\"; cat"))];
-    let mut ran = run(&rt, &["run", "1", "s"], &entries, Failing::Nothing)?;
+    let mut ran = run(rt, &["run", width, "s"], &entries, Failing::Nothing)?;
     assert!(rt; ran.is(&finished(b"<in>\n", b"", 0)), "{:?}", ran.why);
     assert!(rt; ran.has_left(b""));
+    Ok(())
+}
+
+#[test]
+fn files_and_input_are_left(rt: HostRuntime) -> Result<(), Fail> {
+    for width in WIDTHS {
+        leaves_files(&rt, width)?;
+        leaves_no_input(&rt, width)?;
+    }
     Ok(())
 }
 
@@ -348,6 +366,19 @@ fn tells<R: Abort + AllocGlobal + Threads + Wait + Sync>(
     let ran = run(rt, words, entries, Failing::Nothing)?;
     assert!(rt; ran.is(reply), "{words:?} ended with {:?}", ran.why);
     assert_eq!(rt; ran.tree.lent(), ran.tree.back(), "{words:?}");
+    Ok(())
+}
+
+/// A script of this name, run at every width, does so.
+fn tells_at_widths<R: Abort + AllocGlobal + Threads + Wait + Sync>(
+    rt: &R,
+    name: &str,
+    entries: &[Entry],
+    reply: &Reply,
+) -> Result<(), Fail> {
+    for width in WIDTHS {
+        tells(rt, &["run", width, name], entries, reply)?;
+    }
     Ok(())
 }
 
@@ -403,7 +434,7 @@ fn tells_unread<R: Abort + AllocGlobal + Threads + Wait + Sync>(
 fn a_seed_gives_a_text(rt: HostRuntime) -> Result<(), Fail> {
     tells_unread(&rt, &["gen", "0", "2"], b"gb ac eb\nbd cc gb\n")?;
     tells_unread(&rt, &["gen", "4294967295", "1"], b"fc hc da\n")?;
-    for width in ["1", "3", "16"] {
+    for width in WIDTHS {
         tells_unread(&rt, &["trial", "0", "2", width], b"2 gb\n1 eb\n1 cc\n")?;
         tells_unread(&rt, &["trial", "7", "200", width], b"27 ga\n27 eb\n26 bc\n")?;
     }
@@ -418,7 +449,7 @@ fn a_script_that_is_not_there(rt: HostRuntime) -> Result<(), Fail> {
         status: 2,
         why: Why::NoScript(Text::copy_of(rt.alloc(), b"none")?),
     };
-    tells(&rt, &["run", "2", "none"], &[], &reply)
+    tells_at_widths(&rt, "none", &[], &reply)
 }
 
 /// A script of so many operands, each the same file of one line.
@@ -430,13 +461,8 @@ fn tells_of_operands<R: Abort + AllocGlobal + Threads + Wait + Sync>(
     let alloc = rt.alloc();
     let mut script = Vec::from_slice(alloc, b"cat")?;
     script.extend_from_slice(repeated(alloc, b" a", operands)?.as_slice())?;
-    let script = script.as_slice();
-    tells(
-        rt,
-        &["run", "2", "s"],
-        &[(b"/w/s", Some(script)), (b"/w/a", Some(b"x1\n"))],
-        reply,
-    )
+    let entries: [Entry; 2] = [(b"/w/s", Some(script.as_slice())), (b"/w/a", Some(b"x1\n"))];
+    tells_at_widths(rt, "s", &entries, reply)
 }
 
 #[test]

@@ -3,10 +3,10 @@ ghost use Rattle.std.specs.Prelude.{◌≡◌, ◌⊎◌, IfOk, IfSome};
 ghost use Rattle.ps_world.specs.Files.{NoWriterOut};
 ghost use Rattle.pash.specs.Answers.{IsAnswer};
 
-use super::{Entry, Reply, finished, in_turn, owned_words};
+use super::{Entry, Reply, WIDTHS, finished, in_turn, owned_words};
 use crate::answers::Why;
 use crate::top::pash;
-use fl_engines::Engine;
+use fl_engines::{Engine, OnThreads};
 use ps_fakes::{NoFailSink, NoFailSource, NoFailTree, OpenGate};
 use ps_world::Tree;
 use std::alloc::{AllocError, Global};
@@ -55,16 +55,39 @@ fn run_on<X: Engine>(
     })
 }
 
-/// The script `s` tells this.
+/// The script `s` tells this, in turn and on threads.
 fn tells<R: Abort + AllocGlobal + Threads + Wait + Sync>(
     rt: &R,
     entries: &[Entry],
     reply: &Reply,
 ) -> Result<(), Fail> {
     let alloc = rt.alloc();
+    tells_on(rt, alloc, "2", entries, reply, &mut in_turn(rt, alloc))?;
+    for width in WIDTHS {
+        tells_on(
+            rt,
+            alloc,
+            width,
+            entries,
+            reply,
+            &mut OnThreads::new(rt, alloc),
+        )?;
+    }
+    Ok(())
+}
+
+/// It does so at a width, on an engine.
+fn tells_on<X: Engine>(
+    rt: &impl Abort,
+    alloc: Global,
+    width: &str,
+    entries: &[Entry],
+    reply: &Reply,
+    engine: &mut X,
+) -> Result<(), Fail> {
     let tree = NoFailTree::of_table(alloc, b"/w", entries)?;
     let tree = tree.expect(rt, "the entries make a tree");
-    let ran = run_on(alloc, &["run", "2", "s"], tree, &mut in_turn(rt, alloc))?;
+    let ran = run_on(alloc, &["run", width, "s"], tree, engine)?;
     assert!(rt; ran.out.sent() == reply.output, "{:?}", ran.why);
     assert!(rt; ran.err.sent() == reply.errors, "{:?}", ran.why);
     assert!(rt; ran.why == reply.why && ran.status == reply.status);

@@ -18,6 +18,10 @@ use std::alloc::Global;
 /// The most steps that a node makes before the next has its turn.
 const STEPS_OF_A_TURN: u32 = 1024;
 
+/// The most steps of a turn of a node that reads from outside: it reads a piece, takes it and puts it. What it read further ahead would only
+/// wait: an edge into a node of several ins has no bound.
+const STEPS_OF_A_SOURCE: u32 = 3;
+
 /// The edges of a node, in the order of its ports.
 ///
 /// A node that reads has one in, on which the network puts what comes from outside, and one that writes has its first out to there.
@@ -198,7 +202,7 @@ impl<M: Machine> Net<M> {
         }
     }
 
-    /// Lets a node go on for so many steps at most, as long as it can; answers whether it could do anything, and where it couldn't, nothing has
+    /// Lets a node go on for as many steps at most as a turn has, as long as it can; answers whether it could do anything, and where it couldn't, nothing has
     /// changed.
     fn run_node<E: NodeEnds>(
         &mut self,
@@ -227,7 +231,12 @@ impl<M: Machine> Net<M> {
             Ok(false) => return Ok(false),
             Err(halt) => return Err(halt),
         }
-        for _ in 1..STEPS_OF_A_TURN {
+        let steps = if self.reads(node) {
+            STEPS_OF_A_SOURCE
+        } else {
+            STEPS_OF_A_TURN
+        };
+        for _ in 1..steps {
             match self.turn(alloc, node, ends, buffer) {
                 Ok(true) => continue,
                 Ok(false) => break,

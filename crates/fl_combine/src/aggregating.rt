@@ -5,9 +5,9 @@ ghost use Rattle.fl_graph.specs.Net.{gives};
 ghost use Rattle.fl_graph.specs.Valid.{Valid};
 ghost use Rattle.fl_rewrites.specs.Joined.{map_cells};
 ghost use Rattle.fl_rewrites.specs.Keeps.{Answers, KeepsFlow};
-ghost use Rattle.fl_rewrites.specs.Known.{is_known as is_known_lem};
-ghost use Rattle.fl_segments.specs.Stages.{has_finish as has_finish_lem};
-ghost use Rattle.fl_combine.specs.Aggregating.{agg_cell, aggregate_at as aggregate_at_lem, aggregated, behind_maps, finish_cell, may_aggregate as may_aggregate_lem};
+ghost use Rattle.fl_rewrites.specs.Known.{is_known as is_known_def};
+ghost use Rattle.fl_segments.specs.Stages.{has_finish as has_finish_def};
+ghost use Rattle.fl_combine.specs.Aggregating.{agg_cell, aggregate_at as aggregate_at_def, aggregated, behind_maps, finish_cell, may_aggregate as may_aggregate_def};
 
 use fl_graph::{Graph, Node, NodeKind, Seq};
 use fl_rewrites::{
@@ -36,7 +36,7 @@ pub fn map_aggregate(alloc: Global, graph: Graph, node: u32) -> Rewritten
 
 /// What comes in the place of the Whole with this number, where it may.
 fn aggregate_at(alloc: Global, nodes: &[Node], node: u32) -> Result<Option<Unjoined>, Memory>
-    ensures { IfOk result (λ new. new ≡ aggregate_at_lem nodes.now node) }
+    ensures { IfOk result (λ new. new ≡ aggregate_at_def nodes.now node) }
 {
     let Some(at) = joined_at(nodes, node) else {
         return Ok(None);
@@ -50,7 +50,7 @@ fn aggregate_at(alloc: Global, nodes: &[Node], node: u32) -> Result<Option<Unjoi
 
 /// Whether the maps of these parts may be aggregated.
 fn may_aggregate(alloc: Global, nodes: &[Node], inv: &Inv, parts: &[u32]) -> Result<bool, Memory>
-    ensures { IfOk result (λ may. may ≡ may_aggregate_lem inv.now parts.now (is_known_lem nodes.now parts.now)) }
+    ensures { IfOk result (λ may. may ≡ may_aggregate_def inv.now parts.now (is_known_def nodes.now parts.now)) }
 {
     match class(inv) {
         Class::P => {
@@ -69,7 +69,7 @@ fn aggregate(alloc: Global, nodes: &[Node], at: &JoinedNodes) -> Result<Unjoined
       cat = at.now.cat;
       named = length at.now.parts.now;
       nodes = map_cells at.now.inv.now at.now.stage (length (gives nodes.now)) at.now.parts.now
-          ++ behind_maps (has_finish_lem at.now.inv.now) at.now.inv.now at.now.stage (length (gives nodes.now)) (length at.now.parts.now) at.now.outs.now;
+          ++ behind_maps (has_finish_def at.now.inv.now) at.now.inv.now at.now.stage (length (gives nodes.now)) (length at.now.parts.now) at.now.outs.now;
     }) }
 {
     let Some(next) = edge_count(nodes) else {
@@ -102,7 +102,7 @@ fn put_behind(
     outs: &[u32],
 ) -> Result<(), Memory>
     ensures { (next count : ℕ) → ins.items ≡ range_with_len next count → last ≡ next + count →
-        OnOk result (nodes.new.items ≡ nodes.old.items ++ behind_maps (has_finish_lem inv.now) inv.now stage next count outs.now) }
+        OnOk result (nodes.new.items ≡ nodes.old.items ++ behind_maps (has_finish_def inv.now) inv.now stage next count outs.now) }
 {
     if has_finish(inv) {
         push_agg(alloc, nodes, inv, stage, ins, &[last])?;
@@ -113,7 +113,7 @@ fn put_behind(
 
 /// Whether the output isn't the map of the whole input: of wc with an operand, and of uniq with `-d` or `-u`.
 fn has_finish(inv: &Inv) -> bool
-    ensures { result ≡ has_finish_lem inv.now }
+    ensures { result ≡ has_finish_def inv.now }
 {
     match inv {
         Inv::Wc(wc) => !wc.args.operands.as_slice().is_empty(),

@@ -5,7 +5,7 @@ ghost use Rattle.fl_graph.specs.Valid.{Valid};
 ghost use Rattle.fl_rewrites.specs.Keeps.{Answers, KeepsFlow};
 ghost use Rattle.fl_segments.specs.Inner.Steps.{tree_over};
 ghost use Rattle.fl_combine.specs.Aggregating.{agg_cell};
-ghost use Rattle.fl_combine.specs.Fanning.{fanned, root as root_lem, tree_at as tree_at_lem, tree_cells, tree_for as tree_for_lem};
+ghost use Rattle.fl_combine.specs.Fanning.{fanned, root as root_def, tree_at as tree_at_def, tree_cells, tree_for as tree_for_def};
 
 use crate::aggregating::push_agg;
 use fl_graph::{Graph, Node, NodeKind, Seq};
@@ -32,7 +32,7 @@ pub fn fan_in(alloc: Global, graph: Graph, node: u32) -> Rewritten
 
 /// What comes in the place of the aggregate with this number, where it may.
 fn tree_at(alloc: Global, nodes: &[Node], node: u32) -> Result<Option<Seq<Node>>, Memory>
-    ensures { IfOk result (λ new. new ≡ tree_at_lem nodes.now node) }
+    ensures { IfOk result (λ new. new ≡ tree_at_def nodes.now node) }
 {
     let Some(cell) = nodes.get(node as usize) else {
         return Ok(None);
@@ -42,7 +42,7 @@ fn tree_at(alloc: Global, nodes: &[Node], node: u32) -> Result<Option<Seq<Node>>
 
 /// What comes in the place of this node, where it may.
 fn tree_for(alloc: Global, nodes: &[Node], cell: &Node) -> Result<Option<Seq<Node>>, Memory>
-    ensures { IfOk result (λ new. new ≡ tree_for_lem (length (gives nodes.now)) cell.now cell.now.kind) }
+    ensures { IfOk result (λ new. new ≡ tree_for_def (length (gives nodes.now)) cell.now cell.now.kind) }
 {
     match &cell.kind {
         NodeKind::Agg(inv) => {
@@ -117,7 +117,7 @@ fn put_tree(
 /// The edge that the tree over these edges gives, where the edges of its own have the numbers from this one on.
 #[tactic(auto, using(crate::proofs::TreeLemmas::root_laws))]
 fn root(edges: &[u32], next: u32) -> u32
-    ensures { result ≡ root_lem (tree_over edges.now) next }
+    ensures { result ≡ root_def (tree_over edges.now) next }
 {
     if edges.len() < 2 {
         first_of(edges)

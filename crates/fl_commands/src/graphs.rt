@@ -8,7 +8,7 @@ ghost use Rattle.ps_world.specs.Places.{resolve};
 ghost use Rattle.ps_world.specs.TreeState.{Balanced, TreeState};
 ghost use Rattle.fl_graph.specs.Paths.{paths_written};
 ghost use Rattle.fl_graph.specs.Valid.{Valid};
-ghost use Rattle.fl_commands.specs.Graphs.{Executes, begun_at, begun_for, files_begun, first_lacking as first_lacking_lem, has_patterns as has_patterns_lem, is_file as is_file_lem, is_target as is_target_lem, lacking as lacking_lem, read_all_patterns as read_all_patterns_lem, reads_patterns as reads_patterns_lem, target as target_lem, unless as unless_lem};
+ghost use Rattle.fl_commands.specs.Graphs.{Executes, begun_at, begun_for, files_begun, first_lacking as first_lacking_def, has_patterns as has_patterns_def, is_file as is_file_def, is_target as is_target_def, lacking as lacking_def, read_all_patterns as read_all_patterns_def, reads_patterns as reads_patterns_def, target as target_def, unless as unless_def};
 ghost use Rattle.fl_commands.specs.Inner.Begun.{AllCanBegin, CanBegin, aimed_at};
 ghost use Rattle.fl_commands.specs.Runs.{counts_of};
 ghost use Rattle.fl_commands.specs.Writers.{ChangesOnly};
@@ -24,7 +24,7 @@ use ut_grep::first_faulty;
 
 /// Whether all patterns of a graph's maps and wholes of `grep` are read. Of one that isn't no stream can be made.
 pub fn read_all_patterns(alloc: Global, nodes: &[Node]) -> Result<bool, Memory>
-    ensures { IfOk result (λ all. all ≡ read_all_patterns_lem nodes.now) }
+    ensures { IfOk result (λ all. all ≡ read_all_patterns_def nodes.now) }
 {
     for node in nodes {
         if !reads_patterns(alloc, &node.kind)? {
@@ -36,7 +36,7 @@ pub fn read_all_patterns(alloc: Global, nodes: &[Node]) -> Result<bool, Memory>
 
 /// Whether the patterns of a node of this kind are read, where it has some.
 fn reads_patterns(alloc: Global, kind: &NodeKind) -> Result<bool, Memory>
-    ensures { IfOk result (λ all. all ≡ reads_patterns_lem kind.now) }
+    ensures { IfOk result (λ all. all ≡ reads_patterns_def kind.now) }
 {
     match kind {
         NodeKind::Map(inv) => has_patterns(alloc, inv),
@@ -47,7 +47,7 @@ fn reads_patterns(alloc: Global, kind: &NodeKind) -> Result<bool, Memory>
 
 /// Whether the patterns of an invocation are read, where it has some.
 fn has_patterns(alloc: Global, inv: &Inv) -> Result<bool, Memory>
-    ensures { IfOk result (λ all. all ≡ has_patterns_lem inv.now) }
+    ensures { IfOk result (λ all. all ≡ has_patterns_def inv.now) }
 {
     match inv {
         Inv::Grep(grep) => Ok(first_faulty(alloc, grep)?.is_none()),
@@ -63,7 +63,7 @@ pub fn first_lacking<'graph, T: Tree>(
     nodes: &'graph [Node],
     tree: &mut T,
 ) -> Result<Option<&'graph Path>, WorldErr>
-    ensures lacking { IfOk result (λ found. IfSome (T.state tree.old).held (λ files. option_copied found ≡ first_lacking_lem files (T.state tree.old).home nodes.now)) }
+    ensures lacking { IfOk result (λ found. IfSome (T.state tree.old).held (λ files. option_copied found ≡ first_lacking_def files (T.state tree.old).home nodes.now)) }
     ensures state { T.state tree.new ≡ T.state tree.old }
     ensures cause { Counts (T.faults tree.old) (T.faults tree.new) result }
 {
@@ -83,7 +83,7 @@ fn lacking<'graph, T: Tree>(
     kind: &'graph NodeKind,
     tree: &mut T,
 ) -> Result<Option<&'graph Path>, WorldErr>
-    ensures lacking { IfOk result (λ found. IfSome (T.state tree.old).held (λ files. option_copied found ≡ lacking_lem files (T.state tree.old).home kind.now)) }
+    ensures lacking { IfOk result (λ found. IfSome (T.state tree.old).held (λ files. option_copied found ≡ lacking_def files (T.state tree.old).home kind.now)) }
     ensures state { T.state tree.new ≡ T.state tree.old }
     ensures cause { Counts (T.faults tree.old) (T.faults tree.new) result }
 {
@@ -103,7 +103,7 @@ fn unread<'graph, T: Tree>(
     tree: &mut T,
 ) -> Result<Option<&'graph Path>, WorldErr>
     ensures unread { IfOk result (λ found. IfSome (T.state tree.old).held (λ files.
-        option_copied found ≡ unless_lem (is_file_lem path.now (resolve files (T.state tree.old).home (spelled path.now))) path.now)) }
+        option_copied found ≡ unless_def (is_file_def path.now (resolve files (T.state tree.old).home (spelled path.now))) path.now)) }
     ensures state { T.state tree.new ≡ T.state tree.old }
     ensures cause { Counts (T.faults tree.old) (T.faults tree.new) result }
 {
@@ -118,7 +118,7 @@ fn unmade<'graph, T: Tree>(
     tree: &mut T,
 ) -> Result<Option<&'graph Path>, WorldErr>
     ensures unmade { IfOk result (λ found. IfSome (T.state tree.old).held (λ files.
-        option_copied found ≡ unless_lem (is_target_lem path.now (resolve files (T.state tree.old).home (spelled path.now))) path.now)) }
+        option_copied found ≡ unless_def (is_target_def path.now (resolve files (T.state tree.old).home (spelled path.now))) path.now)) }
     ensures state { T.state tree.new ≡ T.state tree.old }
     ensures cause { Counts (T.faults tree.old) (T.faults tree.new) result }
 {
@@ -138,7 +138,7 @@ fn named<T: Tree>(alloc: Global, path: &Path, tree: &mut T) -> Result<Place, Wor
 
 /// Whether what the text of a path names is the file at this path.
 fn is_file(path: &Path, place: &Place) -> bool
-    ensures { result ≡ is_file_lem path.now place.now }
+    ensures { result ≡ is_file_def path.now place.now }
 {
     match place {
         Place::File(found) => found == path,
@@ -148,7 +148,7 @@ fn is_file(path: &Path, place: &Place) -> bool
 
 /// Whether it is, or one can be made there.
 fn is_target(path: &Path, place: &Place) -> bool
-    ensures { result ≡ is_target_lem path.now place.now }
+    ensures { result ≡ is_target_def path.now place.now }
 {
     match place {
         Place::Makeable(found) => found == path,
@@ -159,7 +159,7 @@ fn is_target(path: &Path, place: &Place) -> bool
 
 /// The path, where the test fails.
 fn unless<'graph>(passes: bool, path: &'graph Path) -> Option<&'graph Path>
-    ensures { option_copied result ≡ unless_lem passes path.now }
+    ensures { option_copied result ≡ unless_def passes path.now }
 {
     if passes { None } else { Some(path) }
 }
@@ -183,7 +183,7 @@ pub fn execute<T: Tree, I: Source + Send, O: Sink + Send, G: Gate, X: Engine>(
     engine: &mut X,
 ) -> Commanded<I, O>
     requires valid { Valid graph.now.nodes graph.now.status }
-    requires there { IfSome (T.state tree.old).held (λ files. first_lacking_lem files (T.state tree.old).home graph.now.nodes ≡ None) }
+    requires there { IfSome (T.state tree.old).held (λ files. first_lacking_def files (T.state tree.old).home graph.now.nodes ≡ None) }
     requires whole { IfSome (T.state tree.old).held NoWriterOut }
     ensures { Executes graph.now (T.state tree.old) (T.state tree.new) (I.left input) (I.left result.input) (O.taken out) (O.taken result.out)
         (counts_of (I.faults input) (O.faults out) (T.faults tree.old)) (counts_of (I.faults result.input) (O.faults result.out) (T.faults tree.new))
@@ -219,7 +219,7 @@ fn begin_files<T: Tree>(nodes: &[Node], tree: &mut T) -> Result<(), WorldErr>
 
 /// The file that a node of this kind writes, and how.
 fn target(kind: &NodeKind) -> Option<(&Path, Mode)>
-    ensures { option_map (λ aim. (aim.0.now, aim.1)) result ≡ target_lem kind.now }
+    ensures { option_map (λ aim. (aim.0.now, aim.1)) result ≡ target_def kind.now }
 {
     match kind {
         NodeKind::TeeFile(path, mode) => Some((path, *mode)),

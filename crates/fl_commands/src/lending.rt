@@ -2,7 +2,7 @@
 ghost use Rattle.std.specs.Prelude.{◌≡◌, ◌≤◌, [], length, IfOk, IfSome, IsErrOf, OnErr, OnOk};
 ghost use Rattle.ps_world.specs.Counts.{Rose};
 ghost use Rattle.ps_world.specs.TreeState.{Balanced};
-ghost use Rattle.fl_graph.specs.Paths.{paths_read, paths_written as paths_written_lem};
+ghost use Rattle.fl_graph.specs.Paths.{paths_read, paths_written as paths_written_def};
 ghost use Rattle.fl_commands.specs.Inner.Overs.{Lends};
 ghost use Rattle.fl_commands.specs.Inner.Writing.{AreApart};
 ghost use Rattle.fl_commands.specs.Writers.{AreFilesAt, ChangesOnly};
@@ -34,14 +34,14 @@ pub(crate) fn lend<T: Tree>(
     tree: &mut T,
 ) -> Result<Lent<T::Reader, T::Writer>, WorldErr>
     requires there { IfSome (T.state tree.old).held (λ files. AreFilesAt files (paths_read nodes.now)) }
-    requires begun { IfSome (T.state tree.old).held (λ files. AreFilesAt files (paths_written_lem nodes.now)) }
-    requires apart { AreApart (paths_written_lem nodes.now) }
-    ensures lends { IfOk result (λ lent. Lends T.Reader.left T.Reader.faults T.Writer.taken T.Writer.faults (paths_read nodes.now) (paths_written_lem nodes.now) (T.state tree.old) (T.state tree.new) lent.readers.items lent.writers.items) }
+    requires begun { IfSome (T.state tree.old).held (λ files. AreFilesAt files (paths_written_def nodes.now)) }
+    requires apart { AreApart (paths_written_def nodes.now) }
+    ensures lends { IfOk result (λ lent. Lends T.Reader.left T.Reader.faults T.Writer.taken T.Writer.faults (paths_read nodes.now) (paths_written_def nodes.now) (T.state tree.old) (T.state tree.new) lent.readers.items lent.writers.items) }
     ensures paths { IfOk result (λ lent. length lent.paths.items ≡ length lent.readers.items) }
-    ensures written { IfOk result (λ lent. lent.written.items ≡ paths_written_lem nodes.now) }
+    ensures written { IfOk result (λ lent. lent.written.items ≡ paths_written_def nodes.now) }
     ensures back { OnErr result (Balanced (T.state tree.old) (T.state tree.new)) }
-    ensures kept { OnErr result (ChangesOnly (paths_written_lem nodes.now) (T.state tree.old).held (T.state tree.new).held) }
-    ensures held { paths_written_lem nodes.now ≡ [] → OnErr result ((T.state tree.new).held ≡ (T.state tree.old).held) }
+    ensures kept { OnErr result (ChangesOnly (paths_written_def nodes.now) (T.state tree.old).held (T.state tree.new).held) }
+    ensures held { paths_written_def nodes.now ≡ [] → OnErr result ((T.state tree.new).held ≡ (T.state tree.old).held) }
     ensures later { T.faults tree.old ≤ T.faults tree.new }
     ensures ok { OnOk result (T.faults tree.new ≡ T.faults tree.old) }
     ensures failed { IsErrOf result WorldErr.Failed → Rose (T.faults tree.old) (T.faults tree.new) }

@@ -4,9 +4,9 @@ ghost use Rattle.ps_lines.specs.Texts.{texts_of};
 ghost use Rattle.ps_world.specs.Counts.{Counts};
 ghost use Rattle.ps_world.specs.Files.{Files};
 ghost use Rattle.ps_world.specs.Paths.{Components};
-ghost use Rattle.ut_args.specs.Inputs.{deals as deals_lem, is_standard};
+ghost use Rattle.ut_args.specs.Inputs.{deals as deals_def, is_standard};
 ghost use Rattle.ut_args.specs.Invocations.{command_of};
-ghost use Rattle.fl_commands.specs.Operands.{AllStand, AreNamed, IsApart, IsEmptyMissing, Stands, in_at, in_standard, ins_from, ins_of as ins_of_lem, is_readable as is_readable_lem, is_stream_operand, lacks as lacks_lem, named};
+ghost use Rattle.fl_commands.specs.Operands.{AllStand, AreNamed, IsApart, IsEmptyMissing, Stands, in_at, in_standard, ins_from, ins_of as ins_of_def, is_readable as is_readable_def, is_stream_operand, lacks as lacks_def, named};
 
 use fl_segments::In;
 use ps_lines::Memory;
@@ -86,14 +86,14 @@ fn look_up<T: Tree>(alloc: Global, text: &[u8], tree: &mut T) -> Result<Operand,
 
 /// Whether there is something to read at a place: a file, or the null device.
 fn is_readable(place: &Place) -> bool
-    ensures { result ≡ is_readable_lem place.now }
+    ensures { result ≡ is_readable_def place.now }
 {
     matches!(place, Place::File(_) | Place::Null)
 }
 
 /// Whether an operand has no input.
 pub fn lacks(operand: &Operand) -> bool
-    ensures { result ≡ lacks_lem operand.now }
+    ensures { result ≡ lacks_def operand.now }
 {
     match operand {
         Operand::Standard => false,
@@ -103,7 +103,7 @@ pub fn lacks(operand: &Operand) -> bool
 
 /// For each operand, whether it has no input.
 pub fn lacking(alloc: Global, operands: &[Operand]) -> Result<Vec<bool>, Memory>
-    ensures { IfOk result (λ flags. flags.items ≡ map lacks_lem operands.now) }
+    ensures { IfOk result (λ flags. flags.items ≡ map lacks_def operands.now) }
 {
     let mut flags = Vec::new(alloc);
     for operand in operands {
@@ -114,7 +114,7 @@ pub fn lacking(alloc: Global, operands: &[Operand]) -> Result<Vec<bool>, Memory>
 
 /// Whether the lines of the standard input are dealt to all operands that are `-` (XCU paste, without `-s`).
 pub fn deals(inv: &Inv) -> bool
-    ensures { result ≡ deals_lem (command_of inv.now) }
+    ensures { result ≡ deals_def (command_of inv.now) }
 {
     match inv {
         Inv::Paste(paste) => !paste.args.serial,
@@ -127,7 +127,7 @@ pub fn deals(inv: &Inv) -> bool
 /// The first `-` takes the standard input to its end, so each other is empty; where its lines are dealt to all `-` (`deals`), no other is an
 /// input. No file is known to be closed.
 pub fn ins_of(alloc: Global, operands: &[Operand], deals: bool) -> Result<Vec<In>, Memory>
-    ensures { IfOk result (λ ins. ins.items ≡ ins_of_lem deals operands.now) }
+    ensures { IfOk result (λ ins. ins.items ≡ ins_of_def deals operands.now) }
 {
     let mut ins = Vec::new(alloc);
     let [_, ..] = operands else {

@@ -13,7 +13,7 @@ ghost use Rattle.fl_segments.specs.Stages.{file_in, files_read, files_written, i
 ghost use Rattle.fl_commands.specs.Inner.Overs.{RunsOver, done_by, ended_by, ended_of};
 ghost use Rattle.fl_commands.specs.Inner.Segments.{AllThere, segment_asks};
 ghost use Rattle.fl_commands.specs.Members.{AllCanRun, AllNamesStand, files_named, files_teed};
-ghost use Rattle.fl_commands.specs.Operands.{AllStand, AreNamed, deals, ins_of as ins_of_lem};
+ghost use Rattle.fl_commands.specs.Operands.{AllStand, AreNamed, deals, ins_of as ins_of_def};
 ghost use Rattle.fl_commands.specs.Runs.{Runs, RunsCommand, RunsPipeline, counts_of, graph_asks};
 ghost use Rattle.fl_commands.specs.Writers.{AreBegun, AreFilesAt, AreWrittenApart, MayWrite};
 
@@ -79,7 +79,7 @@ pub fn run_command<T: Tree, I: Source + Send, O: Sink + Send, G: Gate, X: Engine
     requires named { AreNamed (operands_of inv.now) operands.now }
     requires few { length operands.now + 1 < 2 ^ 32 }
     requires tees { MayWrite inv.now tees.now }
-    requires apart { AreWrittenApart (filter_map file_in (ins_of_lem (deals (command_of inv.now)) operands.now)) tees.now }
+    requires apart { AreWrittenApart (filter_map file_in (ins_of_def (deals (command_of inv.now)) operands.now)) tees.now }
     requires stand { IfSome (T.state tree.old).held (λ files. AllStand files operands.now) }
     requires whole { IfSome (T.state tree.old).held NoWriterOut }
     requires begun { AreBegun (T.state tree.old).held tees.now }

@@ -1,7 +1,7 @@
 //! The stages of utilities over what their operands name.
 ghost use Rattle.std.specs.Prelude.{◌≡◌, ◌∷◌, ◌++◌, [], List, IfOk, OnOk};
 ghost use Rattle.ut_args.specs.Invocations.{command_of};
-ghost use Rattle.fl_commands.specs.Inner.Stages.{AreStagesOf, IsStageOf, plain_status, some_lacks as some_lacks_lem};
+ghost use Rattle.fl_commands.specs.Inner.Stages.{AreStagesOf, IsStageOf, plain_status, some_lacks as some_lacks_def};
 
 use crate::members::Member;
 use crate::operands::{Operand, deals, ins_of, lacking, lacks};
@@ -70,7 +70,7 @@ pub(crate) fn stage_of(
 
 /// Whether an operand has no input.
 pub(crate) fn some_lacks(operands: &[Operand]) -> bool
-    ensures { result ≡ some_lacks_lem operands.now }
+    ensures { result ≡ some_lacks_def operands.now }
 {
     operands.iter().any(|operand| lacks(operand))
 }

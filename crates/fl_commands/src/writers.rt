@@ -6,7 +6,7 @@ ghost use Rattle.ps_world.specs.Counts.{Rose};
 ghost use Rattle.ps_world.specs.Files.{Files, IsFileAt, bytes_at};
 ghost use Rattle.ps_world.specs.TreeState.{AreOut, TreeState};
 ghost use Rattle.fl_engines.specs.OwnEnds.{each_of};
-ghost use Rattle.fl_graph.specs.Paths.{paths_written as paths_written_lem};
+ghost use Rattle.fl_graph.specs.Paths.{paths_written as paths_written_def};
 ghost use Rattle.fl_commands.specs.Inner.Writing.{AreAmong, AreApart, Begins, Returns, earlier, out_at};
 ghost use Rattle.fl_commands.specs.Readers.{has_count};
 ghost use Rattle.fl_commands.specs.Writers.{AreFilesAt, ChangesOnly};
@@ -47,7 +47,7 @@ impl<W> Begun<W> {
 
 /// The paths of the files that nodes write, in their order.
 pub(crate) fn paths_written(alloc: Global, nodes: &[Node]) -> Result<Vec<Path>, Memory>
-    ensures { IfOk result (λ paths. paths.items ≡ paths_written_lem nodes.now) }
+    ensures { IfOk result (λ paths. paths.items ≡ paths_written_def nodes.now) }
 {
     let mut paths = Vec::new(alloc);
     let mut left = nodes;

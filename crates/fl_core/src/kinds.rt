@@ -1,20 +1,20 @@
 //! Which nodes the engine runs.
 ghost use Rattle.std.specs.Prelude.{◌≡◌};
-ghost use Rattle.fl_classes.specs.Kinds.{are_run as are_run_lem, is_run as is_run_lem};
+ghost use Rattle.fl_classes.specs.Kinds.{are_run as are_run_def, is_run as is_run_def};
 
 use fl_graph::{Node, NodeKind};
 use ut_args::{Inv, Origin, Report};
 
 /// Whether the engine runs each of these nodes.
 pub fn are_run(nodes: &[Node]) -> bool
-    ensures { result ≡ are_run_lem nodes.now }
+    ensures { result ≡ are_run_def nodes.now }
 {
     nodes.iter().all(|node| is_run(&node.kind))
 }
 
 /// Whether the engine runs a node of this kind.
 pub fn is_run(kind: &NodeKind) -> bool
-    ensures { result ≡ is_run_lem kind.now }
+    ensures { result ≡ is_run_def kind.now }
 {
     match kind {
         NodeKind::Agg(Inv::Wc(_)) => true,

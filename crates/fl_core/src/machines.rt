@@ -4,7 +4,7 @@ ghost use Rattle.fl_graph.specs.Kinds.{may_have, reads_one_input, runs_what_is_b
 ghost use Rattle.fl_classes.specs.Nodes.{Begins};
 ghost use Rattle.fl_classes.specs.Flow.{is_source};
 ghost use Rattle.fl_classes.specs.Kinds.{is_run, is_sink, run_kind, run_ins, run_outs};
-ghost use Rattle.fl_machines.specs.Kinds.{runs_utility as runs_utility_lem};
+ghost use Rattle.fl_machines.specs.Kinds.{runs_utility as runs_utility_def};
 
 use fl_graph::{Act, Machine, NodeKind, Piece};
 use fl_joints::{Joint, joint};
@@ -57,7 +57,7 @@ fn is_end(kind: &NodeKind) -> bool
 
 /// Whether this is a map, a whole or a finish.
 fn runs_utility(kind: &NodeKind) -> bool
-    ensures { result ≡ runs_utility_lem kind.now }
+    ensures { result ≡ runs_utility_def kind.now }
 {
     matches!(
         kind,

@@ -4,7 +4,7 @@ ghost use Rattle.std.specs.Option.{option_and_then, option_map_or};
 ghost use Rattle.ps_world.specs.Counts.{Counts};
 ghost use Rattle.fl_net.specs.NodeEnds.{DidRead, DidWrite};
 ghost use Rattle.fl_core.specs.EndLists.{end_in, numbers_of, left_by, taken_by, faults_by};
-ghost use Rattle.fl_core.specs.Roles.{AreApart, Kept, end_by, is_read, is_written, kept, role_at as role_at_lem};
+ghost use Rattle.fl_core.specs.Roles.{AreApart, Kept, end_by, is_read, is_written, kept, role_at as role_at_def};
 
 use crate::end_lists::Ends;
 use crate::roles::{Role, role_at};
@@ -19,15 +19,15 @@ pub(crate) struct NumberedEnds<R, W, I, O> {
 }
 
 impl<R: Source, W: Sink, I: Source, O: Sink> NodeEnds for NumberedEnds<R, W, I, O> {
-    ghost left = { λ numbered node. left_by R.left I.left (end_by (role_at_lem numbered.roles.items node) numbered.ends) };
+    ghost left = { λ numbered node. left_by R.left I.left (end_by (role_at_def numbered.roles.items node) numbered.ends) };
 
-    ghost taken = { λ numbered node. taken_by W.taken O.taken (end_by (role_at_lem numbered.roles.items node) numbered.ends) };
+    ghost taken = { λ numbered node. taken_by W.taken O.taken (end_by (role_at_def numbered.roles.items node) numbered.ends) };
 
-    ghost faults = { λ numbered node. faults_by R.faults W.faults I.faults O.faults (end_by (role_at_lem numbered.roles.items node) numbered.ends) };
+    ghost faults = { λ numbered node. faults_by R.faults W.faults I.faults O.faults (end_by (role_at_def numbered.roles.items node) numbered.ends) };
 
-    ghost reads = { λ numbered node. is_read (end_by (role_at_lem numbered.roles.items node) numbered.ends) };
+    ghost reads = { λ numbered node. is_read (end_by (role_at_def numbered.roles.items node) numbered.ends) };
 
-    ghost writes = { λ numbered node. is_written (end_by (role_at_lem numbered.roles.items node) numbered.ends) };
+    ghost writes = { λ numbered node. is_written (end_by (role_at_def numbered.roles.items node) numbered.ends) };
 
     ghost Kept = { Kept R W I O };
 

@@ -2,8 +2,8 @@
 ghost use Rattle.std.specs.Prelude.{◌≡◌, ◌==◌, true, IfOk};
 ghost use Rattle.std.specs.List.{position};
 ghost use Rattle.std.specs.Option.{option_map_or};
-ghost use Rattle.fl_core.specs.EndLists.{HasItsEnds, numbers_of, place_of as place_of_lem};
-ghost use Rattle.fl_core.specs.Roles.{HasRoles, needs_no_more, role_at as role_at_lem, role_of as role_of_lem};
+ghost use Rattle.fl_core.specs.EndLists.{HasItsEnds, numbers_of, place_of as place_of_def};
+ghost use Rattle.fl_core.specs.Roles.{HasRoles, needs_no_more, role_at as role_at_def, role_of as role_of_def};
 
 use crate::end_lists::Ends;
 use fl_graph::{From, Graph, Node, NodeKind, To};
@@ -86,7 +86,7 @@ fn roles_of_nodes<R, W, I, O>(
 
 /// The role of a node of this kind and number.
 fn role_of<R, W, I, O>(kind: &NodeKind, node: usize, ends: &Ends<R, W, I, O>) -> Role
-    ensures { result ≡ role_of_lem kind.now node (numbers_of ends.now.readers.items) (numbers_of ends.now.writers.items) }
+    ensures { result ≡ role_of_def kind.now node (numbers_of ends.now.readers.items) (numbers_of ends.now.writers.items) }
 {
     match kind {
         NodeKind::Source(From::Input) => Role::Input,
@@ -113,7 +113,7 @@ fn writer_at(place: Option<usize>) -> Role
 
 /// The place of the first end with this number.
 fn place_of<End>(ends: &[(u32, End)], number: usize) -> Option<usize>
-    ensures { result ≡ place_of_lem (numbers_of ends.now) number }
+    ensures { result ≡ place_of_def (numbers_of ends.now) number }
 {
     first_with(ends, number)
 }
@@ -127,7 +127,7 @@ fn first_with<End>(ends: &[(u32, End)], number: usize) -> Option<usize>
 
 /// The role of the node with this number.
 pub(crate) fn role_at(roles: &[Role], node: u32) -> Role
-    ensures { result ≡ role_at_lem roles.now node }
+    ensures { result ≡ role_at_def roles.now node }
 {
     match roles.get(node as usize) {
         Some(role) => *role,

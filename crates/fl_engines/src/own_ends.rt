@@ -2,7 +2,7 @@
 ghost use Rattle.std.specs.Prelude.{◌≡◌, ◌<◌, ◌+◌, ◌++◌, [], ◌∷◌, true, length, map, take, IfOk};
 ghost use Rattle.fl_graph.specs.Valid.{Valid};
 ghost use Rattle.fl_classes.specs.Kinds.{are_run};
-ghost use Rattle.fl_core.specs.EndLists.{file_nodes, file_sources, given_back, has_file as has_file_lem, numbers_of, numbers_where};
+ghost use Rattle.fl_core.specs.EndLists.{file_nodes, file_sources, given_back, has_file as has_file_def, numbers_of, numbers_where};
 ghost use Rattle.fl_engines.specs.OwnEnds.{HasOwnEnds, RunsOwn, came_at, came_by, came_of};
 
 use crate::engines::Engine;
@@ -137,8 +137,8 @@ fn number_entries<End>(
     entries: &mut [(u32, End)],
     written: bool,
 ) -> Result<bool, Memory>
-    ensures own { IfOk result (λ fit. fit ≡ true → numbers_of entries.new ≡ numbers_where (has_file_lem written) 0 nodes.now) }
-    ensures fit { IfOk result (λ fit. length entries.old ≡ length (numbers_where (has_file_lem written) 0 nodes.now) → fit ≡ true) }
+    ensures own { IfOk result (λ fit. fit ≡ true → numbers_of entries.new ≡ numbers_where (has_file_def written) 0 nodes.now) }
+    ensures fit { IfOk result (λ fit. length entries.old ≡ length (numbers_where (has_file_def written) 0 nodes.now) → fit ≡ true) }
     ensures ends { map (λ entry. entry.1) entries.new ≡ map (λ entry. entry.1) entries.old }
 {
     let mut place = 0;
@@ -168,7 +168,7 @@ fn set_number<End>(entries: &mut [(u32, End)], place: usize, number: u32)
 
 /// Whether a node of this kind writes a file, or reads one.
 fn has_file(kind: &NodeKind, written: bool) -> bool
-    ensures { result ≡ has_file_lem written kind.now }
+    ensures { result ≡ has_file_def written kind.now }
 {
     if written {
         matches!(kind, NodeKind::Sink(To::File(..)) | NodeKind::TeeFile(..))

@@ -1,6 +1,6 @@
 //! The words of the utilities that a graph runs.
 ghost use Rattle.std.specs.Prelude.{◌≡◌, ◌++◌, length, IfOk, OnOk, OnErr};
-ghost use Rattle.fl_classes.specs.Used.{is_cat as is_cat_lem, words_by, words_used};
+ghost use Rattle.fl_classes.specs.Used.{is_cat as is_cat_def, words_by, words_used};
 
 use fl_graph::{Node, NodeKind};
 use ps_lines::Memory;

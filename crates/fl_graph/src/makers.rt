@@ -1,8 +1,8 @@
 //! The maps that aggregates and finishes join.
 ghost use Rattle.std.specs.Prelude.{◌≡◌, ◌≤◌, [], false, if◌then◌else◌, length};
 ghost use Rattle.ut_args.specs.Invocations.{words_of};
-ghost use Rattle.fl_graph.specs.Checks.{are_mapped as are_mapped_lem, comes_mapped, each_after, joins_its_maps as joins_its_maps_lem};
-ghost use Rattle.fl_graph.specs.Makers.{is_mapped as is_mapped_lem, made_by, same_words};
+ghost use Rattle.fl_graph.specs.Checks.{are_mapped as are_mapped_def, comes_mapped, each_after, joins_its_maps as joins_its_maps_def};
+ghost use Rattle.fl_graph.specs.Makers.{is_mapped as is_mapped_def, made_by, same_words};
 ghost use Rattle.fl_graph.specs.Net.{has};
 
 use crate::graphs::Node;
@@ -11,7 +11,7 @@ use ut_args::Inv;
 
 /// Whether the ins of each aggregate and of each finish come from maps or aggregates of the same words.
 pub fn joins_maps(nodes: &[Node]) -> bool
-    ensures { result ≡ each_after joins_its_maps_lem [] nodes.now }
+    ensures { result ≡ each_after joins_its_maps_def [] nodes.now }
 {
     for place in 0..nodes.len() {
         if !joins_its_maps(&nodes[..place], &nodes[place]) {
@@ -23,7 +23,7 @@ pub fn joins_maps(nodes: &[Node]) -> bool
 
 /// Whether the node's ins do, if it joins maps.
 fn joins_its_maps(earlier: &[Node], node: &Node) -> bool
-    ensures { result ≡ joins_its_maps_lem earlier.now node.now }
+    ensures { result ≡ joins_its_maps_def earlier.now node.now }
 {
     match &node.kind {
         NodeKind::Agg(inv) | NodeKind::Finish(inv) => are_mapped(earlier, node.ins.as_slice(), inv),
@@ -33,7 +33,7 @@ fn joins_its_maps(earlier: &[Node], node: &Node) -> bool
 
 /// Whether these edges come from maps or aggregates of the invocation.
 fn are_mapped(earlier: &[Node], edges: &[u32], inv: &Inv) -> bool
-    ensures { result ≡ are_mapped_lem (words_of inv.now) earlier.now edges.now }
+    ensures { result ≡ are_mapped_def (words_of inv.now) earlier.now edges.now }
 {
     edges.iter().all(|edge| is_mapped(earlier, *edge, inv))
 }
@@ -51,7 +51,7 @@ fn is_mapped(earlier: &[Node], edge: u32, inv: &Inv) -> bool
 
 /// Whether the edge comes from a map or an aggregate of the invocation, where `before` says so of the nodes before this one.
 fn is_mapped_behind(node: &Node, edge: u32, inv: &Inv, before: bool) -> bool
-    ensures { result ≡ (if has edge node.now.outs then is_mapped_lem (words_of inv.now) (made_by node.now.kind) else before) }
+    ensures { result ≡ (if has edge node.now.outs then is_mapped_def (words_of inv.now) (made_by node.now.kind) else before) }
 {
     if node.outs.as_slice().contains(&edge) {
         maps(&node.kind, inv)
@@ -62,7 +62,7 @@ fn is_mapped_behind(node: &Node, edge: u32, inv: &Inv, before: bool) -> bool
 
 /// Whether this is a map or an aggregate of the invocation.
 fn maps(kind: &NodeKind, inv: &Inv) -> bool
-    ensures { result ≡ is_mapped_lem (words_of inv.now) (made_by kind.now) }
+    ensures { result ≡ is_mapped_def (words_of inv.now) (made_by kind.now) }
 {
     match kind {
         NodeKind::Map(other) | NodeKind::Agg(other) => are_same(inv, other),

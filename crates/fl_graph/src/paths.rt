@@ -3,8 +3,8 @@ ghost use Rattle.std.specs.Prelude.{◌≡◌, not};
 ghost use Rattle.std.specs.List.{list_any};
 ghost use Rattle.std.specs.Option.{option_copied};
 ghost use Rattle.ps_world.specs.Places.{is_null_path};
-ghost use Rattle.fl_graph.specs.Checks.{has_paths_apart as has_paths_apart_lem};
-ghost use Rattle.fl_graph.specs.Paths.{are_distinct as are_distinct_lem, is_among, path_read as path_read_lem, path_written as path_written_lem, paths_read, paths_written};
+ghost use Rattle.fl_graph.specs.Checks.{has_paths_apart as has_paths_apart_def};
+ghost use Rattle.fl_graph.specs.Paths.{are_distinct as are_distinct_def, is_among, path_read as path_read_def, path_written as path_written_def, paths_read, paths_written};
 
 use crate::graphs::Node;
 use crate::kinds::{From, NodeKind, To};
@@ -12,7 +12,7 @@ use ps_world::Path;
 
 /// Whether no file is both read and written, none is written twice, and none is the null device.
 pub fn has_paths_apart(nodes: &[Node]) -> bool
-    ensures { result ≡ has_paths_apart_lem nodes.now }
+    ensures { result ≡ has_paths_apart_def nodes.now }
 {
     !read_null(nodes) && !write_null(nodes) && !write_what_is_read(nodes) && are_distinct(nodes)
 }
@@ -61,7 +61,7 @@ fn write_what_is_read(nodes: &[Node]) -> bool
 
 /// Whether no file is written twice.
 fn are_distinct(nodes: &[Node]) -> bool
-    ensures { result ≡ are_distinct_lem (paths_written nodes.now) }
+    ensures { result ≡ are_distinct_def (paths_written nodes.now) }
 {
     let mut left = nodes;
     while let [node, rest @ ..] = left {
@@ -105,7 +105,7 @@ fn is_written(nodes: &[Node], path: &Path) -> bool
 
 /// The path of the file that a node of this kind reads, if it reads one.
 pub fn path_read(kind: &NodeKind) -> Option<&Path>
-    ensures { option_copied result ≡ path_read_lem kind.now }
+    ensures { option_copied result ≡ path_read_def kind.now }
 {
     match kind {
         NodeKind::Source(From::File(path)) => Some(path),
@@ -115,7 +115,7 @@ pub fn path_read(kind: &NodeKind) -> Option<&Path>
 
 /// The path of the file that a node of this kind writes, if it writes one.
 pub fn path_written(kind: &NodeKind) -> Option<&Path>
-    ensures { option_copied result ≡ path_written_lem kind.now }
+    ensures { option_copied result ≡ path_written_def kind.now }
 {
     match kind {
         NodeKind::TeeFile(path, _) | NodeKind::Sink(To::File(path, _)) => Some(path),

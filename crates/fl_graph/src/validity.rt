@@ -1,6 +1,6 @@
 //! Valid graphs.
 ghost use Rattle.std.specs.Prelude.{◌≡◌, true};
-ghost use Rattle.fl_graph.specs.Checks.{is_valid as is_valid_lem};
+ghost use Rattle.fl_graph.specs.Checks.{is_valid as is_valid_def};
 ghost use Rattle.fl_graph.specs.Valid.{Valid};
 
 use crate::edges::has_edges;
@@ -33,7 +33,7 @@ pub fn validate(graph: &Graph) -> bool
 
 /// Whether nodes and a status rule are those of a valid graph.
 fn is_valid(nodes: &[Node], status: &StatusRule) -> bool
-    ensures { result ≡ is_valid_lem nodes.now status.now }
+    ensures { result ≡ is_valid_def nodes.now status.now }
 {
     has_edges(nodes)
         && fit_alone(nodes)

@@ -1,6 +1,6 @@
 //! How the counts on a text are read.
 ghost use Rattle.std.specs.Prelude.{◌≡◌};
-ghost use Rattle.fl_joints.specs.Joints.{columns_by as columns_by_lem, counts_by};
+ghost use Rattle.fl_joints.specs.Joints.{columns_by as columns_by_def, counts_by};
 
 use ps_lines::read_decimal;
 use ut_groups::{Columns, Counts, read_counts};
@@ -16,7 +16,7 @@ pub(crate) enum Reading {
 
 /// The columns of the sum; the count of `grep` has the place of that of lines.
 pub(crate) fn columns_by(reading: Reading) -> Columns
-    ensures { result ≡ columns_by_lem reading }
+    ensures { result ≡ columns_by_def reading }
 {
     match reading {
         Reading::OfWc(columns) => columns,

@@ -61,7 +61,7 @@ impl Machine for CountSum {
     ghost use Rattle.std.specs.Prelude.{◌+◌, ◌-◌, ◌==◌, ◌&&◌, nat_le, nat_lt, if◌then◌else◌};
     ghost use Rattle.fl_graph.specs.declared.pieces.Act.TheVariants.{Take, Put, Stop};
     ghost use Rattle.ut_groups.specs.Counting.{added};
-    ghost use Rattle.fl_joints.specs.Joints.{columns_by as columns_by_lem, counts_from};
+    ghost use Rattle.fl_joints.specs.Joints.{columns_by as columns_by_def, counts_from};
 
     ghost state = { λ machine. record {
       act =
@@ -75,7 +75,7 @@ impl Machine for CountSum {
       broken = machine.broken;
       due = λ texts port.
           if port == 0 then (if machine.given then [] else
-          counts_line (columns_by_lem machine.reading) (added machine.sum (counts_from machine.reading machine.line.items texts machine.at (machine.ins - machine.at))) []) else [];
+          counts_line (columns_by_def machine.reading) (added machine.sum (counts_from machine.reading machine.line.items texts machine.at (machine.ins - machine.at))) []) else [];
       selects = λ texts. false;
     } };
 

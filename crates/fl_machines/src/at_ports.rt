@@ -1,6 +1,6 @@
 //! A machine with a stream of several inputs at once in it.
 ghost use Rattle.std.specs.Prelude.{◌≡◌, ◌≤◌, ◌<◌, ◌==◌, ◌^◌, ℕ, List, [], length, vec_len, drop, get_or, nat_lt, Bool, true, false, Option, None, IfSome, IfNone, IfOk, if◌then◌else◌};
-ghost use Rattle.fl_machines.specs.AtPorts.{first_open as first_open_lem, turn_of};
+ghost use Rattle.fl_machines.specs.AtPorts.{first_open as first_open_def, turn_of};
 
 use crate::waiting::Waiting;
 use fl_graph::{Act, Machine, Piece};
@@ -78,7 +78,7 @@ fn all_open(alloc: Global, ins: u32) -> Result<Vec<bool>, Memory>
 #[tactic(auto, using(crate::proofs::PortLemmas::firsts))]
 fn first_open(opens: &[bool]) -> Option<u32>
     requires { length opens.now < 2 ^ 32 }
-    ensures first { result ≡ first_open_lem 0 opens.now }
+    ensures first { result ≡ first_open_def 0 opens.now }
     ensures some { IfSome result (λ port. get_or opens.now port false ≡ true) }
     ensures none { IfNone result ((port : ℕ) → get_or opens.now port false ≡ false) }
 {

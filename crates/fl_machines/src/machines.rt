@@ -3,7 +3,7 @@ ghost use Rattle.std.specs.Prelude.{◌≡◌, ◌<◌, ℕ, List, true, false, 
 ghost use Rattle.ut_args.specs.declared.invocations.Inv.TheVariants.{Paste};
 ghost use Rattle.fl_graph.specs.declared.kinds.NodeKind.TheVariants.{Whole};
 ghost use Rattle.fl_classes.specs.Nodes.{Begins};
-ghost use Rattle.fl_machines.specs.Kinds.{copies as copies_lem, copies_input as copies_input_lem, finishes_as_is as finishes_as_is_lem, is_utility_node, maps_as_whole as maps_as_whole_lem, reads_apart as reads_apart_lem, reads_at_once, stream_output, stream_selects, takes_apart, RunsApart};
+ghost use Rattle.fl_machines.specs.Kinds.{copies as copies_def, copies_input as copies_input_def, finishes_as_is as finishes_as_is_def, is_utility_node, maps_as_whole as maps_as_whole_def, reads_apart as reads_apart_def, reads_at_once, stream_output, stream_selects, takes_apart, RunsApart};
 ghost use Rattle.ut_sort.specs.Order.{sorted_text};
 
 use crate::any_series::AnySeries;
@@ -86,7 +86,7 @@ fn run_apart(kind: &NodeKind) -> Option<&Inv>
 
 /// Whether the command reads its inputs apart, and not as one text.
 fn reads_apart(inv: &Inv) -> bool
-    ensures { result ≡ reads_apart_lem inv.now }
+    ensures { result ≡ reads_apart_def inv.now }
 {
     matches!(
         inv,
@@ -96,7 +96,7 @@ fn reads_apart(inv: &Inv) -> bool
 
 /// Whether the command reads its inputs apart, and its map is its output for one.
 fn maps_as_whole(inv: &Inv) -> bool
-    ensures { result ≡ maps_as_whole_lem inv.now }
+    ensures { result ≡ maps_as_whole_def inv.now }
 {
     matches!(inv, Inv::Paste(_))
 }
@@ -104,7 +104,7 @@ fn maps_as_whole(inv: &Inv) -> bool
 /// The machine of the whole of an invocation that reads its inputs apart.
 fn apart_machine(alloc: Global, inv: &Inv, ins: u32, outs: u32) -> Result<UtilMachine, Memory>
     requires node { is_utility_node (Whole inv.now) ins outs ≡ true }
-    requires apart { reads_apart_lem inv.now ≡ true }
+    requires apart { reads_apart_def inv.now ≡ true }
     ensures { IfOk result (λ machine. Begins (Whole inv.now) ins outs (⟦<UtilMachine as Machine>⟧.state machine)) }
 {
     match side_by_side(inv) {
@@ -164,7 +164,7 @@ fn series_machine(
     outs: u32,
 ) -> Result<InSeries<AnySeries>, Memory>
     requires node { is_utility_node (Whole inv.now) ins outs ≡ true }
-    requires apart { reads_apart_lem inv.now ≡ true }
+    requires apart { reads_apart_def inv.now ≡ true }
     requires in_order { reads_at_once inv.now ≡ false }
     ensures { IfOk result (λ machine. Begins (Whole inv.now) ins outs (⟦<InSeries<AnySeries> as Machine>⟧.state machine)) }
 {
@@ -210,7 +210,7 @@ fn joined_machine(
 
 /// Whether what the node writes is what comes at its in.
 fn copies(kind: &NodeKind) -> bool
-    ensures { result ≡ copies_lem kind.now }
+    ensures { result ≡ copies_def kind.now }
 {
     match kind {
         NodeKind::Map(inv) => copies_input(inv),
@@ -222,14 +222,14 @@ fn copies(kind: &NodeKind) -> bool
 
 /// Whether the command writes its input as it is.
 fn copies_input(inv: &Inv) -> bool
-    ensures { result ≡ copies_input_lem inv.now }
+    ensures { result ≡ copies_input_def inv.now }
 {
     matches!(inv, Inv::Cat(_) | Inv::Tee(_))
 }
 
 /// Whether the map of the whole is the command's output.
 fn finishes_as_is(inv: &Inv) -> bool
-    ensures { result ≡ finishes_as_is_lem inv.now }
+    ensures { result ≡ finishes_as_is_def inv.now }
 {
     match inv {
         Inv::Wc(_) => false,
@@ -242,7 +242,7 @@ fn finishes_as_is(inv: &Inv) -> bool
 fn copying_machine(kind: &NodeKind, ins: u32, outs: u32) -> Copying
     requires node { is_utility_node kind.now ins outs ≡ true }
     requires joined { takes_apart kind.now ≡ false }
-    requires copied { 0 < ins → copies_lem kind.now ≡ true }
+    requires copied { 0 < ins → copies_def kind.now ≡ true }
     ensures { Begins kind.now ins outs (⟦<Copying as Machine>⟧.state result) }
 {
     Copying::new(ins > 0)
@@ -291,7 +291,7 @@ fn stream_machine(
 ) -> Result<Through<AnyStream>, Memory>
     requires node { is_utility_node kind.now ins outs ≡ true }
     requires joined { takes_apart kind.now ≡ false }
-    requires changes { copies_lem kind.now ≡ false }
+    requires changes { copies_def kind.now ≡ false }
     requires some { 0 < ins }
     ensures { IfOk result (λ machine. Begins kind.now ins outs (⟦<Through<AnyStream> as Machine>⟧.state machine)) }
 {

@@ -1,7 +1,7 @@
 //! What a machine has written, and hasn't put yet.
 ghost use Rattle.std.specs.Prelude.{◌≡◌, ◌<◌, ◌≤◌, ◌++◌, [], drop, length, vec_len, false, true, IfOk};
-ghost use Rattle.ps_lines.specs.Lines.{is_empty as is_empty_lem};
-ghost use Rattle.fl_machines.specs.Waiting.{is_worth_putting as is_worth_putting_lem};
+ghost use Rattle.ps_lines.specs.Lines.{is_empty as is_empty_def};
+ghost use Rattle.fl_machines.specs.Waiting.{is_worth_putting as is_worth_putting_def};
 
 use fl_graph::{Bytes, MAX_PIECE, first_piece};
 use ps_lines::Memory;
@@ -53,7 +53,7 @@ impl Waiting {
     /// Whether nothing waits.
     #[tactic(auto, using(crate::proofs::WaitingLemmas::buffers))]
     pub fn is_empty(&self) -> bool
-        ensures empty { result ≡ is_empty_lem self.now }
+        ensures empty { result ≡ is_empty_def self.now }
         ensures none { result ≡ true → self.now ≡ [] }
     {
         self.given == self.out.len()
@@ -62,7 +62,7 @@ impl Waiting {
     /// Whether so much waits that it is put before more is taken. Less is kept until more is written behind it, or nothing more comes.
     #[tactic(auto, using(crate::proofs::WaitingLemmas::buffers))]
     pub fn is_worth_putting(&self) -> bool
-        ensures worth { result ≡ is_worth_putting_lem self.now }
+        ensures worth { result ≡ is_worth_putting_def self.now }
     {
         self.out.len() - self.given >= HALF_PIECE
     }
@@ -98,7 +98,7 @@ impl Waiting {
     /// The front of what waits, as long as a piece can be; it waits no more.
     #[tactic(auto, using(crate::proofs::WaitingLemmas::buffers))]
     pub fn next(&mut self) -> Result<Bytes, Memory>
-        requires { is_empty_lem self.old ≡ false }
+        requires { is_empty_def self.old ≡ false }
         ensures { IfOk result (λ piece. self.old ≡ piece ++ self.new) }
     {
         if self.given == 0 && is_given_whole(&self.out) {

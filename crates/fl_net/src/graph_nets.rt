@@ -2,8 +2,8 @@
 ghost use Rattle.std.specs.Prelude.{◌≡◌, ◌<◌, ◌+◌, ◌^◌, ◌∷◌, [], ℕ, if◌then◌else◌, length, None, IfOk};
 ghost use Rattle.fl_graph.specs.Net.{gives};
 ghost use Rattle.fl_graph.specs.Valid.{Valid};
-ghost use Rattle.fl_classes.specs.Flow.{is_source as is_source_lem};
-ghost use Rattle.fl_classes.specs.Kinds.{is_writer as is_writer_lem};
+ghost use Rattle.fl_classes.specs.Flow.{is_source as is_source_def};
+ghost use Rattle.fl_classes.specs.Kinds.{is_writer as is_writer_def};
 ghost use Rattle.fl_net.specs.Plans.{HasRooms, IsNetOf, is_sole, room_of};
 ghost use Rattle.fl_net.specs.Starts.{BeginsAs, HasPorts, NodesHave};
 ghost use Rattle.fl_net.specs.Steps.{room_on, waiting_on};
@@ -86,10 +86,10 @@ fn ports_of(alloc: Global, nodes: &[Node], edges: usize) -> Result<Vec<Ports>, M
 
 /// The ports of a node, whose edge from outside or to the outside is this one where it is an end.
 fn ports_of_node(alloc: Global, node: &Node, outer: u32) -> Result<Ports, Memory>
-    ensures ins { IfOk result (λ own. own.ins.items ≡ (if is_source_lem node.now.kind then outer ∷ [] else node.now.ins)) }
-    ensures outs { IfOk result (λ own. own.outs.items ≡ (if is_writer_lem node.now.kind then outer ∷ node.now.outs else node.now.outs)) }
-    ensures reads { IfOk result (λ own. own.reads ≡ is_source_lem node.now.kind) }
-    ensures writes { IfOk result (λ own. own.writes ≡ is_writer_lem node.now.kind) }
+    ensures ins { IfOk result (λ own. own.ins.items ≡ (if is_source_def node.now.kind then outer ∷ [] else node.now.ins)) }
+    ensures outs { IfOk result (λ own. own.outs.items ≡ (if is_writer_def node.now.kind then outer ∷ node.now.outs else node.now.outs)) }
+    ensures reads { IfOk result (λ own. own.reads ≡ is_source_def node.now.kind) }
+    ensures writes { IfOk result (λ own. own.writes ≡ is_writer_def node.now.kind) }
 {
     let reads = is_source(&node.kind);
     let writes = is_writer(&node.kind);
@@ -128,14 +128,14 @@ fn outs_of(alloc: Global, writes: bool, own: &[u32], outer: u32) -> Result<Vec<u
 
 /// Whether the node is a source.
 pub(crate) fn is_source(kind: &NodeKind) -> bool
-    ensures { result ≡ is_source_lem kind.now }
+    ensures { result ≡ is_source_def kind.now }
 {
     matches!(kind, NodeKind::Source(_))
 }
 
 /// Whether the node writes to the outside.
 fn is_writer(kind: &NodeKind) -> bool
-    ensures { result ≡ is_writer_lem kind.now }
+    ensures { result ≡ is_writer_def kind.now }
 {
     matches!(kind, NodeKind::Sink(_) | NodeKind::TeeFile(..))
 }

@@ -2,8 +2,8 @@
 ghost use Rattle.std.specs.Prelude.{◌≡◌, ◌<◌, ◌≤◌, ◌+◌, ◌^◌, [], ℕ, true, false, length, IfOk, IfSome, OnOk};
 ghost use Rattle.fl_graph.specs.Net.{gives};
 ghost use Rattle.fl_graph.specs.Valid.{Valid};
-ghost use Rattle.fl_classes.specs.Flow.{is_source as is_source_lem};
-ghost use Rattle.fl_net.specs.Inputs.{input_of as input_of_lem, AreWhole, BeginsOver, IsLoaded, RunsOver};
+ghost use Rattle.fl_classes.specs.Flow.{is_source as is_source_def};
+ghost use Rattle.fl_net.specs.Inputs.{input_of as input_of_def, AreWhole, BeginsOver, IsLoaded, RunsOver};
 ghost use Rattle.fl_net.specs.Plans.{HasRooms};
 ghost use Rattle.fl_net.specs.Starts.{BeginsAs, NodesHave};
 ghost use Rattle.fl_net.specs.Steps.{waiting_on};
@@ -32,8 +32,8 @@ impl<M: Machine> Net<M> {
         requires all { length machines.items ≡ length graph.now.nodes }
         requires each { NodesHave (λ node cell machine. BeginsAs (M.state machine) cell) graph.now.nodes machines.items }
         requires some { IfSome cap (λ room. 1 ≤ room) }
-        ensures begins { IfOk result (λ net. BeginsOver M.state graph.now.nodes (input_of_lem inputs.items) net.ports.items net.machines.items net.wires.items) }
-        ensures runs { IfOk result (λ net. RunsOver M.state graph.now.nodes (input_of_lem inputs.items) 0 (λ _. false) net.ports.items net.machines.items net.wires.items) }
+        ensures begins { IfOk result (λ net. BeginsOver M.state graph.now.nodes (input_of_def inputs.items) net.ports.items net.machines.items net.wires.items) }
+        ensures runs { IfOk result (λ net. RunsOver M.state graph.now.nodes (input_of_def inputs.items) 0 (λ _. false) net.ports.items net.machines.items net.wires.items) }
         ensures rooms { IfOk result (λ net. HasRooms graph.now.nodes cap net.rooms.items) }
         ensures few { IfOk result (λ net. length net.machines.items < 2 ^ 32) }
     {
@@ -59,7 +59,7 @@ fn load(
     requires few { length nodes.now < 2 ^ 32 }
     requires none { (edge : ℕ) → waiting_on wires.old edge ≡ [] }
     ensures width { length wires.new ≡ length wires.old }
-    ensures loaded { OnOk result (IsLoaded nodes.now (input_of_lem inputs.now) wires.new) }
+    ensures loaded { OnOk result (IsLoaded nodes.now (input_of_def inputs.now) wires.new) }
 {
     for node in 0..nodes.len() {
         let text = input_of(inputs, node as u32);
@@ -71,8 +71,8 @@ fn load(
 /// Puts a node's text on its edge from outside, where it is a source.
 fn load_node(alloc: Global, wire: &mut Wire, kind: &NodeKind, text: &[u8]) -> Result<(), Memory>
     requires empty { wire.old ≡ [] }
-    ensures source { OnOk result (is_source_lem kind.now ≡ true → AreWhole wire.new text.now) }
-    ensures other { is_source_lem kind.now ≡ false → wire.new ≡ wire.old }
+    ensures source { OnOk result (is_source_def kind.now ≡ true → AreWhole wire.new text.now) }
+    ensures other { is_source_def kind.now ≡ false → wire.new ≡ wire.old }
 {
     if is_source(kind) {
         fill(alloc, wire, text)
@@ -97,7 +97,7 @@ fn fill(alloc: Global, wire: &mut Wire, text: &[u8]) -> Result<(), Memory>
 
 /// The text of a node among texts by node number: the first of that number, and where there is none the empty text.
 fn input_of(inputs: &[(u32, Vec<u8>)], node: u32) -> &[u8]
-    ensures { result.now ≡ input_of_lem inputs.now node }
+    ensures { result.now ≡ input_of_def inputs.now node }
 {
     for (other, text) in inputs {
         if *other == node {

@@ -2,7 +2,7 @@
 ghost use Rattle.std.specs.Prelude.{◌≡◌, ℕ, true, false, [], if◌then◌else◌, length, Ok, IfOk, OnErr};
 ghost use Rattle.std.specs.List.{list_all};
 ghost use Rattle.fl_graph.specs.Machines.{is_take, MayDo};
-ghost use Rattle.fl_net.specs.Steps.{is_empty, is_full, is_plain, progress_at, room_on as room_on_lem, has_moved as has_moved_lem, ArePlain, Broke, Fits, Gave, GaveLast, Starves, Took, TookFirst};
+ghost use Rattle.fl_net.specs.Steps.{is_empty, is_full, is_plain, progress_at, room_on as room_on_def, has_moved as has_moved_def, ArePlain, Broke, Fits, Gave, GaveLast, Starves, Took, TookFirst};
 
 use crate::wires::Wire;
 use fl_graph::{Act, Machine, take_piece};
@@ -26,7 +26,7 @@ pub enum Progress {
 impl Progress {
     /// Whether a piece has moved.
     pub fn has_moved(self) -> bool
-        ensures { result ≡ has_moved_lem self }
+        ensures { result ≡ has_moved_def self }
     {
         self == Progress::Took || self == Progress::Gave
     }
@@ -48,11 +48,11 @@ pub fn step<M: Machine>(
     ensures took { result ≡ Ok Progress.Took → Took (M.state machine.old) (M.state machine.new) ins.now false wires.old wires.new }
     ensures gave { result ≡ Ok Progress.Gave → Gave (M.state machine.old) (M.state machine.new) outs.now wires.old wires.new }
     ensures starves { result ≡ Ok Progress.Starves → Starves (M.state machine.new) ins.now wires.new }
-    ensures same { IfOk result (λ step. has_moved_lem step ≡ false → (machine.new ≡ machine.old) × (wires.new ≡ wires.old)) }
+    ensures same { IfOk result (λ step. has_moved_def step ≡ false → (machine.new ≡ machine.old) × (wires.new ≡ wires.old)) }
     ensures shut { result ≡ Ok Progress.Ended → ((port : ℕ) → (M.state machine.new).takes port ≡ false) × ((port : ℕ) → (M.state machine.new).puts port ≡ false) }
     ensures answer { IfOk result (λ step. step ≡ progress_at (M.state machine.old).act ins.now outs.now rooms.now wires.old) }
     ensures may { MayDo (M.state machine.old) (M.state machine.old).act }
-    ensures memory { OnErr result (has_moved_lem (progress_at (M.state machine.old).act ins.now outs.now rooms.now wires.old) ≡ true) }
+    ensures memory { OnErr result (has_moved_def (progress_at (M.state machine.old).act ins.now outs.now rooms.now wires.old) ≡ true) }
     ensures refused_take { OnErr result (is_take (M.state machine.old).act ≡ true → Took (M.state machine.old) (M.state machine.new) ins.now true wires.old wires.new) }
     ensures refused_put { OnErr result (is_take (M.state machine.old).act ≡ false → Broke (M.state machine.old) (M.state machine.new) × (wires.new ≡ wires.old)) }
     ensures broken { OnErr result ((M.state machine.new).broken ≡ true) }
@@ -91,7 +91,7 @@ fn take_first<M: Machine>(machine: &mut M, port: u32, wire: &mut Wire) -> Result
 
 /// How many pieces may wait on an edge, where that is bounded.
 fn room_on(rooms: &[Option<u32>], edge: u32) -> Option<u32>
-    ensures { result ≡ room_on_lem rooms.now edge }
+    ensures { result ≡ room_on_def rooms.now edge }
 {
     match rooms.get(edge as usize) {
         Some(room) => *room,

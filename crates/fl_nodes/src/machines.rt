@@ -1,9 +1,9 @@
 //! What a node's machine does, with the failure of its node.
 ghost use Rattle.std.specs.Prelude.{◌≡◌, ℕ, List, Bool, true, false, is_some, Option, MatchResult, IfOk, OnErr};
-ghost use Rattle.fl_graph.specs.Machines.{closes, is_mark as is_mark_lem, is_put, is_take, port_put, port_taken, MayDo, State};
+ghost use Rattle.fl_graph.specs.Machines.{closes, is_mark as is_mark_def, is_put, is_take, port_put, port_taken, MayDo, State};
 ghost use Rattle.fl_graph.specs.Runs.{add, Run};
 ghost use Rattle.fl_graph.specs.declared.pieces.Piece.{Piece as Pieces};
-ghost use Rattle.fl_nodes.specs.Work.{is_fault, wanted as wanted_lem, SamePorts};
+ghost use Rattle.fl_nodes.specs.Work.{is_fault, wanted as wanted_def, SamePorts};
 
 use fl_graph::{Machine, Piece, break_machine, take_piece};
 use ps_lines::Memory;
@@ -11,7 +11,7 @@ use ps_world::WorldErr;
 
 /// The failure of a node that is refused memory: that, where it hasn't failed before.
 pub(crate) fn wanted(failure: Option<WorldErr>) -> Option<WorldErr>
-    ensures { result ≡ wanted_lem failure }
+    ensures { result ≡ wanted_def failure }
 {
     match failure {
         Some(error) => Some(error),
@@ -21,7 +21,7 @@ pub(crate) fn wanted(failure: Option<WorldErr>) -> Option<WorldErr>
 
 /// Whether the piece is a mark.
 fn is_mark(piece: &Piece) -> bool
-    ensures { result ≡ is_mark_lem piece.now }
+    ensures { result ≡ is_mark_def piece.now }
 {
     matches!(piece, Piece::Mark)
 }
@@ -55,7 +55,7 @@ pub(crate) fn draw<M: Machine>(machine: &mut M) -> Result<Piece, Memory>
     ensures run { (start : State) (taken put : ℕ → List Pieces) (failed : Bool) → Run start (M.state machine.old) taken put failed →
         MatchResult result (λ piece. Run start (M.state machine.new) taken (add (port_put (M.state machine.old).act) piece put) failed)
         (λ _. Run start (M.state machine.new) taken put true) }
-    ensures plain { IfOk result (λ piece. (M.state machine.old).numbered_outs (port_put (M.state machine.old).act) ≡ false → is_mark_lem piece ≡ false) }
+    ensures plain { IfOk result (λ piece. (M.state machine.old).numbered_outs (port_put (M.state machine.old).act) ≡ false → is_mark_def piece ≡ false) }
     ensures same { IfOk result (λ piece. closes piece ≡ false → SamePorts (M.state machine.old) (M.state machine.new)) }
 {
     machine.put()

@@ -2,7 +2,7 @@
 ghost use Rattle.std.specs.Prelude.{◌≡◌, true, false, Some, None};
 ghost use Rattle.fl_graph.specs.Machines.{MayDo};
 ghost use Rattle.fl_nodes.specs.Points.{point};
-ghost use Rattle.fl_nodes.specs.Work.{edge_at as edge_at_lem, IsHeld, IsUnderWay, Leads, Received, Sends};
+ghost use Rattle.fl_nodes.specs.Work.{edge_at as edge_at_def, IsHeld, IsUnderWay, Leads, Received, Sends};
 
 use crate::ends::OwnEnd;
 use crate::failures::AnyFailure;
@@ -158,7 +158,7 @@ fn send<M: Machine, E: OwnEnd, H: Wait>(rt: &H, worker: &mut Worker<M, E>, port:
 
 /// The edge at a port; none, where the port leads outside.
 fn edge_at(writes: bool, port: u32) -> Option<u32>
-    ensures { result ≡ edge_at_lem writes port }
+    ensures { result ≡ edge_at_def writes port }
 {
     if writes {
         port.checked_sub(1)
@@ -176,7 +176,7 @@ fn send_to_edge<M: Machine, E: OwnEnd, H: Wait>(
     piece: Piece,
 )
     requires held { IsHeld (point M.state E.state worker.old) port piece }
-    requires edge { edge_at_lem (E.state worker.old.own).writes port ≡ Some edge }
+    requires edge { edge_at_def (E.state worker.old.own).writes port ≡ Some edge }
     ensures { Sends (point M.state E.state worker.old) port piece (point M.state E.state worker.new) }
 {
     match put_at(rt, &mut worker.givers, edge, piece) {
@@ -191,7 +191,7 @@ fn send_to_edge<M: Machine, E: OwnEnd, H: Wait>(
 /// Writes it to the outside, or lets it go where the node has failed. Where its end fails now the machine is broken.
 fn send_outside<M: Machine, E: OwnEnd>(worker: &mut Worker<M, E>, port: u32, piece: Piece)
     requires held { IsHeld (point M.state E.state worker.old) port piece }
-    requires edge { edge_at_lem (E.state worker.old.own).writes port ≡ None }
+    requires edge { edge_at_def (E.state worker.old.own).writes port ≡ None }
     ensures { Sends (point M.state E.state worker.old) port piece (point M.state E.state worker.new) }
 {
     if worker.failure.is_some() {

@@ -3,8 +3,8 @@ ghost use Rattle.std.specs.Prelude.{◌≡◌, ◌∷◌, [], ◌+◌, ◌++◌,
 ghost use Rattle.std.specs.Option.{option_and_then, option_map};
 ghost use Rattle.fl_graph.specs.declared.kinds.NodeKind.TheVariants as kind;
 ghost use Rattle.fl_rewrites.specs.Keeps.{Answers};
-ghost use Rattle.fl_rewrites.specs.Joined.{joined_at as joined_at_lem, joined_behind as joined_behind_lem, joined_node as joined_node_lem, map_cells, unjoined as unjoined_lem};
-ghost use Rattle.fl_rewrites.specs.Places.{giver_of as giver_of_lem};
+ghost use Rattle.fl_rewrites.specs.Joined.{joined_at as joined_at_def, joined_behind as joined_behind_def, joined_node as joined_node_def, map_cells, unjoined as unjoined_def};
+ghost use Rattle.fl_rewrites.specs.Places.{giver_of as giver_of_def};
 
 use crate::answers::Rewritten;
 use crate::known::joins_plainly;
@@ -42,8 +42,8 @@ pub struct Unjoined {
 
 /// The Whole with this number, where it stands behind a Cat.
 pub fn joined_at(nodes: &[Node], node: u32) -> Option<JoinedNodes<'_>>
-    ensures some { IfSome result (λ at. joined_at_lem nodes.now node ≡ Some (record { cat = at.cat; parts = at.parts.now; inv = at.inv.now; outs = at.outs.now; stage = at.stage })) }
-    ensures none { IfNone result (joined_at_lem nodes.now node ≡ None) }
+    ensures some { IfSome result (λ at. joined_at_def nodes.now node ≡ Some (record { cat = at.cat; parts = at.parts.now; inv = at.inv.now; outs = at.outs.now; stage = at.stage })) }
+    ensures none { IfNone result (joined_at_def nodes.now node ≡ None) }
 {
     let Some(whole) = nodes.get(node as usize) else {
         return None;
@@ -53,8 +53,8 @@ pub fn joined_at(nodes: &[Node], node: u32) -> Option<JoinedNodes<'_>>
 
 /// This node, where it is a Whole behind a Cat.
 fn joined_node<'nodes>(nodes: &'nodes [Node], whole: &'nodes Node) -> Option<JoinedNodes<'nodes>>
-    ensures some { IfSome result (λ at. joined_node_lem nodes.now whole.now ≡ Some (record { cat = at.cat; parts = at.parts.now; inv = at.inv.now; outs = at.outs.now; stage = at.stage })) }
-    ensures none { IfNone result (joined_node_lem nodes.now whole.now ≡ None) }
+    ensures some { IfSome result (λ at. joined_node_def nodes.now whole.now ≡ Some (record { cat = at.cat; parts = at.parts.now; inv = at.inv.now; outs = at.outs.now; stage = at.stage })) }
+    ensures none { IfNone result (joined_node_def nodes.now whole.now ≡ None) }
 {
     match &whole.kind {
         NodeKind::Whole(inv) => match whole.ins.as_slice() {
@@ -72,8 +72,8 @@ fn joined_behind<'nodes>(
     inv: &'nodes Inv,
     edge: u32,
 ) -> Option<JoinedNodes<'nodes>>
-    ensures some { IfSome result (λ at. option_and_then (joined_behind_lem nodes.now whole.now inv.now) (giver_of_lem edge nodes.now) ≡ Some (record { cat = at.cat; parts = at.parts.now; inv = at.inv.now; outs = at.outs.now; stage = at.stage })) }
-    ensures none { IfNone result (option_and_then (joined_behind_lem nodes.now whole.now inv.now) (giver_of_lem edge nodes.now) ≡ None) }
+    ensures some { IfSome result (λ at. option_and_then (joined_behind_def nodes.now whole.now inv.now) (giver_of_def edge nodes.now) ≡ Some (record { cat = at.cat; parts = at.parts.now; inv = at.inv.now; outs = at.outs.now; stage = at.stage })) }
+    ensures none { IfNone result (option_and_then (joined_behind_def nodes.now whole.now inv.now) (giver_of_def edge nodes.now) ≡ None) }
 {
     let Some(place) = giver_of(nodes, edge) else {
         return None;
@@ -148,7 +148,7 @@ fn map_node(alloc: Global, inv: &Inv, stage: u32, edge: u32, out: u32) -> Result
 pub fn exchange(alloc: Global, graph: Graph, node: u32, found: Option<Unjoined>) -> Rewritten
     requires whole { IfSome found (λ new. node < length graph.nodes) }
     requires cat { IfSome found (λ new. new.cat < node) }
-    ensures { Answers (option_map (unjoined_lem graph node) found) graph result }
+    ensures { Answers (option_map (unjoined_def graph node) found) graph result }
 {
     let Some(new) = found else {
         return Rewritten::NotApplicable(graph);
@@ -164,7 +164,7 @@ pub fn exchange(alloc: Global, graph: Graph, node: u32, found: Option<Unjoined>)
 fn unjoin(alloc: Global, graph: Graph, node: u32, new: Unjoined) -> Result<Graph, Memory>
     requires whole { node < length graph.nodes }
     requires cat { new.cat < node }
-    ensures { IfOk result (λ made. made ≡ unjoined_lem graph node new) }
+    ensures { IfOk result (λ made. made ≡ unjoined_def graph node new) }
 {
     let Unjoined { cat, named, nodes } = new;
     let graph = with_nodes(alloc, graph, node as usize, nodes.into_vec(), named)?;

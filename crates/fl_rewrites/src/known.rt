@@ -1,9 +1,9 @@
 //! Edges that are known to carry texts cut at ends of lines.
 ghost use Rattle.std.specs.Prelude.{◌≡◌, ◌≤◌, ◌++◌, [], get_or, length, map, if◌then◌else◌, IfOk, OnOk};
 ghost use Rattle.std.specs.List.{list_all, list_any};
-ghost use Rattle.fl_rewrites.specs.Inner.Tables.{all_at, bound, holds, marked, root_in as root_in_lem};
-ghost use Rattle.fl_rewrites.specs.Known.{are_files as are_files_lem, are_parts as are_parts_lem, files_given as files_given_lem, groups_by, groups_given, is_group as is_group_lem, is_known as is_known_lem, is_split as is_split_lem, joins_plainly as joins_plainly_lem, keeps_ends as keeps_ends_lem, root_behind, root_of, splits_into as splits_into_lem};
-ghost use Rattle.fl_rewrites.specs.Suits.{is_file as is_file_lem};
+ghost use Rattle.fl_rewrites.specs.Inner.Tables.{all_at, bound, holds, marked, root_in as root_in_def};
+ghost use Rattle.fl_rewrites.specs.Known.{are_files as are_files_def, are_parts as are_parts_def, files_given as files_given_def, groups_by, groups_given, is_group as is_group_def, is_known as is_known_def, is_split as is_split_def, joins_plainly as joins_plainly_def, keeps_ends as keeps_ends_def, root_behind, root_of, splits_into as splits_into_def};
+ghost use Rattle.fl_rewrites.specs.Suits.{is_file as is_file_def};
 
 use crate::numbers::{bound_of, given_edges};
 use fl_graph::{From, Node, NodeKind};
@@ -16,7 +16,7 @@ use ut_args::keeps_closed;
 ///
 /// Its time is linear in the graph and in the highest number of an edge.
 pub fn is_known(alloc: Global, nodes: &[Node], edges: &[u32]) -> Result<bool, Memory>
-    ensures { IfOk result (λ known. known ≡ is_known_lem nodes.now edges.now) }
+    ensures { IfOk result (λ known. known ≡ is_known_def nodes.now edges.now) }
 {
     let table = roots_of(alloc, nodes)?;
     let roots = roots_at(alloc, table.as_slice(), edges)?;
@@ -25,7 +25,7 @@ pub fn is_known(alloc: Global, nodes: &[Node], edges: &[u32]) -> Result<bool, Me
 
 /// Whether the edges are all outs of one split, or groups.
 fn are_parts(alloc: Global, nodes: &[Node], edges: &[u32]) -> Result<bool, Memory>
-    ensures { IfOk result (λ are. are ≡ are_parts_lem nodes.now edges.now) }
+    ensures { IfOk result (λ are. are ≡ are_parts_def nodes.now edges.now) }
 {
     if is_split_among(nodes, edges) {
         return Ok(true);
@@ -35,21 +35,21 @@ fn are_parts(alloc: Global, nodes: &[Node], edges: &[u32]) -> Result<bool, Memor
 
 /// Whether the edges are all outs of one of these nodes, a split.
 fn is_split_among(nodes: &[Node], edges: &[u32]) -> bool
-    ensures { result ≡ list_any (splits_into_lem edges.now) nodes.now }
+    ensures { result ≡ list_any (splits_into_def edges.now) nodes.now }
 {
     nodes.iter().any(|node| splits_into(node, edges))
 }
 
 /// Whether the edges are all outs of this node, a split.
 fn splits_into(node: &Node, edges: &[u32]) -> bool
-    ensures { result ≡ splits_into_lem edges.now node.now }
+    ensures { result ≡ splits_into_def edges.now node.now }
 {
     is_split(&node.kind) && node.outs.as_slice() == edges
 }
 
 /// Whether this is a split.
 fn is_split(kind: &NodeKind) -> bool
-    ensures { result ≡ is_split_lem kind.now }
+    ensures { result ≡ is_split_def kind.now }
 {
     match kind {
         NodeKind::Split => true,
@@ -72,7 +72,7 @@ fn are_groups(alloc: Global, nodes: &[Node], edges: &[u32]) -> Result<bool, Memo
 ///
 /// Its time is linear in the graph and in the highest number of an edge.
 pub fn are_files(alloc: Global, nodes: &[Node], edges: &[u32]) -> Result<bool, Memory>
-    ensures { IfOk result (λ are. are ≡ are_files_lem nodes.now edges.now) }
+    ensures { IfOk result (λ are. are ≡ are_files_def nodes.now edges.now) }
 {
     let files = files_given(alloc, nodes)?;
     let marks = marks_of(alloc, files.as_slice())?;
@@ -81,7 +81,7 @@ pub fn are_files(alloc: Global, nodes: &[Node], edges: &[u32]) -> Result<bool, M
 
 /// The edges at which files are read.
 fn files_given(alloc: Global, nodes: &[Node]) -> Result<Vec<u32>, Memory>
-    ensures { IfOk result (λ edges. edges.items ≡ files_given_lem nodes.now) }
+    ensures { IfOk result (λ edges. edges.items ≡ files_given_def nodes.now) }
 {
     let mut edges = Vec::new(alloc);
     for node in nodes {
@@ -113,7 +113,7 @@ fn add_outs(edges: &mut Vec<u32>, node: &Node, wanted: bool) -> Result<(), Memor
 
 /// Whether a file is read here.
 fn is_file(kind: &NodeKind) -> bool
-    ensures { result ≡ is_file_lem kind.now }
+    ensures { result ≡ is_file_def kind.now }
 {
     match kind {
         NodeKind::Source(From::File(_)) => true,
@@ -123,14 +123,14 @@ fn is_file(kind: &NodeKind) -> bool
 
 /// Whether this is a Cat that doesn't close, over marked edges alone.
 fn is_group(files: &[bool], node: &Node) -> bool
-    ensures { result ≡ is_group_lem (marked files.now) node.now }
+    ensures { result ≡ is_group_def (marked files.now) node.now }
 {
     joins_plainly(&node.kind) && all_marked(files, node.ins.as_slice())
 }
 
 /// Whether this is a Cat that doesn't close.
 pub fn joins_plainly(kind: &NodeKind) -> bool
-    ensures { result ≡ joins_plainly_lem kind.now }
+    ensures { result ≡ joins_plainly_def kind.now }
 {
     match kind {
         NodeKind::Cat { close } => !*close,
@@ -170,7 +170,7 @@ fn marks_of(alloc: Global, edges: &[u32]) -> Result<Vec<bool>, Memory>
 /// The edge that each edge comes from through maps that keep closed.
 #[tactic(auto, using(crate::proofs::MarkLemmas::root_laws))]
 fn roots_of(alloc: Global, nodes: &[Node]) -> Result<Vec<Option<u32>>, Memory>
-    ensures { IfOk result (λ table. root_in_lem table.items ≡ root_of nodes.now) }
+    ensures { IfOk result (λ table. root_in_def table.items ≡ root_of nodes.now) }
 {
     let given = given_edges(alloc, nodes)?;
     let mut table = vec![in alloc; None; bound_of(given.as_slice())]?;
@@ -184,7 +184,7 @@ fn roots_of(alloc: Global, nodes: &[Node]) -> Result<Vec<Option<u32>>, Memory>
 #[tactic(auto, using(crate::proofs::MarkLemmas::pass_laws))]
 fn pass_roots(table: &mut Vec<Option<u32>>, node: &Node)
     requires { bound node.now.outs ≤ length table.old.items }
-    ensures roots { root_in_lem table.new.items ≡ root_behind node.now (root_in_lem table.old.items) }
+    ensures roots { root_in_def table.new.items ≡ root_behind node.now (root_in_def table.old.items) }
     ensures size { length table.new.items ≡ length table.old.items }
 {
     if !keeps_ends(&node.kind) {
@@ -212,7 +212,7 @@ fn first_of(edges: &[u32]) -> u32
 #[tactic(auto, using(crate::proofs::MarkLemmas::mark_laws))]
 fn set_roots(table: &mut Vec<Option<u32>>, edges: &[u32], root: u32)
     requires { bound edges.now ≤ length table.old.items }
-    ensures roots { root_in_lem table.new.items ≡ all_at root edges.now (root_in_lem table.old.items) }
+    ensures roots { root_in_def table.new.items ≡ all_at root edges.now (root_in_def table.old.items) }
     ensures size { length table.new.items ≡ length table.old.items }
 {
     for edge in edges {
@@ -222,7 +222,7 @@ fn set_roots(table: &mut Vec<Option<u32>>, edges: &[u32], root: u32)
 
 /// Whether this is a map that keeps closed texts closed.
 fn keeps_ends(kind: &NodeKind) -> bool
-    ensures { result ≡ keeps_ends_lem kind.now }
+    ensures { result ≡ keeps_ends_def kind.now }
 {
     match kind {
         NodeKind::Map(inv) => keeps_closed(inv),
@@ -232,7 +232,7 @@ fn keeps_ends(kind: &NodeKind) -> bool
 
 /// The root of an edge: the edge itself where the table has none.
 fn root_in(table: &[Option<u32>], edge: u32) -> u32
-    ensures { result ≡ root_in_lem table.now edge }
+    ensures { result ≡ root_in_def table.now edge }
 {
     match table.get(edge as usize) {
         Some(Some(root)) => *root,
@@ -242,7 +242,7 @@ fn root_in(table: &[Option<u32>], edge: u32) -> u32
 
 /// The roots of these edges.
 fn roots_at(alloc: Global, table: &[Option<u32>], edges: &[u32]) -> Result<Vec<u32>, Memory>
-    ensures { IfOk result (λ roots. roots.items ≡ map (root_in_lem table.now) edges.now) }
+    ensures { IfOk result (λ roots. roots.items ≡ map (root_in_def table.now) edges.now) }
 {
     let mut roots = Vec::new(alloc);
     for edge in edges {

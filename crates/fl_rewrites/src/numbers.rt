@@ -2,7 +2,7 @@
 ghost use Rattle.std.specs.Prelude.{◌≡◌, ◌<◌, ℕ, length, map, get_or, IfOk, OnOk};
 ghost use Rattle.fl_graph.specs.Net.{gives};
 ghost use Rattle.fl_rewrites.specs.Numbering.{numbered, place, renamed};
-ghost use Rattle.fl_rewrites.specs.Inner.Tables.{bound, looked_up as looked_up_lem};
+ghost use Rattle.fl_rewrites.specs.Inner.Tables.{bound, looked_up as looked_up_def};
 
 use fl_graph::{Node, Seq};
 use ps_lines::Memory;
@@ -39,7 +39,7 @@ pub(crate) fn given_edges(alloc: Global, nodes: &[Node]) -> Result<Vec<u32>, Mem
 #[tactic(auto, using(crate::proofs::TableLemmas::table_laws))]
 fn places_of(alloc: Global, edges: &[u32], count: u32) -> Result<Vec<u32>, Memory>
     requires { count ≡ length edges.now }
-    ensures { IfOk result (λ places. looked_up_lem places.items count ≡ place edges.now) }
+    ensures { IfOk result (λ places. looked_up_def places.items count ≡ place edges.now) }
 {
     let mut places = vec![in alloc; count; bound_of(edges)]?;
     let mut left = count;
@@ -70,7 +70,7 @@ fn renumber_all(
     places: &[u32],
     count: u32,
 ) -> Result<(), Memory>
-    ensures { OnOk result (nodes.new.items ≡ map (renamed (looked_up_lem places.now count)) nodes.old.items) }
+    ensures { OnOk result (nodes.new.items ≡ map (renamed (looked_up_def places.now count)) nodes.old.items) }
 {
     for node in 0..nodes.len() {
         renumber(alloc, &mut nodes[node], places, count)?;
@@ -80,7 +80,7 @@ fn renumber_all(
 
 /// Gives the edges of a node their new numbers.
 fn renumber(alloc: Global, node: &mut Node, places: &[u32], count: u32) -> Result<(), Memory>
-    ensures { OnOk result (node.new ≡ renamed (looked_up_lem places.now count) node.old) }
+    ensures { OnOk result (node.new ≡ renamed (looked_up_def places.now count) node.old) }
 {
     let ins = looked_up(alloc, node.ins.as_slice(), places, count)?;
     let outs = looked_up(alloc, node.outs.as_slice(), places, count)?;
@@ -91,7 +91,7 @@ fn renumber(alloc: Global, node: &mut Node, places: &[u32], count: u32) -> Resul
 
 /// The places of these edges.
 fn looked_up(alloc: Global, edges: &[u32], places: &[u32], count: u32) -> Result<Vec<u32>, Memory>
-    ensures { IfOk result (λ new. new.items ≡ map (looked_up_lem places.now count) edges.now) }
+    ensures { IfOk result (λ new. new.items ≡ map (looked_up_def places.now count) edges.now) }
 {
     let mut new = Vec::new(alloc);
     for edge in edges {
@@ -102,7 +102,7 @@ fn looked_up(alloc: Global, edges: &[u32], places: &[u32], count: u32) -> Result
 
 /// The place of an edge.
 fn look_up(places: &[u32], edge: u32, count: u32) -> u32
-    ensures { result ≡ looked_up_lem places.now count edge }
+    ensures { result ≡ looked_up_def places.now count edge }
 {
     match places.get(edge as usize) {
         Some(place) => *place,

@@ -1,13 +1,13 @@
 //! Where edges lead from and to, and how many there are.
 ghost use Rattle.std.specs.Prelude.{◌≡◌, ◌≤◌, ◌^◌, length, IfSome, IfNone};
 ghost use Rattle.fl_graph.specs.Net.{gives};
-ghost use Rattle.fl_rewrites.specs.Places.{giver_of as giver_of_lem, taker_of as taker_of_lem};
+ghost use Rattle.fl_rewrites.specs.Places.{giver_of as giver_of_def, taker_of as taker_of_def};
 
 use fl_graph::Node;
 
 /// The number of the first node that gives the edge.
 pub fn giver_of(nodes: &[Node], edge: u32) -> Option<usize>
-    ensures { result ≡ giver_of_lem edge nodes.now }
+    ensures { result ≡ giver_of_def edge nodes.now }
 {
     nodes
         .iter()
@@ -16,7 +16,7 @@ pub fn giver_of(nodes: &[Node], edge: u32) -> Option<usize>
 
 /// The number of the first node that takes the edge.
 pub fn taker_of(nodes: &[Node], edge: u32) -> Option<usize>
-    ensures { result ≡ taker_of_lem edge nodes.now }
+    ensures { result ≡ taker_of_def edge nodes.now }
 {
     nodes
         .iter()

@@ -4,7 +4,7 @@ ghost use Rattle.std.specs.List.{flat_map, range_with_len};
 ghost use Rattle.std.specs.Option.{option_map};
 ghost use Rattle.fl_rewrites.specs.Keeps.{Answers};
 ghost use Rattle.fl_rewrites.specs.Places.{replaced};
-ghost use Rattle.fl_rewrites.specs.Replacing.{exchanged as exchanged_lem, in_order as in_order_lem, renamed_status as renamed_status_lem, stand_for, with_nodes as with_nodes_lem};
+ghost use Rattle.fl_rewrites.specs.Replacing.{exchanged as exchanged_def, in_order as in_order_def, renamed_status as renamed_status_def, stand_for, with_nodes as with_nodes_def};
 
 use crate::answers::Rewritten;
 use crate::numbers::number;
@@ -16,7 +16,7 @@ use std::alloc::Global;
 /// The graph with what was found in the place of the node with this number, which the status doesn't name, if that is anything.
 pub fn replace(alloc: Global, graph: Graph, node: u32, found: Option<Seq<Node>>) -> Rewritten
     requires { IfSome found (λ nodes. node < length graph.nodes) }
-    ensures { Answers (option_map (exchanged_lem node graph) found) graph result }
+    ensures { Answers (option_map (exchanged_def node graph) found) graph result }
 {
     let Some(nodes) = found else {
         return Rewritten::NotApplicable(graph);
@@ -30,7 +30,7 @@ pub fn replace(alloc: Global, graph: Graph, node: u32, found: Option<Seq<Node>>)
 /// The graph with these nodes in the place of the one with this number.
 fn exchanged(alloc: Global, graph: Graph, node: u32, nodes: Seq<Node>) -> Result<Graph, Memory>
     requires { node < length graph.nodes }
-    ensures { IfOk result (λ made. made ≡ exchanged_lem node graph nodes) }
+    ensures { IfOk result (λ made. made ≡ exchanged_def node graph nodes) }
 {
     let graph = with_nodes(alloc, graph, node as usize, nodes.into_vec(), 0)?;
     in_order(alloc, graph)
@@ -38,7 +38,7 @@ fn exchanged(alloc: Global, graph: Graph, node: u32, nodes: Seq<Node>) -> Result
 
 /// The graph with its edges numbered in the order in which they are given.
 pub(crate) fn in_order(alloc: Global, graph: Graph) -> Result<Graph, Memory>
-    ensures { IfOk result (λ made. made ≡ in_order_lem graph) }
+    ensures { IfOk result (λ made. made ≡ in_order_def graph) }
 {
     let Graph { nodes, status } = graph;
     let nodes = number(alloc, nodes.into_vec())?;
@@ -59,7 +59,7 @@ pub fn with_nodes(
     named: u32,
 ) -> Result<Graph, Memory>
     requires { place < length graph.nodes }
-    ensures { IfOk result (λ new. new ≡ with_nodes_lem place nodes.items named graph) }
+    ensures { IfOk result (λ new. new ≡ with_nodes_def place nodes.items named graph) }
 {
     let Graph { nodes: old, status } = graph;
     let status = renamed_status(alloc, status, place, nodes.len(), named)?;
@@ -93,7 +93,7 @@ fn renamed_status(
     size: usize,
     named: u32,
 ) -> Result<StatusRule, Memory>
-    ensures { IfOk result (λ new. new ≡ renamed_status_lem place size named status) }
+    ensures { IfOk result (λ new. new ≡ renamed_status_def place size named status) }
 {
     match status {
         StatusRule::Fixed(code) => Ok(StatusRule::Fixed(code)),

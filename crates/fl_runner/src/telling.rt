@@ -2,7 +2,7 @@
 ghost use Rattle.std.specs.Prelude.{◌≡◌, ◌<◌, ◌^◌, true, length, map, get_or, false, IfSome, IfNone};
 ghost use Rattle.std.specs.List.{list_any};
 ghost use Rattle.fl_classes.specs.Flow.{status_by};
-ghost use Rattle.fl_nodes.specs.Work.{is_fault as is_fault_lem};
+ghost use Rattle.fl_nodes.specs.Work.{is_fault as is_fault_def};
 ghost use Rattle.fl_runner.specs.Told.{IsFirstFault, NoFault, NoneFailed, Tells};
 
 use fl_graph::StatusRule;
@@ -50,7 +50,7 @@ fn first_fault<E>(nodes: &[NodeDone<E>]) -> Option<u32>
 
 /// Whether it is that the node's end failed.
 fn is_fault(failure: &Option<WorldErr>) -> bool
-    ensures { result ≡ is_fault_lem failure.now }
+    ensures { result ≡ is_fault_def failure.now }
 {
     matches!(failure, Some(WorldErr::Failed))
 }

@@ -2,19 +2,19 @@
 ghost use Rattle.std.specs.Prelude.{◌≡◌, ◌+◌, ◌++◌, ◌≤◌, [], ◌∷◌, ℕ, List, length, true, IfOk, OnOk};
 ghost use Rattle.std.specs.List.{list_all, list_any};
 ghost use Rattle.ps_world.specs.Paths.{Components};
-ghost use Rattle.fl_graph.specs.Kinds.{is_grep as is_grep_lem, is_input, is_output};
+ghost use Rattle.fl_graph.specs.Kinds.{is_grep as is_grep_def, is_input, is_output};
 ghost use Rattle.fl_graph.specs.Paths.{ArePathsApart, paths_read, paths_written};
 ghost use Rattle.fl_graph.specs.Valid.{Valid};
 ghost use Rattle.fl_classes.specs.Flow.{outcome};
 ghost use Rattle.fl_classes.specs.Kinds.{are_run};
 ghost use Rattle.fl_classes.specs.Sources.{source_texts};
 ghost use Rattle.fl_classes.specs.Used.{words_used};
-ghost use Rattle.fl_segments.specs.Chains.{begins_with, chain_means, is_quiet as is_quiet_lem};
+ghost use Rattle.fl_segments.specs.Chains.{begins_with, chain_means, is_quiet as is_quiet_def};
 ghost use Rattle.fl_segments.specs.Groups.{marks_hold};
 ghost use Rattle.fl_segments.specs.Spread.{IsSpread};
 ghost use Rattle.fl_segments.specs.Stages.{files_read, files_written, gives_output, is_stage, reads_input, words_at};
 ghost use Rattle.fl_segments.specs.Inner.Drawing.{behind, drawn};
-ghost use Rattle.fl_segments.specs.Inner.Steps.{chain_nodes, chain_rule, chain_steps, comes_behind, earlier_steps, grep_rule as grep_rule_lem, last_steps, main_nodes, rule_by};
+ghost use Rattle.fl_segments.specs.Inner.Steps.{chain_nodes, chain_rule, chain_steps, comes_behind, earlier_steps, grep_rule as grep_rule_def, last_steps, main_nodes, rule_by};
 
 use crate::commands::{Written, add_main};
 use crate::drawing::Drawing;
@@ -188,7 +188,7 @@ fn rule(stage: &Stage, nodes: Seq<u32>) -> StatusRule
 
 /// The status rule of grep, by the numbers of its nodes.
 fn grep_rule(is_quiet: bool, status: u8, nodes: Seq<u32>) -> StatusRule
-    ensures { result ≡ grep_rule_lem is_quiet status nodes }
+    ensures { result ≡ grep_rule_def is_quiet status nodes }
 {
     if status == 0 {
         return selected(nodes, 1);
@@ -212,14 +212,14 @@ fn selected(nodes: Seq<u32>, none: u8) -> StatusRule
 
 /// Whether this is grep.
 fn is_grep(inv: &Inv) -> bool
-    ensures { result ≡ is_grep_lem inv.now }
+    ensures { result ≡ is_grep_def inv.now }
 {
     matches!(inv, Inv::Grep(_))
 }
 
 /// Whether this is grep that writes nothing.
 fn is_quiet(inv: &Inv) -> bool
-    ensures { result ≡ is_quiet_lem inv.now }
+    ensures { result ≡ is_quiet_def inv.now }
 {
     match inv {
         Inv::Grep(grep) => matches!(grep.args.report, Report::Nothing),

@@ -2,7 +2,7 @@
 ghost use Rattle.std.specs.Prelude.{◌≡◌, ◌<◌, ◌≤◌, ◌+◌, ◌++◌, [], ◌∷◌, false, length, IfOk, OnOk};
 ghost use Rattle.std.specs.List.{list_all};
 ghost use Rattle.fl_classes.specs.Parts.{slice};
-ghost use Rattle.fl_segments.specs.Groups.{group_start as group_start_lem, is_file as is_file_lem, is_grouped as is_grouped_lem, is_marked as is_marked_lem, may_group as may_group_lem};
+ghost use Rattle.fl_segments.specs.Groups.{group_start as group_start_def, is_file as is_file_def, is_grouped as is_grouped_def, is_marked as is_marked_def, may_group as may_group_def};
 ghost use Rattle.fl_segments.specs.Inner.Drawing.{behind, drawn, step};
 ghost use Rattle.fl_segments.specs.Inner.Steps.{group_parts, group_steps};
 
@@ -17,7 +17,7 @@ use std::alloc::Global;
 
 /// Whether the files of a stage go in groups, where it leads the segment or doesn't.
 pub(crate) fn is_grouped(width: u32, leads: bool, stage: &Stage) -> bool
-    ensures { result ≡ is_grouped_lem width leads stage.now.does stage.now.ins }
+    ensures { result ≡ is_grouped_def width leads stage.now.does stage.now.ins }
 {
     match &stage.does {
         Does::Skip => false,
@@ -27,7 +27,7 @@ pub(crate) fn is_grouped(width: u32, leads: bool, stage: &Stage) -> bool
 
 /// Whether these inputs go in as many groups as the width.
 fn may_group(width: u32, ins: &[In]) -> bool
-    ensures { result ≡ may_group_lem width ins.now }
+    ensures { result ≡ may_group_def width ins.now }
 {
     2 <= width
         && width as usize <= ins.len()
@@ -37,14 +37,14 @@ fn may_group(width: u32, ins: &[In]) -> bool
 
 /// Whether all of these inputs are files.
 fn are_files(ins: &[In]) -> bool
-    ensures { result ≡ list_all is_file_lem ins.now }
+    ensures { result ≡ list_all is_file_def ins.now }
 {
     ins.iter().all(|it| matches!(it, In::File(_, _)))
 }
 
 /// Whether all of these inputs are files that are marked closed.
 fn are_marked(ins: &[In]) -> bool
-    ensures { result ≡ list_all is_marked_lem ins.now }
+    ensures { result ≡ list_all is_marked_def ins.now }
 {
     ins.iter().all(|it| matches!(it, In::File(_, true)))
 }
@@ -54,7 +54,7 @@ fn are_marked(ins: &[In]) -> bool
 fn group_start(groups: u32, files: usize, group: u32) -> usize
     requires some { 0 < groups }
     requires counted { group ≤ groups }
-    ensures start { result ≡ group_start_lem groups files group }
+    ensures start { result ≡ group_start_def groups files group }
     ensures within { result ≤ files }
 {
     let product = u128::from(group) * files as u128;
@@ -91,7 +91,7 @@ fn add_group(
 ) -> Result<(), Memory>
     requires counted { group < groups }
     ensures nodes { OnOk result (drawing.new.nodes.items ≡ drawing.old.nodes.items ++ drawn drawing.old.next
-        (step (NodeKind.Cat false) (slice edges.now (group_start_lem groups (length edges.now) group) (group_start_lem groups (length edges.now) (group + 1))) number ∷ [])) }
+        (step (NodeKind.Cat false) (slice edges.now (group_start_def groups (length edges.now) group) (group_start_def groups (length edges.now) (group + 1))) number ∷ [])) }
     ensures next { OnOk result (drawing.new.next ≡ drawing.old.next + 1) }
 {
     let from = group_start(groups, edges.len(), group);

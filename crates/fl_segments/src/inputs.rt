@@ -1,9 +1,9 @@
 //! What a stage reads: the nodes of its inputs, and one that joins them.
 ghost use Rattle.std.specs.Prelude.{◌≡◌, ◌+◌, ◌++◌, [], ◌∷◌, ℕ, List, length, IfOk, OnOk};
 ghost use Rattle.std.specs.List.{list_any};
-ghost use Rattle.fl_segments.specs.Stages.{closes_before as closes_before_lem, is_reader as is_reader_lem, is_stream as is_stream_lem, joins_before as joins_before_lem};
+ghost use Rattle.fl_segments.specs.Stages.{closes_before as closes_before_def, is_reader as is_reader_def, is_stream as is_stream_def, joins_before as joins_before_def};
 ghost use Rattle.fl_segments.specs.Inner.Drawing.{behind, drawn, step};
-ghost use Rattle.fl_segments.specs.Inner.Steps.{begins as begins_lem, comes_cut as comes_cut_lem, drain_steps, each_ended, front_edges, front_steps, in_edges, in_steps, input_edges, input_steps, is_joined as is_joined_lem, is_leading_cat as is_leading_cat_lem, join_steps, joined_edges, kind_first as kind_first_lem, kind_in, kind_stream, parts_on as parts_on_lem, read_edges, read_steps, stream_edges};
+ghost use Rattle.fl_segments.specs.Inner.Steps.{begins as begins_def, comes_cut as comes_cut_def, drain_steps, each_ended, front_edges, front_steps, in_edges, in_steps, input_edges, input_steps, is_joined as is_joined_def, is_leading_cat as is_leading_cat_def, join_steps, joined_edges, kind_first as kind_first_def, kind_in, kind_stream, parts_on as parts_on_def, read_edges, read_steps, stream_edges};
 
 use crate::drawing::Drawing;
 use crate::nodes::{add_cat, add_end, add_nothing, add_text};
@@ -17,14 +17,14 @@ use ut_args::Inv;
 
 /// Whether the stage to which this comes is the segment's first.
 pub(crate) fn begins(coming: &Coming<'_>) -> bool
-    ensures { result ≡ begins_lem coming.now }
+    ensures { result ≡ begins_def coming.now }
 {
     matches!(coming, Coming::Begins(_))
 }
 
 /// Whether the stream that comes is a cut list.
 fn comes_cut(coming: &Coming<'_>) -> bool
-    ensures { result ≡ comes_cut_lem coming.now }
+    ensures { result ≡ comes_cut_def coming.now }
 {
     match coming {
         Coming::Begins(_) => false,
@@ -35,7 +35,7 @@ fn comes_cut(coming: &Coming<'_>) -> bool
 
 /// Whether a stage reads the stream that comes to it.
 pub(crate) fn is_reader(stage: &Stage) -> bool
-    ensures { result ≡ is_reader_lem stage.now }
+    ensures { result ≡ is_reader_def stage.now }
 {
     match &stage.does {
         Does::Skip => false,
@@ -45,14 +45,14 @@ pub(crate) fn is_reader(stage: &Stage) -> bool
 
 /// Whether one of these inputs is the stream.
 fn reads_stream(ins: &[In]) -> bool
-    ensures { result ≡ list_any is_stream_lem ins.now }
+    ensures { result ≡ list_any is_stream_def ins.now }
 {
     ins.iter().any(|it| is_stream(it))
 }
 
 /// Whether this input is the stream.
 pub(crate) fn is_stream(it: &In) -> bool
-    ensures { result ≡ is_stream_lem it.now }
+    ensures { result ≡ is_stream_def it.now }
 {
     matches!(it, In::Stream)
 }
@@ -67,7 +67,7 @@ pub(crate) fn add_front(
 ) -> Result<Parts, Memory>
     ensures nodes { OnOk result (drawing.new.nodes.items ≡ drawing.old.nodes.items ++ drawn drawing.old.next (front_steps number coming.now stage.now drawing.old.next)) }
     ensures next { OnOk result (drawing.new.next ≡ behind drawing.old.next (front_steps number coming.now stage.now drawing.old.next)) }
-    ensures parts { IfOk result (λ parts. parts ≡ parts_on_lem (front_edges number coming.now stage.now drawing.old.next) (comes_cut_lem coming.now)) }
+    ensures parts { IfOk result (λ parts. parts ≡ parts_on_def (front_edges number coming.now stage.now drawing.old.next) (comes_cut_def coming.now)) }
 {
     add_drain(alloc, drawing, number, coming, is_reader(stage))?;
     let edges = add_read(alloc, drawing, number, stage, coming)?;
@@ -219,8 +219,8 @@ fn add_beginning(
     number: u32,
     from: &First,
 ) -> Result<u32, Memory>
-    ensures nodes { OnOk result (drawing.new.nodes.items ≡ drawing.old.nodes.items ++ drawn drawing.old.next (step (kind_first_lem from.now) [] number ∷ [])) }
-    ensures next { OnOk result (drawing.new.next ≡ behind drawing.old.next (step (kind_first_lem from.now) [] number ∷ [])) }
+    ensures nodes { OnOk result (drawing.new.nodes.items ≡ drawing.old.nodes.items ++ drawn drawing.old.next (step (kind_first_def from.now) [] number ∷ [])) }
+    ensures next { OnOk result (drawing.new.next ≡ behind drawing.old.next (step (kind_first_def from.now) [] number ∷ [])) }
     ensures edge { IfOk result (λ edge. edge ≡ drawing.old.next) }
 {
     match from {
@@ -277,28 +277,28 @@ fn add_joined(
 
 /// Whether these inputs are joined by a node of their own.
 fn is_joined(leads: bool, inv: &Inv, ins: &[In]) -> bool
-    ensures { result ≡ is_joined_lem leads inv.now ins.now }
+    ensures { result ≡ is_joined_def leads inv.now ins.now }
 {
     joins_before(inv) && !is_leading_cat(leads, inv) && 1 < ins.len()
 }
 
 /// Whether this is a cat that leads the segment.
 pub(crate) fn is_leading_cat(leads: bool, inv: &Inv) -> bool
-    ensures { result ≡ is_leading_cat_lem leads inv.now }
+    ensures { result ≡ is_leading_cat_def leads inv.now }
 {
     matches!(inv, Inv::Cat(_)) && leads
 }
 
 /// Whether the operands of a command are joined before it reads them.
 fn joins_before(inv: &Inv) -> bool
-    ensures { result ≡ joins_before_lem inv.now }
+    ensures { result ≡ joins_before_def inv.now }
 {
     matches!(inv, Inv::Cat(_) | Inv::Cut(_) | Inv::Sort(_))
 }
 
 /// Whether each of them but the last is closed then.
 fn closes_before(inv: &Inv) -> bool
-    ensures { result ≡ closes_before_lem inv.now }
+    ensures { result ≡ closes_before_def inv.now }
 {
     matches!(inv, Inv::Cut(_) | Inv::Sort(_))
 }

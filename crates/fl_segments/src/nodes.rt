@@ -1,8 +1,8 @@
 //! Nodes that several parts of a stage have: texts, and ends.
 ghost use Rattle.std.specs.Prelude.{◌≡◌, ◌+◌, ◌++◌, [], ◌∷◌, IfOk, OnOk};
-ghost use Rattle.ps_lines.specs.Lines.{is_empty as is_empty_lem};
+ghost use Rattle.ps_lines.specs.Lines.{is_empty as is_empty_def};
 ghost use Rattle.fl_segments.specs.Inner.Drawing.{behind, drawn, step};
-ghost use Rattle.fl_segments.specs.Inner.Steps.{one_part as one_part_lem, whole_edge, whole_steps};
+ghost use Rattle.fl_segments.specs.Inner.Steps.{one_part as one_part_def, whole_edge, whole_steps};
 
 use crate::drawing::Drawing;
 use crate::parts::{Parts, parts_on};
@@ -95,14 +95,14 @@ pub(crate) fn add_cat(
 
 /// The stream on this edge.
 pub(crate) fn one_part(alloc: Global, edge: u32) -> Result<Parts, Memory>
-    ensures { IfOk result (λ parts. parts ≡ one_part_lem edge) }
+    ensures { IfOk result (λ parts. parts ≡ one_part_def edge) }
 {
     Ok(parts_on(Vec::from_slice(alloc, &[edge])?, false))
 }
 
 /// Whether a text has no byte.
 pub(crate) fn is_empty(text: &Text) -> bool
-    ensures { result ≡ is_empty_lem text.now }
+    ensures { result ≡ is_empty_def text.now }
 {
     text.as_slice().is_empty()
 }

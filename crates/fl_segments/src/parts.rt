@@ -1,6 +1,6 @@
 //! Streams between the parts of a graph.
 ghost use Rattle.std.specs.Prelude.{◌≡◌};
-ghost use Rattle.fl_segments.specs.Inner.Steps.{parts_on as parts_on_lem};
+ghost use Rattle.fl_segments.specs.Inner.Steps.{parts_on as parts_on_def};
 
 use crate::stages::First;
 use fl_graph::Seq;
@@ -27,7 +27,7 @@ pub(crate) enum Coming<'from> {
 
 /// The stream on these edges.
 pub(crate) fn parts_on(edges: Vec<u32>, cut: bool) -> Parts
-    ensures { result ≡ parts_on_lem edges.items cut }
+    ensures { result ≡ parts_on_def edges.items cut }
 {
     Parts {
         edges: Seq::from_vec(edges),

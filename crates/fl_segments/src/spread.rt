@@ -3,9 +3,9 @@ ghost use Rattle.std.specs.Prelude.{◌≡◌, ◌+◌, ◌++◌, [], ◌∷◌,
 ghost use Rattle.std.specs.List.{range_with_len};
 ghost use Rattle.ut_args.specs.Classes.{class_of};
 ghost use Rattle.fl_graph.specs.Kinds.{has_aggregator};
-ghost use Rattle.fl_segments.specs.Stages.{has_finish as has_finish_lem, is_spread as is_spread_lem, may_spread as may_spread_lem};
+ghost use Rattle.fl_segments.specs.Stages.{has_finish as has_finish_def, is_spread as is_spread_def, may_spread as may_spread_def};
 ghost use Rattle.fl_segments.specs.Inner.Drawing.{behind, drawn, step};
-ghost use Rattle.fl_segments.specs.Inner.Steps.{finish_edge, finish_steps, fold_parts, fold_steps, folded_edge, folded_steps, mapped_parts, mapped_steps, tree_edge, tree_over, tree_steps, hands_on as hands_on_lem, is_lone as is_lone_lem, is_next as is_next_lem, map_steps, split_cut, split_edges, split_steps, spread_parts, spread_steps, stands as stands_lem, takes_any as takes_any_lem, takes_by, takes_parts as takes_parts_lem};
+ghost use Rattle.fl_segments.specs.Inner.Steps.{finish_edge, finish_steps, fold_parts, fold_steps, folded_edge, folded_steps, mapped_parts, mapped_steps, tree_edge, tree_over, tree_steps, hands_on as hands_on_def, is_lone as is_lone_def, is_next as is_next_def, map_steps, split_cut, split_edges, split_steps, spread_parts, spread_steps, stands as stands_def, takes_any as takes_any_def, takes_by, takes_parts as takes_parts_def};
 
 use crate::commands::Written;
 use crate::drawing::{Drawing, numbers_from};
@@ -20,14 +20,14 @@ use ut_args::{Class, Groups, Inv, Seam, class, keeps_closed};
 
 /// Whether a utility is spread at a width.
 pub(crate) fn is_spread(width: u32, inv: &Inv) -> bool
-    ensures { result ≡ is_spread_lem width inv.now }
+    ensures { result ≡ is_spread_def width inv.now }
 {
     2 <= width && inv.inputs() == 1 && may_spread(class(inv))
 }
 
 /// Whether the class lets its input be cut.
 fn may_spread(of: Class) -> bool
-    ensures { result ≡ may_spread_lem of }
+    ensures { result ≡ may_spread_def of }
 {
     match of {
         Class::S(_) => true,
@@ -51,7 +51,7 @@ fn folds(inv: &Inv) -> bool
 
 /// Whether its output is made from the map of the whole.
 fn has_finish(inv: &Inv) -> bool
-    ensures { result ≡ has_finish_lem inv.now }
+    ensures { result ≡ has_finish_def inv.now }
 {
     match inv {
         Inv::Wc(wc) => !wc.args.operands.as_slice().is_empty(),
@@ -62,21 +62,21 @@ fn has_finish(inv: &Inv) -> bool
 
 /// Whether parts that go there go on to this stage as they are.
 pub(crate) fn hands_on(width: u32, out: &Out, following: &Stage, parts: &Parts) -> bool
-    ensures { result ≡ hands_on_lem width out.now following.now parts.now }
+    ensures { result ≡ hands_on_def width out.now following.now parts.now }
 {
     is_next(out) && takes_parts(width, following, parts)
 }
 
 /// Whether an output goes to the next stage, or from the last one to the output.
 fn is_next(out: &Out) -> bool
-    ensures { result ≡ is_next_lem out.now }
+    ensures { result ≡ is_next_def out.now }
 {
     matches!(out, Out::Next)
 }
 
 /// Whether a stage takes these parts as they are.
 fn takes_parts(width: u32, stage: &Stage, parts: &Parts) -> bool
-    ensures { result ≡ takes_parts_lem width stage.now parts.now }
+    ensures { result ≡ takes_parts_def width stage.now parts.now }
 {
     match &stage.does {
         Does::Skip => false,
@@ -96,7 +96,7 @@ fn takes(width: u32, inv: &Inv, ins: &[In], parts: &Parts) -> bool
 
 /// Whether the stream is the one input.
 fn is_lone(ins: &[In]) -> bool
-    ensures { result ≡ is_lone_lem ins.now }
+    ensures { result ≡ is_lone_def ins.now }
 {
     match ins {
         [it] => is_stream(it),
@@ -106,7 +106,7 @@ fn is_lone(ins: &[In]) -> bool
 
 /// Whether the parts may be cut anywhere.
 fn takes_any(of: Class) -> bool
-    ensures { result ≡ takes_any_lem of }
+    ensures { result ≡ takes_any_def of }
 {
     match of {
         Class::S(Seam::Bytes) => true,
@@ -119,7 +119,7 @@ fn takes_any(of: Class) -> bool
 
 /// Whether there are as many parts as the width.
 fn stands(width: u32, edges: &[u32]) -> bool
-    ensures { result ≡ stands_lem width edges.now }
+    ensures { result ≡ stands_def width edges.now }
 {
     let Ok(count) = u32::try_from(edges.len()) else {
         return false;

@@ -8,8 +8,8 @@ ghost use Rattle.fl_graph.specs.Valid.{Valid};
 ghost use Rattle.fl_graph.specs.declared.kinds.NodeKind.TheVariants as kind;
 ghost use Rattle.fl_rewrites.specs.Joined.{map_cells};
 ghost use Rattle.fl_rewrites.specs.Keeps.{Answers, KeepsFlow};
-ghost use Rattle.fl_rewrites.specs.Known.{is_known as is_known_lem};
-ghost use Rattle.fl_split.specs.Commuting.{commuted, may_spread, spread_at as spread_at_lem};
+ghost use Rattle.fl_rewrites.specs.Known.{is_known as is_known_def};
+ghost use Rattle.fl_split.specs.Commuting.{commuted, may_spread, spread_at as spread_at_def};
 
 use fl_graph::{Graph, Node, NodeKind, Seq};
 use fl_rewrites::{
@@ -37,7 +37,7 @@ pub fn commute_cat(alloc: Global, graph: Graph, node: u32) -> Rewritten
 
 /// What comes in the place of the Whole with this number, where it may.
 fn spread_at(alloc: Global, nodes: &[Node], node: u32) -> Result<Option<Unjoined>, Memory>
-    ensures { IfOk result (λ new. new ≡ spread_at_lem nodes.now node) }
+    ensures { IfOk result (λ new. new ≡ spread_at_def nodes.now node) }
 {
     let Some(at) = joined_at(nodes, node) else {
         return Ok(None);
@@ -51,7 +51,7 @@ fn spread_at(alloc: Global, nodes: &[Node], node: u32) -> Result<Option<Unjoined
 
 /// Whether the maps of these parts, joined, are that of the whole.
 fn may_be_spread(alloc: Global, nodes: &[Node], inv: &Inv, parts: &[u32]) -> Result<bool, Memory>
-    ensures { IfOk result (λ may. may ≡ may_spread (class_of inv.now) (is_known_lem nodes.now parts.now)) }
+    ensures { IfOk result (λ may. may ≡ may_spread (class_of inv.now) (is_known_def nodes.now parts.now)) }
 {
     match class(inv) {
         Class::S(Seam::Bytes) => Ok(true),

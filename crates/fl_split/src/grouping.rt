@@ -5,7 +5,7 @@ ghost use Rattle.fl_graph.specs.Net.{gives};
 ghost use Rattle.fl_graph.specs.Valid.{Valid};
 ghost use Rattle.fl_classes.specs.Parts.{slice};
 ghost use Rattle.fl_rewrites.specs.Keeps.{Answers, KeepsFlowWhere};
-ghost use Rattle.fl_split.specs.Grouping.{AreClosed, group_cells, group_start as group_start_lem, grouped, grouped_cells, groups_at as groups_at_lem, groups_by, groups_of, join_cell, may_group as may_group_lem, may_have_groups as may_have_groups_lem};
+ghost use Rattle.fl_split.specs.Grouping.{AreClosed, group_cells, group_start as group_start_def, grouped, grouped_cells, groups_at as groups_at_def, groups_by, groups_of, join_cell, may_group as may_group_def, may_have_groups as may_have_groups_def};
 
 use fl_graph::{Graph, Node, NodeKind, Seq};
 use fl_rewrites::{Rewritten, are_files, edge_count, joins_plainly, replace, row};
@@ -43,7 +43,7 @@ fn groups_at(
     closed: &[bool],
     groups: u32,
 ) -> Result<Option<Seq<Node>>, Memory>
-    ensures { IfOk result (λ new. new ≡ groups_at_lem nodes.now closed.now groups node) }
+    ensures { IfOk result (λ new. new ≡ groups_at_def nodes.now closed.now groups node) }
 {
     let Some(cell) = nodes.get(node as usize) else {
         return Ok(None);
@@ -79,7 +79,7 @@ fn may_group(
     closed: &[bool],
     groups: u32,
 ) -> Result<bool, Memory>
-    ensures { IfOk result (λ may. may ≡ may_group_lem nodes.now closed.now groups cell.now) }
+    ensures { IfOk result (λ may. may ≡ may_group_def nodes.now closed.now groups cell.now) }
 {
     if !joins_plainly(&cell.kind) {
         return Ok(false);
@@ -92,7 +92,7 @@ fn may_group(
 
 /// Whether so many files may be in so many groups.
 fn may_have_groups(groups: u32, files: usize, closed: &[bool]) -> Result<bool, Memory>
-    ensures { IfOk result (λ may. may ≡ may_have_groups_lem groups files closed.now) }
+    ensures { IfOk result (λ may. may ≡ may_have_groups_def groups files closed.now) }
 {
     if closed.len() != files {
         return Ok(false);
@@ -117,7 +117,7 @@ fn are_marked(closed: &[bool], files: usize) -> bool
 /// The place of the first file of a group.
 fn group_start(groups: u32, files: usize, group: u32) -> Result<usize, Memory>
     requires { 1 ≤ groups }
-    ensures { IfOk result (λ start. start ≡ group_start_lem groups files group) }
+    ensures { IfOk result (λ start. start ≡ group_start_def groups files group) }
 {
     match (group as usize).checked_mul(files) {
         Some(product) => Ok(product / groups as usize),
@@ -172,7 +172,7 @@ fn push_group(
     out: u32,
 ) -> Result<(), Memory>
     requires some { group < groups }
-    ensures { OnOk result (nodes.new.items ≡ nodes.old.items ++ join_cell (slice files.now (group_start_lem groups (length files.now) group) (group_start_lem groups (length files.now) (group + 1))) (out ∷ []) stage ∷ []) }
+    ensures { OnOk result (nodes.new.items ≡ nodes.old.items ++ join_cell (slice files.now (group_start_def groups (length files.now) group) (group_start_def groups (length files.now) (group + 1))) (out ∷ []) stage ∷ []) }
 {
     let start = group_start(groups, files.len(), group)?;
     let end = group_start(groups, files.len(), group + 1)?;

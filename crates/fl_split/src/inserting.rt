@@ -5,7 +5,7 @@ ghost use Rattle.fl_graph.specs.Net.{gives};
 ghost use Rattle.fl_graph.specs.Valid.{Valid};
 ghost use Rattle.fl_rewrites.specs.Keeps.{Answers, KeepsFlow};
 ghost use Rattle.fl_rewrites.specs.Places.{replaced};
-ghost use Rattle.fl_split.specs.Inserting.{may_be_split as may_be_split_lem, may_have_parts as may_have_parts_lem, may_take_parts as may_take_parts_lem, moved as moved_lem, moved_status as moved_status_lem, site_of as site_of_lem, split_cells, split_graph, turned as turned_lem, turned_cell, with_split};
+ghost use Rattle.fl_split.specs.Inserting.{may_be_split as may_be_split_def, may_have_parts as may_have_parts_def, may_take_parts as may_take_parts_def, moved as moved_def, moved_status as moved_status_def, site_of as site_of_def, split_cells, split_graph, turned as turned_def, turned_cell, with_split};
 
 use fl_graph::{Graph, Node, NodeKind, Seq, StatusRule};
 use fl_rewrites::{Rewritten, edge_count, number, row, taker_of};
@@ -36,7 +36,7 @@ pub fn insert_split(alloc: Global, graph: Graph, edge: u32, parts: u32) -> Rewri
 
 /// The number of the node before which a split of the edge may stand.
 fn site_of(nodes: &[Node], edge: u32, parts: u32) -> Option<usize>
-    ensures { result ≡ site_of_lem edge parts nodes.now }
+    ensures { result ≡ site_of_def edge parts nodes.now }
 {
     if !may_have_parts(parts) {
         return None;
@@ -49,14 +49,14 @@ fn site_of(nodes: &[Node], edge: u32, parts: u32) -> Option<usize>
 
 /// Whether a split has so many parts.
 fn may_have_parts(parts: u32) -> bool
-    ensures { result ≡ may_have_parts_lem parts }
+    ensures { result ≡ may_have_parts_def parts }
 {
     1 <= parts && parts <= MAX_PARTS
 }
 
 /// Whether the node with this number may take parts that are joined.
 fn may_be_split(nodes: &[Node], place: usize) -> bool
-    ensures { result ≡ may_be_split_lem nodes.now place }
+    ensures { result ≡ may_be_split_def nodes.now place }
 {
     match nodes.get(place) {
         Some(node) => may_take_parts(&node.kind),
@@ -66,7 +66,7 @@ fn may_be_split(nodes: &[Node], place: usize) -> bool
 
 /// Whether this is a node that joins no maps.
 fn may_take_parts(kind: &NodeKind) -> bool
-    ensures { result ≡ may_take_parts_lem kind.now }
+    ensures { result ≡ may_take_parts_def kind.now }
 {
     match kind {
         NodeKind::Agg(_) | NodeKind::Finish(_) => false,
@@ -187,7 +187,7 @@ fn turn(alloc: Global, node: &mut Node, old: u32, new: u32) -> Result<(), Memory
 
 /// These edges, with the new one in place of the old.
 fn turned_all(alloc: Global, edges: &[u32], old: u32, new: u32) -> Result<Vec<u32>, Memory>
-    ensures { IfOk result (λ edges_new. edges_new.items ≡ map (turned_lem old new) edges.now) }
+    ensures { IfOk result (λ edges_new. edges_new.items ≡ map (turned_def old new) edges.now) }
 {
     let mut all = Vec::new(alloc);
     for edge in edges {
@@ -198,14 +198,14 @@ fn turned_all(alloc: Global, edges: &[u32], old: u32, new: u32) -> Result<Vec<u3
 
 /// The edge, or the new one in place of the old.
 fn turned(edge: u32, old: u32, new: u32) -> u32
-    ensures { result ≡ turned_lem old new edge }
+    ensures { result ≡ turned_def old new edge }
 {
     if edge == old { new } else { edge }
 }
 
 /// The status rule, where nodes from this number on have numbers that are higher by two.
 fn moved_status(alloc: Global, status: StatusRule, place: usize) -> Result<StatusRule, Memory>
-    ensures { IfOk result (λ new. new ≡ moved_status_lem place status) }
+    ensures { IfOk result (λ new. new ≡ moved_status_def place status) }
 {
     match status {
         StatusRule::Fixed(code) => Ok(StatusRule::Fixed(code)),
@@ -218,7 +218,7 @@ fn moved_status(alloc: Global, status: StatusRule, place: usize) -> Result<Statu
 
 /// These numbers of nodes, where those from this one on are higher by two.
 fn moved_all(alloc: Global, nodes: &[u32], place: usize) -> Result<Vec<u32>, Memory>
-    ensures { IfOk result (λ new. new.items ≡ map (moved_lem place) nodes.now) }
+    ensures { IfOk result (λ new. new.items ≡ map (moved_def place) nodes.now) }
 {
     let mut all = Vec::new(alloc);
     for node in nodes {
@@ -232,7 +232,7 @@ fn moved_all(alloc: Global, nodes: &[u32], place: usize) -> Result<Vec<u32>, Mem
 
 /// The number of a node behind the rewrite, where it has 32 bits.
 fn moved(node: u32, place: usize) -> Option<u32>
-    ensures { IfSome result (λ new. new ≡ moved_lem place node) }
+    ensures { IfSome result (λ new. new ≡ moved_def place node) }
 {
     if (node as usize) < place {
         Some(node)

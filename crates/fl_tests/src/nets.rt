@@ -2,7 +2,7 @@
 ghost use Rattle.std.specs.Prelude.{◌≡◌, ◌<◌, ◌^◌, true, length, IfOk};
 ghost use Rattle.fl_graph.specs.Valid.{Valid};
 ghost use Rattle.fl_net.specs.Inputs.{CanStep};
-ghost use Rattle.fl_classes.specs.Kinds.{are_run as are_run_lem};
+ghost use Rattle.fl_classes.specs.Kinds.{are_run as are_run_def};
 
 use crate::graph::graph;
 use fl_core::{NodeMachine, are_run, net_of, net_over_texts};
@@ -49,7 +49,7 @@ fn step_each(net: &mut Net<NodeMachine>) -> Result<bool, Memory>
 /// The network of a graph over a text of its first node, once no step moves a piece, or after 100 steps of each node.
 fn run_over(alloc: Global, graph: &Graph, text: &[u8]) -> Result<Net<NodeMachine>, Memory>
     requires valid { Valid graph.now.nodes graph.now.status }
-    requires kinds { are_run_lem graph.now.nodes ≡ true }
+    requires kinds { are_run_def graph.now.nodes ≡ true }
 {
     let mut inputs = Vec::new(alloc);
     inputs.push((0, Vec::from_slice(alloc, text)?))?;

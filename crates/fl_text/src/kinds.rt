@@ -2,7 +2,7 @@
 ghost use Rattle.std.specs.Prelude.{◌≡◌, None, option_and_then, option_map, IfOk, is_some};
 ghost use Rattle.ps_lines.specs.Texts.{texts_of};
 ghost use Rattle.fl_graph.specs.declared.kinds.NodeKind.TheVariants as kind;
-ghost use Rattle.fl_text.specs.Inner.Kinds.{inv_of, kind_from as kind_from_lem, kind_of as kind_of_lem, mode_of as mode_of_lem, parts_fit as parts_fit_lem, sink_of as sink_of_lem, source_of as source_of_lem, tee_of as tee_of_lem};
+ghost use Rattle.fl_text.specs.Inner.Kinds.{inv_of, kind_from as kind_from_def, kind_of as kind_of_def, mode_of as mode_of_def, parts_fit as parts_fit_def, sink_of as sink_of_def, source_of as source_of_def, tee_of as tee_of_def};
 
 use crate::names::Name;
 use crate::parts::Parts;
@@ -15,7 +15,7 @@ use ut_options::Texts;
 
 /// The kind of node that parts are, if its name has these and no others.
 pub fn kind_of(alloc: Global, parts: Parts) -> Result<Option<NodeKind>, Memory>
-    ensures { IfOk result (λ made. made ≡ kind_of_lem parts) }
+    ensures { IfOk result (λ made. made ≡ kind_of_def parts) }
 {
     if !parts_fit(&parts) {
         return Ok(None);
@@ -25,7 +25,7 @@ pub fn kind_of(alloc: Global, parts: Parts) -> Result<Option<NodeKind>, Memory>
 
 /// Whether these are parts that a node of this name has.
 fn parts_fit(parts: &Parts) -> bool
-    ensures { result ≡ parts_fit_lem parts.now }
+    ensures { result ≡ parts_fit_def parts.now }
 {
     let append = parts.append.is_some();
     let close = parts.close.is_some();
@@ -46,7 +46,7 @@ fn parts_fit(parts: &Parts) -> bool
 
 /// The kind of this name, with the parts that it asks for.
 fn kind_from(alloc: Global, parts: Parts) -> Result<Option<NodeKind>, Memory>
-    ensures { IfOk result (λ made. made ≡ kind_from_lem parts.name parts) }
+    ensures { IfOk result (λ made. made ≡ kind_from_def parts.name parts) }
 {
     let Parts {
         name,
@@ -133,7 +133,7 @@ fn finish_of(alloc: Global, words: &Option<Texts>) -> Result<Option<NodeKind>, M
 
 /// A sink, of a file or of standard output.
 fn sink_kind(path: Option<Path>, append: Option<bool>) -> Option<NodeKind>
-    ensures { result ≡ option_map kind.Sink (sink_of_lem path append) }
+    ensures { result ≡ option_map kind.Sink (sink_of_def path append) }
 {
     match sink_of(path, append) {
         Some(sink) => Some(NodeKind::Sink(sink)),
@@ -143,7 +143,7 @@ fn sink_kind(path: Option<Path>, append: Option<bool>) -> Option<NodeKind>
 
 /// Where a source has its bytes from.
 fn source_of(path: Option<Path>) -> From
-    ensures { result ≡ source_of_lem path }
+    ensures { result ≡ source_of_def path }
 {
     match path {
         Some(path) => From::File(path),
@@ -153,7 +153,7 @@ fn source_of(path: Option<Path>) -> From
 
 /// Where a sink writes its bytes to: a file has a path and a mode, and standard output neither.
 fn sink_of(path: Option<Path>, append: Option<bool>) -> Option<To>
-    ensures { result ≡ sink_of_lem path append }
+    ensures { result ≡ sink_of_def path append }
 {
     match path {
         Some(path) => match append {
@@ -169,7 +169,7 @@ fn sink_of(path: Option<Path>, append: Option<bool>) -> Option<To>
 
 /// A tee, which has a path and a mode.
 fn tee_of(path: Option<Path>, append: Option<bool>) -> Option<NodeKind>
-    ensures { result ≡ tee_of_lem path append }
+    ensures { result ≡ tee_of_def path append }
 {
     match path {
         Some(path) => match append {
@@ -182,7 +182,7 @@ fn tee_of(path: Option<Path>, append: Option<bool>) -> Option<NodeKind>
 
 /// How a file is written.
 fn mode_of(append: bool) -> Mode
-    ensures { result ≡ mode_of_lem append }
+    ensures { result ≡ mode_of_def append }
 {
     if append { Mode::Append } else { Mode::Fresh }
 }

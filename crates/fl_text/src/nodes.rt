@@ -2,7 +2,7 @@
 ghost use Rattle.std.specs.Prelude.{◌≡◌, codes, option_map, IfOk};
 ghost use Rattle.serde_json.specs.View.{items_view, members_view, view};
 ghost use Rattle.fl_text.specs.Inner.Members.{found};
-ghost use Rattle.fl_text.specs.Inner.Drafts.{all_in, each_of, fields_view, fixed_in as fixed_in_lem, graph_in as graph_in_lem, graph_in_members, is_version as is_version_lem, node_from as node_from_lem, node_in as node_in_lem, node_in_members, parts_in as parts_in_lem, required, rule_in, selected_in, status_in as status_in_lem};
+ghost use Rattle.fl_text.specs.Inner.Drafts.{all_in, each_of, fields_view, fixed_in as fixed_in_def, graph_in as graph_in_def, graph_in_members, is_version as is_version_def, node_from as node_from_def, node_in as node_in_def, node_in_members, parts_in as parts_in_def, required, rule_in, selected_in, status_in as status_in_def};
 
 use crate::fields::{Fields, is_none_left, take, take_fields};
 use crate::kinds::kind_of;
@@ -21,7 +21,7 @@ pub const VERSION: u32 = 1;
 
 /// The graph that a value is, valid or not; None where it is none.
 pub fn graph_in(alloc: Global, value: Value) -> Result<Option<Graph>, Memory>
-    ensures { IfOk result (λ graph. graph ≡ graph_in_lem (view value)) }
+    ensures { IfOk result (λ graph. graph ≡ graph_in_def (view value)) }
 {
     match take_members(alloc, value) {
         Some(members) => graph_of_members(alloc, members),
@@ -51,7 +51,7 @@ fn graph_of_members(alloc: Global, members: Map<String, Value>) -> Result<Option
 
 /// Whether this is the number of the format's version.
 fn is_version(count: Option<u32>) -> bool
-    ensures { result ≡ is_version_lem count }
+    ensures { result ≡ is_version_def count }
 {
     match count {
         Some(count) => count == VERSION,
@@ -61,7 +61,7 @@ fn is_version(count: Option<u32>) -> bool
 
 /// Nodes that have to be there.
 fn nodes_at(alloc: Global, value: Option<Value>) -> Result<Option<Seq<Node>>, Memory>
-    ensures { IfOk result (λ nodes. nodes ≡ required (all_in node_in_lem) (option_map view value)) }
+    ensures { IfOk result (λ nodes. nodes ≡ required (all_in node_in_def) (option_map view value)) }
 {
     match value {
         Some(value) => all_nodes(alloc, value),
@@ -71,7 +71,7 @@ fn nodes_at(alloc: Global, value: Option<Value>) -> Result<Option<Seq<Node>>, Me
 
 /// Nodes.
 fn all_nodes(alloc: Global, value: Value) -> Result<Option<Seq<Node>>, Memory>
-    ensures { IfOk result (λ nodes. nodes ≡ all_in node_in_lem (view value)) }
+    ensures { IfOk result (λ nodes. nodes ≡ all_in node_in_def (view value)) }
 {
     match take_items(alloc, value) {
         Some(values) => each_node(alloc, values),
@@ -82,7 +82,7 @@ fn all_nodes(alloc: Global, value: Value) -> Result<Option<Seq<Node>>, Memory>
 /// The nodes that these values are.
 #[tactic(auto, using(crate::proofs::ReadLemmas::one_by_one))]
 fn each_node(alloc: Global, values: Vec<Value>) -> Result<Option<Seq<Node>>, Memory>
-    ensures { IfOk result (λ nodes. nodes ≡ each_of node_in_lem (items_view values.items)) }
+    ensures { IfOk result (λ nodes. nodes ≡ each_of node_in_def (items_view values.items)) }
 {
     let mut nodes = Vec::with_capacity(alloc, values.len())?;
     let mut left = values.into_iter();
@@ -97,7 +97,7 @@ fn each_node(alloc: Global, values: Vec<Value>) -> Result<Option<Seq<Node>>, Mem
 
 /// The node that a value is.
 fn node_in(alloc: Global, value: Value) -> Result<Option<Node>, Memory>
-    ensures { IfOk result (λ node. node ≡ node_in_lem (view value)) }
+    ensures { IfOk result (λ node. node ≡ node_in_def (view value)) }
 {
     match take_members(alloc, value) {
         Some(members) => node_of_members(alloc, members),
@@ -117,7 +117,7 @@ fn node_of_members(alloc: Global, members: Map<String, Value>) -> Result<Option<
 
 /// The node of what an object has at the keys of a node.
 fn node_from(alloc: Global, fields: &Fields) -> Result<Option<Node>, Memory>
-    ensures { IfOk result (λ node. node ≡ node_from_lem (fields_view fields.now)) }
+    ensures { IfOk result (λ node. node ≡ node_from_def (fields_view fields.now)) }
 {
     let Some(ins) = read_counts_at(alloc, &fields.ins)? else {
         return Ok(None);
@@ -145,7 +145,7 @@ fn node_from(alloc: Global, fields: &Fields) -> Result<Option<Node>, Memory>
 
 /// The parts of a node's kind.
 fn parts_in(alloc: Global, fields: &Fields) -> Result<Option<Parts>, Memory>
-    ensures { IfOk result (λ parts. parts ≡ parts_in_lem (fields_view fields.now)) }
+    ensures { IfOk result (λ parts. parts ≡ parts_in_def (fields_view fields.now)) }
 {
     let Some(name) = read_name_at(alloc, &fields.kind)? else {
         return Ok(None);
@@ -177,7 +177,7 @@ fn parts_in(alloc: Global, fields: &Fields) -> Result<Option<Parts>, Memory>
 
 /// A status rule that has to be there.
 fn status_at(alloc: Global, value: Option<Value>) -> Result<Option<StatusRule>, Memory>
-    ensures { IfOk result (λ rule. rule ≡ required status_in_lem (option_map view value)) }
+    ensures { IfOk result (λ rule. rule ≡ required status_in_def (option_map view value)) }
 {
     match value {
         Some(value) => status_in(alloc, value),
@@ -187,7 +187,7 @@ fn status_at(alloc: Global, value: Option<Value>) -> Result<Option<StatusRule>, 
 
 /// The status rule that a value is.
 fn status_in(alloc: Global, value: Value) -> Result<Option<StatusRule>, Memory>
-    ensures { IfOk result (λ rule. rule ≡ status_in_lem (view value)) }
+    ensures { IfOk result (λ rule. rule ≡ status_in_def (view value)) }
 {
     match take_members(alloc, value) {
         Some(members) => status_of_members(alloc, members),
@@ -211,7 +211,7 @@ fn status_of_members(
 
 /// The fixed status that a value is, where no other member stands beside it.
 fn fixed_in(value: &Value, is_alone: bool) -> Option<StatusRule>
-    ensures { result ≡ fixed_in_lem (view value.now) is_alone }
+    ensures { result ≡ fixed_in_def (view value.now) is_alone }
 {
     if !is_alone {
         return None;

@@ -6,10 +6,10 @@ ghost use Rattle.ps_lines.specs.Texts.{texts_of};
 ghost use Rattle.serde_json.specs.Data.{boolean, put as serde_json_put};
 ghost use Rattle.serde_json.specs.View.{members_view, view};
 ghost use Rattle.fl_graph.specs.declared.graphs.StatusRule.TheVariants as rule;
-ghost use Rattle.fl_text.specs.Inner.Written.{put_some as put_some_lem};
+ghost use Rattle.fl_text.specs.Inner.Written.{put_some as put_some_def};
 ghost use Rattle.fl_text.specs.Parts.{parts_of};
 ghost use Rattle.fl_text.specs.Texts.{graph_text, IsJson};
-ghost use Rattle.fl_text.specs.Values.{are_bytes, are_counts, bytes_value as bytes_value_lem, count_value as count_value_lem, graph_value as graph_value_lem, is_count, is_held, is_held_node, is_held_status, is_path, list_value, node_value as node_value_lem, path_value as path_value_lem, status_value as status_value_lem};
+ghost use Rattle.fl_text.specs.Values.{are_bytes, are_counts, bytes_value as bytes_value_def, count_value as count_value_def, graph_value as graph_value_def, is_count, is_held, is_held_node, is_held_status, is_path, list_value, node_value as node_value_def, path_value as path_value_def, status_value as status_value_def};
 
 use crate::nodes::VERSION;
 use crate::shown::{append_of, close_of, inv_of, name_of, path_of, text_of};
@@ -24,7 +24,7 @@ use std::alloc::Global;
 /// Any graph is printed, valid or not.
 pub fn print(alloc: Global, graph: &Graph) -> Result<Vec<u8>, Memory>
     ensures text { IfOk result (λ text. text.items ≡ graph_text graph.now.nodes graph.now.status) }
-    ensures json { IfOk result (λ text. IsJson text.items (graph_value_lem graph.now.nodes graph.now.status)) }
+    ensures json { IfOk result (λ text. IsJson text.items (graph_value_def graph.now.nodes graph.now.status)) }
     ensures held { IfOk result (λ _. is_held graph.now.nodes graph.now.status ≡ true) }
 {
     let value = graph_value(alloc, graph)?;
@@ -33,7 +33,7 @@ pub fn print(alloc: Global, graph: &Graph) -> Result<Vec<u8>, Memory>
 
 /// The JSON value of a graph.
 fn graph_value(alloc: Global, graph: &Graph) -> Result<Value, Memory>
-    ensures value { IfOk result (λ value. view value ≡ graph_value_lem graph.now.nodes graph.now.status) }
+    ensures value { IfOk result (λ value. view value ≡ graph_value_def graph.now.nodes graph.now.status) }
     ensures held { IfOk result (λ _. is_held graph.now.nodes graph.now.status ≡ true) }
 {
     let mut members = Map::new(alloc);
@@ -55,7 +55,7 @@ fn graph_value(alloc: Global, graph: &Graph) -> Result<Value, Memory>
 
 /// The JSON value of a status rule.
 fn status_value(alloc: Global, status: &StatusRule) -> Result<Value, Memory>
-    ensures value { IfOk result (λ value. view value ≡ status_value_lem status.now) }
+    ensures value { IfOk result (λ value. view value ≡ status_value_def status.now) }
     ensures held { IfOk result (λ _. is_held_status status.now ≡ true) }
 {
     match status {
@@ -68,7 +68,7 @@ fn status_value(alloc: Global, status: &StatusRule) -> Result<Value, Memory>
 
 /// The JSON value of a fixed status.
 fn fixed_value(alloc: Global, code: u8) -> Result<Value, Memory>
-    ensures { IfOk result (λ value. view value ≡ status_value_lem (rule.Fixed code)) }
+    ensures { IfOk result (λ value. view value ≡ status_value_def (rule.Fixed code)) }
 {
     let mut members = Map::new(alloc);
     put(alloc, &mut members, "fixed", Value::from(code))?;
@@ -77,7 +77,7 @@ fn fixed_value(alloc: Global, code: u8) -> Result<Value, Memory>
 
 /// The JSON value of a status that nodes select.
 fn selected_value(alloc: Global, nodes: &[u32], some: u8, none: u8) -> Result<Value, Memory>
-    ensures value { IfOk result (λ value. view value ≡ status_value_lem (rule.Selected nodes.now some none)) }
+    ensures value { IfOk result (λ value. view value ≡ status_value_def (rule.Selected nodes.now some none)) }
     ensures held { IfOk result (λ _. are_counts nodes.now ≡ true) }
 {
     let mut members = Map::new(alloc);
@@ -89,7 +89,7 @@ fn selected_value(alloc: Global, nodes: &[u32], some: u8, none: u8) -> Result<Va
 
 /// The JSON value of nodes.
 fn nodes_value(alloc: Global, nodes: &[Node]) -> Result<Value, Memory>
-    ensures value { IfOk result (λ value. view value ≡ list_value node_value_lem nodes.now) }
+    ensures value { IfOk result (λ value. view value ≡ list_value node_value_def nodes.now) }
     ensures held { IfOk result (λ _. list_all is_held_node nodes.now ≡ true) }
 {
     let mut values = Vec::with_capacity(alloc, nodes.len())?;
@@ -101,7 +101,7 @@ fn nodes_value(alloc: Global, nodes: &[Node]) -> Result<Value, Memory>
 
 /// The JSON value of a node. Its members are put in from the last to the first.
 fn node_value(alloc: Global, node: &Node) -> Result<Value, Memory>
-    ensures value { IfOk result (λ value. view value ≡ node_value_lem node.now) }
+    ensures value { IfOk result (λ value. view value ≡ node_value_def node.now) }
     ensures held { IfOk result (λ _. is_held_node node.now ≡ true) }
 {
     let mut members = Map::new(alloc);
@@ -167,7 +167,7 @@ fn put_some(
     key: &str,
     value: Option<Value>,
 ) -> Result<(), Memory>
-    ensures { OnOk result (members_view members.new.entries ≡ put_some_lem key.now (option_map view value) (members_view members.old.entries)) }
+    ensures { OnOk result (members_view members.new.entries ≡ put_some_def key.now (option_map view value) (members_view members.old.entries)) }
 {
     match value {
         Some(value) => put(alloc, members, key, value),
@@ -187,7 +187,7 @@ fn switch_value(is_on: Option<bool>) -> Option<Value>
 
 /// The JSON value of the path of a kind that has one.
 fn path_value(alloc: Global, kind: &NodeKind) -> Result<Option<Value>, Memory>
-    ensures value { IfOk result (λ value. option_map view value ≡ option_map path_value_lem (parts_of kind.now).path) }
+    ensures value { IfOk result (λ value. option_map view value ≡ option_map path_value_def (parts_of kind.now).path) }
     ensures held { IfOk result (λ _. option_map_or is_path (parts_of kind.now).path true ≡ true) }
 {
     match path_of(kind) {
@@ -198,7 +198,7 @@ fn path_value(alloc: Global, kind: &NodeKind) -> Result<Option<Value>, Memory>
 
 /// The JSON value of a path: the text that spells it.
 fn value_of_path(alloc: Global, path: &Path) -> Result<Value, Memory>
-    ensures value { IfOk result (λ value. view value ≡ path_value_lem path.now) }
+    ensures value { IfOk result (λ value. view value ≡ path_value_def path.now) }
     ensures held { IfOk result (λ _. is_path path.now ≡ true) }
 {
     // Tells the proof that the components are names.
@@ -209,7 +209,7 @@ fn value_of_path(alloc: Global, path: &Path) -> Result<Value, Memory>
 
 /// The JSON value of the text of a kind that has one.
 fn text_value(alloc: Global, kind: &NodeKind) -> Result<Option<Value>, Memory>
-    ensures value { IfOk result (λ value. option_map view value ≡ option_map bytes_value_lem (parts_of kind.now).text) }
+    ensures value { IfOk result (λ value. option_map view value ≡ option_map bytes_value_def (parts_of kind.now).text) }
     ensures held { IfOk result (λ _. option_map_or are_bytes (parts_of kind.now).text true ≡ true) }
 {
     match text_of(kind) {
@@ -220,7 +220,7 @@ fn text_value(alloc: Global, kind: &NodeKind) -> Result<Option<Value>, Memory>
 
 /// The JSON value of the words of a kind that runs an invocation.
 fn words_value(alloc: Global, kind: &NodeKind) -> Result<Option<Value>, Memory>
-    ensures value { IfOk result (λ value. option_map view value ≡ option_map (list_value bytes_value_lem) (parts_of kind.now).words) }
+    ensures value { IfOk result (λ value. option_map view value ≡ option_map (list_value bytes_value_def) (parts_of kind.now).words) }
     ensures held { IfOk result (λ _. option_map_or (λ words. list_all are_bytes words) (parts_of kind.now).words true ≡ true) }
 {
     match inv_of(kind) {
@@ -231,7 +231,7 @@ fn words_value(alloc: Global, kind: &NodeKind) -> Result<Option<Value>, Memory>
 
 /// The JSON value of words.
 fn value_of_words(alloc: Global, words: &[Vec<u8>]) -> Result<Value, Memory>
-    ensures value { IfOk result (λ value. view value ≡ list_value bytes_value_lem (texts_of words.now)) }
+    ensures value { IfOk result (λ value. view value ≡ list_value bytes_value_def (texts_of words.now)) }
     ensures held { IfOk result (λ _. list_all are_bytes (texts_of words.now) ≡ true) }
 {
     let mut values = Vec::with_capacity(alloc, words.len())?;
@@ -243,7 +243,7 @@ fn value_of_words(alloc: Global, words: &[Vec<u8>]) -> Result<Value, Memory>
 
 /// The JSON value of numbers.
 fn counts_value(alloc: Global, counts: &[u32]) -> Result<Value, Memory>
-    ensures value { IfOk result (λ value. view value ≡ list_value count_value_lem counts.now) }
+    ensures value { IfOk result (λ value. view value ≡ list_value count_value_def counts.now) }
     ensures held { IfOk result (λ _. are_counts counts.now ≡ true) }
 {
     let mut values = Vec::with_capacity(alloc, counts.len())?;
@@ -255,7 +255,7 @@ fn counts_value(alloc: Global, counts: &[u32]) -> Result<Value, Memory>
 
 /// The JSON value of a number.
 fn count_value(count: u32) -> Value
-    ensures value { view result ≡ count_value_lem count }
+    ensures value { view result ≡ count_value_def count }
     ensures held { is_count count ≡ true }
 {
     Value::from(count)
@@ -263,7 +263,7 @@ fn count_value(count: u32) -> Value
 
 /// The JSON value of bytes: a string of as many characters.
 fn bytes_value(alloc: Global, bytes: &[u8]) -> Result<Value, Memory>
-    ensures value { IfOk result (λ value. view value ≡ bytes_value_lem bytes.now) }
+    ensures value { IfOk result (λ value. view value ≡ bytes_value_def bytes.now) }
     ensures held { IfOk result (λ _. are_bytes bytes.now ≡ true) }
 {
     let mut text = String::new(alloc);

@@ -3,8 +3,8 @@ ghost use Rattle.std.specs.Prelude.{◌≡◌, true, false, Some, IfOk, IsErrOf}
 ghost use Rattle.serde_json.specs.View.{view};
 ghost use Rattle.fl_graph.specs.Valid.{Valid};
 ghost use Rattle.fl_graph.specs.declared.graphs.Graph.{Graph as Graphs};
-ghost use Rattle.fl_text.specs.Inner.Drafts.{graph_in as graph_in_lem};
-ghost use Rattle.fl_text.specs.Texts.{has_other_version as has_other_version_lem, is_other_version as is_other_version_lem, IsGraph, IsGraphText, IsNoGraph, IsNoJson, IsOfOtherVersion};
+ghost use Rattle.fl_text.specs.Inner.Drafts.{graph_in as graph_in_def};
+ghost use Rattle.fl_text.specs.Texts.{has_other_version as has_other_version_def, is_other_version as is_other_version_def, IsGraph, IsGraphText, IsNoGraph, IsNoJson, IsOfOtherVersion};
 
 use crate::nodes::{VERSION, graph_in};
 use fl_graph::{Graph, validate};
@@ -52,12 +52,12 @@ pub fn read(alloc: Global, text: &[u8]) -> Result<Graph, TextFault>
 /// The valid graph whose value this is.
 #[tactic(auto, using(crate::proofs::AnswerLemmas::one_value))]
 fn read_value(alloc: Global, value: Value) -> Result<Graph, TextFault>
-    ensures graph { IfOk result (λ graph. graph_in_lem (view value) ≡ Some graph) }
+    ensures graph { IfOk result (λ graph. graph_in_def (view value) ≡ Some graph) }
     ensures valid { IfOk result (λ graph. Valid graph.nodes graph.status) }
     ensures not_json { IsErrOf result TextFault.NotJson → ⊥ }
-    ensures bad_version { IsErrOf result TextFault.BadVersion → has_other_version_lem (view value) ≡ true }
-    ensures not_graph { IsErrOf result TextFault.NotGraph → has_other_version_lem (view value) ≡ false }
-    ensures none { IsErrOf result TextFault.NotGraph → (graph : Graphs) → graph_in_lem (view value) ≡ Some graph → Valid graph.nodes graph.status → ⊥ }
+    ensures bad_version { IsErrOf result TextFault.BadVersion → has_other_version_def (view value) ≡ true }
+    ensures not_graph { IsErrOf result TextFault.NotGraph → has_other_version_def (view value) ≡ false }
+    ensures none { IsErrOf result TextFault.NotGraph → (graph : Graphs) → graph_in_def (view value) ≡ Some graph → Valid graph.nodes graph.status → ⊥ }
 {
     if has_other_version(&value) {
         return Err(TextFault::BadVersion);
@@ -77,7 +77,7 @@ fn read_value(alloc: Global, value: Value) -> Result<Graph, TextFault>
 
 /// Whether a value is an object of another version.
 fn has_other_version(value: &Value) -> bool
-    ensures { result ≡ has_other_version_lem (view value.now) }
+    ensures { result ≡ has_other_version_def (view value.now) }
 {
     match value.get("version").and_then(Value::as_u64) {
         Some(count) => is_other_version(count),
@@ -87,7 +87,7 @@ fn has_other_version(value: &Value) -> bool
 
 /// Whether a number is that of another version.
 fn is_other_version(count: u64) -> bool
-    ensures { result ≡ is_other_version_lem count }
+    ensures { result ≡ is_other_version_def count }
 {
     count < 0x1_0000_0000 && count != VERSION as u64
 }

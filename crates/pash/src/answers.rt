@@ -1,6 +1,6 @@
 //! The answers of the top call, and why a run stops.
 ghost use Rattle.std.specs.Prelude.{◌≡◌};
-ghost use Rattle.pash.specs.Answers.{outcome_by, refusal_of as refusal_of_lem, refusing};
+ghost use Rattle.pash.specs.Answers.{outcome_by, refusal_of as refusal_of_def, refusing};
 ghost use Rattle.pash.specs.Runs.{stop_of_tree, stop_of_sink};
 
 use ps_lines::Text;
@@ -10,7 +10,7 @@ use sh_lex::Static;
 
 /// The refusal of a script whose text is refused so.
 pub fn refusal_of(cause: Static) -> Refusal
-    ensures { result ≡ refusal_of_lem cause }
+    ensures { result ≡ refusal_of_def cause }
 {
     match cause {
         Static::UnclosedQuote(offset) => Refusal::UnclosedQuote(offset),

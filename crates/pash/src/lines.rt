@@ -1,6 +1,6 @@
 //! The lines that tell answers.
 ghost use Rattle.std.specs.Prelude.{◌≡◌, ◌++◌, codes, IfOk, OnOk};
-ghost use Rattle.sh_eval.specs.Lines.{diagnostic as diagnostic_lem};
+ghost use Rattle.sh_eval.specs.Lines.{diagnostic as diagnostic_def};
 ghost use Rattle.pash.specs.Answers.{line_of, refusal_text, with_letter, with_number};
 
 use crate::answers::Why;
@@ -30,7 +30,7 @@ pub fn answer_line(alloc: Global, why: &Why) -> Result<Vec<u8>, Memory>
 
 /// The line `NAME: SUBJECT: REASON`.
 fn diagnostic(alloc: Global, name: &[u8], subject: &[u8], reason: &[u8]) -> Result<Vec<u8>, Memory>
-    ensures { IfOk result (λ line. line.items ≡ diagnostic_lem name.now subject.now reason.now) }
+    ensures { IfOk result (λ line. line.items ≡ diagnostic_def name.now subject.now reason.now) }
 {
     let mut line = Vec::from_slice(alloc, name)?;
     line.extend_from_slice(b": ")?;

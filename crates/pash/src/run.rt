@@ -8,7 +8,7 @@ ghost use Rattle.sh_eval.specs.Contract.{drawn_of, faults_of, seen_of};
 ghost use Rattle.sh_tree.specs.Views.{script_tree};
 ghost use Rattle.pash.specs.Answers.{IsOfRun, IsOfScript, IsWithoutScript, finished, line_of, refusing};
 ghost use Rattle.pash.specs.Meaning.{meaning, run_of, told};
-ghost use Rattle.pash.specs.Runs.{DrawsNothing, OnlyTold, RunsAs, Stops, TellsOnly, came_of as came_of_lem, point_of};
+ghost use Rattle.pash.specs.Runs.{DrawsNothing, OnlyTold, RunsAs, Stops, TellsOnly, came_of as came_of_def, point_of};
 ghost use Rattle.pash.specs.Starts.{EndsWith, IfAnswered, RunsNothing, as_start, draws, text_of, tries, uses_tree};
 ghost use Rattle.pash.specs.Words.{command_of, reads_input, texts, uses_files};
 
@@ -282,7 +282,7 @@ fn run_over<T: Tree, O: Sink + Send, E: Sink, G: Gate, X: Engine>(
 
 /// The answer of an evaluation that is over, where `status` is `$?`; or why it stopped.
 fn came_of(how: How, status: u8) -> Result<Outcome, Stop>
-    ensures { result ≡ came_of_lem how status }
+    ensures { result ≡ came_of_def how status }
 {
     match how {
         How::Gone(flow) => Ok(ended(flow, status)),

@@ -3,8 +3,8 @@ ghost use Rattle.std.specs.Prelude.{◌≡◌, ℕ, ◌-◌, ◌^◌, ◌≤◌,
 ghost use Rattle.std.specs.Global.{Vec};
 ghost use Rattle.std.specs.Option.{option_copied, option_map};
 ghost use Rattle.ps_world.specs.Files.{NoWriterOut};
-ghost use Rattle.ps_fakes.specs.Bounded.{AreBounded, are_bounded as are_bounded_lem, is_bounded as is_bounded_lem};
-ghost use Rattle.ps_fakes.specs.Standing.{is_tree as is_tree_lem};
+ghost use Rattle.ps_fakes.specs.Bounded.{AreBounded, are_bounded as are_bounded_def, is_bounded as is_bounded_def};
+ghost use Rattle.ps_fakes.specs.Standing.{is_tree as is_tree_def};
 ghost use Rattle.ps_fakes.specs.Trees.{entries_of, file_of, files_of, fresh_state, rows_of, state_of};
 
 use crate::rows::copy_rows;
@@ -179,8 +179,8 @@ impl NoFailTree {
         home: &[u8],
         entries: Vec<(Vec<u8>, Option<Vec<u8>>)>,
     ) -> Result<NoFailTree, Memory>
-        requires stands { IsTrue (is_tree_lem home.now (entries_of entries.items)) }
-        requires bounded { IsTrue (are_bounded_lem (entries_of entries.items)) }
+        requires stands { IsTrue (is_tree_def home.now (entries_of entries.items)) }
+        requires bounded { IsTrue (are_bounded_def (entries_of entries.items)) }
         ensures state { IfOk result (λ tree. ⟦<NoFailTree as Tree>⟧.state tree ≡ fresh_state home.now (entries_of entries.items)) }
         ensures settled { IfOk result (λ tree. IfSome (⟦<NoFailTree as Tree>⟧.state tree).held NoWriterOut) }
     {
@@ -194,7 +194,7 @@ impl NoFailTree {
         home: &[u8],
         rows: &[(&[u8], Option<&[u8]>)],
     ) -> Result<Option<NoFailTree>, Memory>
-        ensures stands { IfOk result (λ tree. is_some tree ≡ (is_tree_lem home.now (rows_of rows.now) && are_bounded_lem (rows_of rows.now))) }
+        ensures stands { IfOk result (λ tree. is_some tree ≡ (is_tree_def home.now (rows_of rows.now) && are_bounded_def (rows_of rows.now))) }
         ensures state { IfOk result (λ tree. IfSome tree (λ tree.
             ⟦<NoFailTree as Tree>⟧.state tree ≡ fresh_state home.now (rows_of rows.now))) }
         ensures settled { IfOk result (λ tree. IfSome tree (λ tree. IfSome (⟦<NoFailTree as Tree>⟧.state tree).held NoWriterOut)) }
@@ -221,7 +221,7 @@ impl NoFailTree {
 
 /// Whether each file of these entries has at most 2^40 bytes.
 pub fn are_bounded(entries: &[(Vec<u8>, Option<Vec<u8>>)]) -> bool
-    ensures { result ≡ are_bounded_lem (entries_of entries.now) }
+    ensures { result ≡ are_bounded_def (entries_of entries.now) }
 {
     let mut left = entries;
     while let [first, rest @ ..] = left {
@@ -235,7 +235,7 @@ pub fn are_bounded(entries: &[(Vec<u8>, Option<Vec<u8>>)]) -> bool
 
 /// Whether a file of these bytes has at most 2^40 of them.
 fn is_bounded(bytes: &Option<Vec<u8>>) -> bool
-    ensures { result ≡ is_bounded_lem (unwrap_or (option_map (λ (bytes : Vec ℕ). bytes.items) bytes.now) []) }
+    ensures { result ≡ is_bounded_def (unwrap_or (option_map (λ (bytes : Vec ℕ). bytes.items) bytes.now) []) }
 {
     match bytes {
         Some(bytes) => bytes.len() <= MOST_BYTES,

@@ -1,6 +1,6 @@
 //! How readers give their bytes.
 ghost use Rattle.std.specs.Prelude.{◌≡◌};
-ghost use Rattle.ps_fakes.specs.Reads.{reads_at as reads_at_lem};
+ghost use Rattle.ps_fakes.specs.Reads.{reads_at as reads_at_def};
 
 use ps_world::Path;
 
@@ -20,7 +20,7 @@ pub struct ReadPlan {
 
 /// How the readers of a path give their bytes, by the first plan of it.
 pub fn reads_at(plans: &[ReadPlan], path: &Path) -> Reads
-    ensures { result ≡ reads_at_lem plans.now path.now }
+    ensures { result ≡ reads_at_def plans.now path.now }
 {
     let mut left = plans;
     while let [first, rest @ ..] = left {

@@ -3,7 +3,7 @@ ghost use Rattle.std.specs.Prelude.{◌≡◌, map, IfOk, IfSome};
 ghost use Rattle.std.specs.Option.{is_some};
 ghost use Rattle.std.specs.List.{list_all};
 ghost use Rattle.ps_fakes.specs.Trees.{entries_of};
-ghost use Rattle.ps_fakes.specs.Standing.{all_spell_paths, is_on_way_to as is_on_way_to_lem, is_tree as is_tree_lem, leaves_free as leaves_free_lem, site_of, stand_beside as stand_beside_lem, stand_together as stand_together_lem};
+ghost use Rattle.ps_fakes.specs.Standing.{all_spell_paths, is_on_way_to as is_on_way_to_def, is_tree as is_tree_def, leaves_free as leaves_free_def, site_of, stand_beside as stand_beside_def, stand_together as stand_together_def};
 
 use ps_lines::Memory;
 use ps_world::Path;
@@ -25,7 +25,7 @@ pub fn is_tree(
     home: &[u8],
     entries: &[(Vec<u8>, Option<Vec<u8>>)],
 ) -> Result<bool, Memory>
-    ensures { IfOk result (λ answer. answer ≡ is_tree_lem home.now (entries_of entries.now)) }
+    ensures { IfOk result (λ answer. answer ≡ is_tree_def home.now (entries_of entries.now)) }
 {
     let Some(home) = Path::read(alloc, home)? else {
         return Ok(false);
@@ -60,14 +60,14 @@ fn sites_of(
 
 /// Whether no file of these stands on the way to a path.
 fn all_leave_free(sites: &[Site], path: &Path) -> bool
-    ensures { result ≡ list_all (λ site. leaves_free_lem site path.now) sites.now }
+    ensures { result ≡ list_all (λ site. leaves_free_def site path.now) sites.now }
 {
     sites.iter().all(|site| leaves_free(site, path))
 }
 
 /// Whether every two of these stand beside each other.
 fn stand_together(sites: &[Site]) -> bool
-    ensures { result ≡ stand_together_lem sites.now }
+    ensures { result ≡ stand_together_def sites.now }
 {
     let mut left = sites;
     while let [first, rest @ ..] = left {
@@ -81,28 +81,28 @@ fn stand_together(sites: &[Site]) -> bool
 
 /// Whether all of the others stand beside this one.
 fn stand_beside_all(site: &Site, others: &[Site]) -> bool
-    ensures { result ≡ list_all (λ other. stand_beside_lem site.now other) others.now }
+    ensures { result ≡ list_all (λ other. stand_beside_def site.now other) others.now }
 {
     others.iter().all(|other| stand_beside(site, other))
 }
 
 /// Whether two have two paths, and neither is a file on the way to the other.
 fn stand_beside(site: &Site, other: &Site) -> bool
-    ensures { result ≡ stand_beside_lem site.now other.now }
+    ensures { result ≡ stand_beside_def site.now other.now }
 {
     site.path != other.path && leaves_free(site, &other.path) && leaves_free(other, &site.path)
 }
 
 /// Whether no file stands here on the way to a path.
 fn leaves_free(site: &Site, path: &Path) -> bool
-    ensures { result ≡ leaves_free_lem site.now path.now }
+    ensures { result ≡ leaves_free_def site.now path.now }
 {
     !(site.is_file && is_on_way_to(&site.path, path))
 }
 
 /// Whether the one path is the other, or above it.
 fn is_on_way_to(path: &Path, other: &Path) -> bool
-    ensures { result ≡ is_on_way_to_lem path.now other.now }
+    ensures { result ≡ is_on_way_to_def path.now other.now }
 {
     other.parts.as_slice().starts_with(path.parts.as_slice())
 }

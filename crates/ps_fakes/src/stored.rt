@@ -3,8 +3,8 @@ ghost use Rattle.std.specs.Prelude.{◌≡◌, ◌++◌, ℕ, length, map, Some,
 ghost use Rattle.std.specs.FinMap.{get, insert};
 ghost use Rattle.std.specs.Global.{Vec};
 ghost use Rattle.std.specs.Option.{option_copied, option_map};
-ghost use Rattle.ps_world.specs.Files.{kind_at as kind_at_lem, kind_of as kind_of_lem, bytes_at as bytes_at_lem, bytes_of as bytes_of_lem};
-ghost use Rattle.ps_fakes.specs.Trees.{above, entries_of, file_in as file_in_lem, files_of, folder as folder_lem, folders, named_path as named_path_lem, node_at, node_in, node_of, placed, placed_of};
+ghost use Rattle.ps_world.specs.Files.{kind_at as kind_at_def, kind_of as kind_of_def, bytes_at as bytes_at_def, bytes_of as bytes_of_def};
+ghost use Rattle.ps_fakes.specs.Trees.{above, entries_of, file_in as file_in_def, files_of, folder as folder_def, folders, named_path as named_path_def, node_at, node_in, node_of, placed, placed_of};
 
 use ps_world::{Kind, Path};
 use std::alloc::{AllocError, Global};
@@ -29,7 +29,7 @@ pub struct Stored {
 /// What stands at a path.
 #[tactic(auto, using(crate::proofs::FindLemmas::get_first))]
 pub fn kind_at(stored: &[Stored], path: &Path) -> Kind
-    ensures { result ≡ kind_at_lem (files_of stored.now) path.now }
+    ensures { result ≡ kind_at_def (files_of stored.now) path.now }
 {
     match find(stored, path) {
         None => Kind::Missing,
@@ -39,7 +39,7 @@ pub fn kind_at(stored: &[Stored], path: &Path) -> Kind
 
 /// What this is.
 fn kind_of(stored: &Stored) -> Kind
-    ensures { result ≡ kind_of_lem (Some (placed_of stored.now).1) }
+    ensures { result ≡ kind_of_def (Some (placed_of stored.now).1) }
 {
     match &stored.content {
         Content::File(_) | Content::Out => Kind::File,
@@ -50,7 +50,7 @@ fn kind_of(stored: &Stored) -> Kind
 /// The bytes of the file at a path, none where no file is in.
 #[tactic(auto, using(crate::proofs::FindLemmas::get_first))]
 pub fn bytes_at<'a>(stored: &'a [Stored], path: &Path) -> &'a [u8]
-    ensures { result.now ≡ bytes_at_lem (files_of stored.now) path.now }
+    ensures { result.now ≡ bytes_at_def (files_of stored.now) path.now }
 {
     match find(stored, path) {
         None => &[],
@@ -60,7 +60,7 @@ pub fn bytes_at<'a>(stored: &'a [Stored], path: &Path) -> &'a [u8]
 
 /// The bytes of this file, none where no file is in.
 fn bytes_of(stored: &Stored) -> &[u8]
-    ensures { result.now ≡ bytes_of_lem (Some (placed_of stored.now).1) }
+    ensures { result.now ≡ bytes_of_def (Some (placed_of stored.now).1) }
 {
     match &stored.content {
         Content::File(bytes) => bytes.as_slice(),
@@ -71,7 +71,7 @@ fn bytes_of(stored: &Stored) -> &[u8]
 /// The bytes of the file at a path, where one is in.
 #[tactic(auto, using(crate::proofs::FindLemmas::get_first))]
 pub fn file_at<'a>(stored: &'a [Stored], path: &Path) -> Option<&'a [u8]>
-    ensures { option_copied result ≡ file_in_lem (get (files_of stored.now) path.now) }
+    ensures { option_copied result ≡ file_in_def (get (files_of stored.now) path.now) }
 {
     match find(stored, path) {
         None => None,
@@ -81,7 +81,7 @@ pub fn file_at<'a>(stored: &'a [Stored], path: &Path) -> Option<&'a [u8]>
 
 /// The bytes of this, where it is a file that is in.
 fn file_in(stored: &Stored) -> Option<&[u8]>
-    ensures { option_copied result ≡ file_in_lem (Some (placed_of stored.now).1) }
+    ensures { option_copied result ≡ file_in_def (Some (placed_of stored.now).1) }
 {
     match &stored.content {
         Content::File(bytes) => Some(bytes.as_slice()),
@@ -141,7 +141,7 @@ pub fn put(stored: &mut Vec<Stored>, path: &Path, content: Content) -> Result<()
 
 /// The path that a text spells; the root for a text that spells none.
 pub fn named_path(alloc: Global, text: &[u8]) -> Result<Path, AllocError>
-    ensures { IfOk result (λ path. path ≡ named_path_lem text.now) }
+    ensures { IfOk result (λ path. path ≡ named_path_def text.now) }
 {
     match Path::read(alloc, text)? {
         Some(path) => Ok(path),
@@ -164,7 +164,7 @@ pub fn folders_of(alloc: Global, home: &Path, entries: &[Stored]) -> Result<Vec<
 
 /// Appends the directories above a path, its parent first.
 fn push_above(stored: &mut Vec<Stored>, path: &Path) -> Result<(), AllocError>
-    ensures { OnOk result (map placed_of stored.new.items ≡ map placed_of stored.old.items ++ map folder_lem (above path.now)) }
+    ensures { OnOk result (map placed_of stored.new.items ≡ map placed_of stored.old.items ++ map folder_def (above path.now)) }
 {
     let mut dir = path.copy()?;
     'steps: for _ in 0..height(path) {
@@ -183,7 +183,7 @@ fn height(path: &Path) -> usize
 
 /// A directory.
 fn folder(path: Path) -> Stored
-    ensures { placed_of result ≡ folder_lem path }
+    ensures { placed_of result ≡ folder_def path }
 {
     Stored {
         path,

@@ -31,10 +31,10 @@ pub struct MemTree {
 impl Tree for MemTree {
     ghost use Rattle.std.specs.Prelude.{MatchResult, IsErrOf, ◌↔◌, ◌<◌, ◌||◌, is_err, None};
     ghost use Rattle.std.specs.List.{list_all};
-    ghost use Rattle.ps_lines.specs.Lines.{is_closed as is_closed_lem};
+    ghost use Rattle.ps_lines.specs.Lines.{is_closed as is_closed_def};
     ghost use Rattle.ps_lines.specs.Texts.{texts_of};
     ghost use Rattle.ps_world.specs.Counts.{Counts, CountsReturn, Rose};
-    ghost use Rattle.ps_world.specs.Files.{CanBeMade, IsDirAt, IsFileAt, IsListing, begun, bytes_at as bytes_at_lem, kind_at as kind_at_lem};
+    ghost use Rattle.ps_world.specs.Files.{CanBeMade, IsDirAt, IsFileAt, IsListing, begun, bytes_at as bytes_at_def, kind_at as kind_at_def};
     ghost use Rattle.ps_world.specs.Paths.{is_name};
     ghost use Rattle.ps_world.specs.TreeState.{IsFilled, lend, take_back, take_out};
     ghost use Rattle.ps_fakes.specs.Plans.{CountsCall, fails_next};
@@ -55,7 +55,7 @@ impl Tree for MemTree {
 
     /// Fails exactly where it is planned.
     fn kind(&mut self, path: &Path) -> Result<Kind, WorldErr>
-        ensures kind { IfOk result (λ kind. IfSome (state_of self.old).held (λ files. kind ≡ kind_at_lem files path.now)) }
+        ensures kind { IfOk result (λ kind. IfSome (state_of self.old).held (λ files. kind ≡ kind_at_def files path.now)) }
         ensures state { state_of self.new ≡ state_of self.old }
         ensures cause { Counts self.old.plan.faults self.new.plan.faults result }
         ensures planned { is_err result ≡ fails_next self.old.plan }
@@ -90,7 +90,7 @@ impl Tree for MemTree {
     /// Fails exactly where it is planned.
     fn ends_line(&mut self, path: &Path) -> Result<bool, WorldErr>
         requires { IfSome (state_of self.old).held (λ files. IsFileAt files path.now) }
-        ensures closed { IfOk result (λ closed. IfSome (state_of self.old).held (λ files. closed ≡ is_closed_lem (bytes_at_lem files path.now))) }
+        ensures closed { IfOk result (λ closed. IfSome (state_of self.old).held (λ files. closed ≡ is_closed_def (bytes_at_def files path.now))) }
         ensures state { state_of self.new ≡ state_of self.old }
         ensures cause { Counts self.old.plan.faults self.new.plan.faults result }
         ensures planned { is_err result ≡ fails_next self.old.plan }
@@ -107,9 +107,9 @@ impl Tree for MemTree {
     fn open(&mut self, path: &Path) -> Result<MemSource, WorldErr>
         requires { IfSome (state_of self.old).held (λ files. IsFileAt files path.now) }
         ensures reader { IfOk result (λ reader. IfSome (state_of self.old).held (λ files.
-            ⟦<MemSource as Source>⟧.left reader ≡ Some (bytes_at_lem files path.now))) }
+            ⟦<MemSource as Source>⟧.left reader ≡ Some (bytes_at_def files path.now))) }
         ensures reads { IfOk result (λ reader. IfSome (state_of self.old).held (λ files.
-            GivesAs (reads_of self.old path.now) (bytes_at_lem files path.now) reader)) }
+            GivesAs (reads_of self.old path.now) (bytes_at_def files path.now) reader)) }
         ensures fresh { IfOk result (λ reader. (⟦<MemSource as Source>⟧.given reader ≡ 0) × (⟦<MemSource as Source>⟧.faults reader ≡ 0)) }
         ensures state { MatchResult result (λ _. state_of self.new ≡ lend (state_of self.old)) (λ _. state_of self.new ≡ state_of self.old) }
         ensures cause { Counts self.old.plan.faults self.new.plan.faults result }
@@ -192,10 +192,10 @@ impl Tree for MemTree {
 impl MemTree {
     ghost use Rattle.std.specs.Option.{option_copied};
     ghost use Rattle.ps_world.specs.Counts.{one_more};
-    ghost use Rattle.ps_world.specs.Files.{NoWriterOut, begun, bytes_at as bytes_at_lem};
+    ghost use Rattle.ps_world.specs.Files.{NoWriterOut, begun, bytes_at as bytes_at_def};
     ghost use Rattle.ps_world.specs.Paths.{Components};
     ghost use Rattle.ps_fakes.specs.Trees.{GivesAs, entries_of, file_of, files_of, fresh_state, names_path, reads_of, rows_of};
-    ghost use Rattle.ps_fakes.specs.Standing.{is_tree as is_tree_lem};
+    ghost use Rattle.ps_fakes.specs.Standing.{is_tree as is_tree_def};
     ghost use Rattle.ps_fakes.specs.Streams.{NeverFails};
 
     /// A tree of files, with their bytes, and directories, whose parents it makes, and the working directory `home`; the calls
@@ -208,7 +208,7 @@ impl MemTree {
         entries: Vec<(Vec<u8>, Option<Vec<u8>>)>,
         fails: Vec<u64>,
     ) -> Result<MemTree, Memory>
-        requires { IsTrue (is_tree_lem home.now (entries_of entries.items)) }
+        requires { IsTrue (is_tree_def home.now (entries_of entries.items)) }
         ensures state { IfOk result (λ tree. ⟦<MemTree as Tree>⟧.state tree ≡ fresh_state home.now (entries_of entries.items)) }
         ensures settled { IfOk result (λ tree. IfSome (⟦<MemTree as Tree>⟧.state tree).held NoWriterOut) }
         ensures faults { IfOk result (λ tree. ⟦<MemTree as Tree>⟧.faults tree ≡ 0) }
@@ -236,7 +236,7 @@ impl MemTree {
         rows: &[(&[u8], Option<&[u8]>)],
         fails: Vec<u64>,
     ) -> Result<Option<MemTree>, Memory>
-        ensures stands { IfOk result (λ tree. is_some tree ≡ is_tree_lem home.now (rows_of rows.now)) }
+        ensures stands { IfOk result (λ tree. is_some tree ≡ is_tree_def home.now (rows_of rows.now)) }
         ensures state { IfOk result (λ tree. IfSome tree (λ tree.
             ⟦<MemTree as Tree>⟧.state tree ≡ fresh_state home.now (rows_of rows.now))) }
         ensures settled { IfOk result (λ tree. IfSome tree (λ tree. IfSome (⟦<MemTree as Tree>⟧.state tree).held NoWriterOut)) }
@@ -344,7 +344,7 @@ impl MemTree {
 
     /// A reader of the file at a path, as it was planned.
     fn reader_of(&self, path: &Path) -> Result<MemSource, Memory>
-        ensures reads { IfOk result (GivesAs (reads_of self.now path.now) (bytes_at_lem (files_of self.now.stored.items) path.now)) }
+        ensures reads { IfOk result (GivesAs (reads_of self.now path.now) (bytes_at_def (files_of self.now.stored.items) path.now)) }
         ensures faults { IfOk result (λ reader. ⟦<MemSource as Source>⟧.faults reader ≡ 0) }
     {
         let alloc = *self.stored.allocator();

@@ -3,7 +3,7 @@ ghost use Rattle.std.specs.Prelude.{◌≡◌, ◌≤◌, None, IfOk, IfSome, Is
 ghost use Rattle.std.specs.List.{list_all};
 ghost use Rattle.ps_lines.specs.Texts.{texts_of};
 ghost use Rattle.ps_world.specs.Counts.{Counts, one_more};
-ghost use Rattle.ps_world.specs.Paths.{is_name as is_name_lem};
+ghost use Rattle.ps_world.specs.Paths.{is_name as is_name_def};
 
 use crate::names::is_name;
 use crate::reading::Reading;
@@ -132,7 +132,7 @@ impl RealTree {
 
     /// The names in a directory that was opened.
     fn names_of(&mut self, entries: ReadDir) -> Result<Vec<Vec<u8>>, WorldErr>
-        ensures names { IfOk result (λ names. IsTrue (list_all is_name_lem (texts_of names.items))) }
+        ensures names { IfOk result (λ names. IsTrue (list_all is_name_def (texts_of names.items))) }
         ensures kept { self.new ≡ record self.old { faults = self.new.faults } }
         ensures cause { Counts self.old.faults self.new.faults result }
     {
@@ -146,7 +146,7 @@ impl RealTree {
 
     /// The name of an entry of a directory. One that isn't UTF-8, which the machine's reader doesn't tell, counts a failure.
     fn name_of(&mut self, entry: io::Result<DirEntry>) -> Result<Vec<u8>, WorldErr>
-        ensures name { IfOk result (λ name. IsTrue (is_name_lem name.items)) }
+        ensures name { IfOk result (λ name. IsTrue (is_name_def name.items)) }
         ensures kept { self.new ≡ record self.old { faults = self.new.faults } }
         ensures cause { Counts self.old.faults self.new.faults result }
     {

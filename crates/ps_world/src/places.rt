@@ -3,7 +3,7 @@ ghost use Rattle.std.specs.Prelude.{◌≡◌, ◌<◌, false, length, position,
 ghost use Rattle.ps_world.specs.Counts.{Counts};
 ghost use Rattle.ps_world.specs.Files.{Files, kind_at};
 ghost use Rattle.ps_world.specs.Paths.{Components, components, is_slash, parent_of, stays, goes_up, has_slash};
-ghost use Rattle.ps_world.specs.Places.{enter as enter_lem, ending_at as ending_at_lem, last_place as last_place_lem, makeable as makeable_lem, IsDirIfTold, IsNoNullPath, needs_files, resolve_from, nulled as nulled_lem, start_of as start_of_lem, resolve, StandsIn, IsLastComponent, BeginsWithComponent};
+ghost use Rattle.ps_world.specs.Places.{enter as enter_def, ending_at as ending_at_def, last_place as last_place_def, makeable as makeable_def, IsDirIfTold, IsNoNullPath, needs_files, resolve_from, nulled as nulled_def, start_of as start_of_def, resolve, StandsIn, IsLastComponent, BeginsWithComponent};
 
 use crate::components::{is_going_up, is_staying, split_component};
 use crate::error::WorldErr;
@@ -66,7 +66,7 @@ pub fn look<T: Tree>(alloc: Global, tree: &mut T, text: &[u8]) -> Result<Place, 
 
 /// Where the resolution of a text starts.
 fn start_of<T: Tree>(alloc: Global, tree: &T, text: &[u8]) -> Result<Path, AllocError>
-    ensures start { IfOk result (λ start. start ≡ start_of_lem (T.state tree.now).home text.now) }
+    ensures start { IfOk result (λ start. start ≡ start_of_def (T.state tree.now).home text.now) }
 {
     match text {
         [b'/', ..] => Ok(Path::root(alloc)),
@@ -106,9 +106,9 @@ fn enter<T: Tree>(
     requires part { has_slash component.now ≡ false }
     requires told { IsDirIfTold (T.state tree.old).held stand.is_told stand.path }
     ensures inner { IfOk result (λ inner. IfSome inner (λ next. IfSome (T.state tree.old).held (λ files.
-        enter_lem files stand.path component.now ≡ Some next.path))) }
+        enter_def files stand.path component.now ≡ Some next.path))) }
     ensures none { IfOk result (λ inner. IfNone inner (IfSome (T.state tree.old).held (λ files.
-        enter_lem files stand.path component.now ≡ None))) }
+        enter_def files stand.path component.now ≡ None))) }
     ensures told { IfOk result (λ inner. IfSome inner (λ next. IsDirIfTold (T.state tree.old).held next.is_told next.path)) }
     ensures state { T.state tree.new ≡ T.state tree.old }
     ensures cause { Counts (T.faults tree.old) (T.faults tree.new) result }
@@ -145,7 +145,7 @@ fn last_place<T: Tree>(
     requires part { has_slash component.now ≡ false }
     requires told { IsDirIfTold (T.state tree.old).held stand.is_told stand.path }
     ensures place { IfOk result (λ place. IfSome (T.state tree.old).held (λ files.
-        place ≡ last_place_lem files stand.path component.now)) }
+        place ≡ last_place_def files stand.path component.now)) }
     ensures state { T.state tree.new ≡ T.state tree.old }
     ensures cause { Counts (T.faults tree.old) (T.faults tree.new) result }
 {
@@ -169,7 +169,7 @@ fn last_place<T: Tree>(
 fn ending_at<T: Tree>(tree: &mut T, path: Path, is_told: bool) -> Result<Place, WorldErr>
     requires told { IsDirIfTold (T.state tree.old).held is_told path }
     ensures place { IfOk result (λ place. IfSome (T.state tree.old).held (λ files.
-        place ≡ ending_at_lem (kind_at files path) path)) }
+        place ≡ ending_at_def (kind_at files path) path)) }
     ensures state { T.state tree.new ≡ T.state tree.old }
     ensures cause { Counts (T.faults tree.old) (T.faults tree.new) result }
 {
@@ -186,7 +186,7 @@ fn ending_at<T: Tree>(tree: &mut T, path: Path, is_told: bool) -> Result<Place, 
 fn makeable<T: Tree>(tree: &mut T, path: Path, is_told: bool) -> Result<Place, WorldErr>
     requires told { IsDirIfTold (T.state tree.old).held is_told (parent_of path) }
     ensures place { IfOk result (λ place. IfSome (T.state tree.old).held (λ files.
-        place ≡ makeable_lem (kind_at files (parent_of path)) path)) }
+        place ≡ makeable_def (kind_at files (parent_of path)) path)) }
     ensures state { T.state tree.new ≡ T.state tree.old }
     ensures cause { Counts (T.faults tree.old) (T.faults tree.new) result }
 {
@@ -203,7 +203,7 @@ fn makeable<T: Tree>(tree: &mut T, path: Path, is_told: bool) -> Result<Place, W
 
 /// The null device in place of what stands at its path.
 fn nulled(place: Place) -> Place
-    ensures value { result ≡ nulled_lem place }
+    ensures value { result ≡ nulled_def place }
     ensures apart { IsNoNullPath result }
 {
     match place {

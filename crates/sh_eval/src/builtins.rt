@@ -4,7 +4,7 @@ ghost use Rattle.ps_lines.specs.Texts.{texts_of};
 ghost use Rattle.ut_args.specs.Invocations.{command_of};
 ghost use Rattle.fl_engines.specs.Logs.{Log};
 ghost use Rattle.sh_eval.specs.Asking.{builtin, does};
-ghost use Rattle.sh_eval.specs.Builtins.{answers, echoes, exits, fails, leaves_loops, misused, reads, sets, shifts, succeeds, tests, unset_all as unset_all_lem, unsets};
+ghost use Rattle.sh_eval.specs.Builtins.{answers, echoes, exits, fails, leaves_loops, misused, reads, sets, shifts, succeeds, tests, unset_all as unset_all_def, unsets};
 ghost use Rattle.sh_eval.specs.Contract.{Drawn, Evaluates, IsSound, drawn_of, faults_of, point_of, seen_of};
 ghost use Rattle.sh_eval.specs.States.{Means};
 ghost use Rattle.sh_eval.specs.Ending.{InShell, how_behind, status_behind};
@@ -234,7 +234,7 @@ fn unset(names: &Texts, shell: &mut Shell) -> How
 
 /// Unsets variables.
 fn unset_all(names: &[Vec<u8>], variables: &mut Env)
-    ensures { variables.new ≡ unset_all_lem (texts_of names.now) variables.old }
+    ensures { variables.new ≡ unset_all_def (texts_of names.now) variables.old }
 {
     for name in names {
         variables.unset(name.as_slice());

@@ -4,7 +4,7 @@ ghost use Rattle.std.specs.List.{flat_map, list_any};
 ghost use Rattle.std.specs.Option.{option_copied};
 ghost use Rattle.ps_lines.specs.Texts.{texts_of};
 ghost use Rattle.ps_world.specs.Counts.{Counts};
-ghost use Rattle.sh_eval.specs.Redirections.{clashes as clashes_lem, first_busy as first_busy_lem, held_at, held_by, is_busy as is_busy_lem, named_by, path_at as path_at_lem, uses_by, uses_of, writes_by as writes_by_lem};
+ghost use Rattle.sh_eval.specs.Redirections.{clashes as clashes_def, first_busy as first_busy_def, held_at, held_by, is_busy as is_busy_def, named_by, path_at as path_at_def, uses_by, uses_of, writes_by as writes_by_def};
 ghost use Rattle.sh_eval.specs.States.{State};
 ghost use Rattle.sh_eval.specs.Teeing.{written_use};
 ghost use Rattle.sh_eval.specs.Utilities.{read_use};
@@ -52,7 +52,7 @@ fn add_target<T: Tree>(
     tree: &mut T,
 ) -> Result<(), WorldErr>
     ensures ok { (state : State) → (T.state tree.old).held ≡ Some state.world.files → (T.state tree.old).home ≡ state.world.home
-        → OnOk result (uses.new.items ≡ uses.old.items ++ uses_by state target.now (writes_by_lem target.now.how)) }
+        → OnOk result (uses.new.items ≡ uses.old.items ++ uses_by state target.now (writes_by_def target.now.how)) }
     ensures state { T.state tree.new ≡ T.state tree.old }
     ensures cause { Counts (T.faults tree.old) (T.faults tree.new) result }
 {
@@ -118,7 +118,7 @@ pub(crate) fn add_files<T: Tree>(
 
 /// Whether a redirection writes its path, if it uses one.
 fn writes_by(how: How) -> Option<bool>
-    ensures { result ≡ writes_by_lem how }
+    ensures { result ≡ writes_by_def how }
 {
     match how {
         How::Read => Some(false),
@@ -152,7 +152,7 @@ pub(crate) fn add_use<T: Tree>(
 
 /// The first use whose path is busy, as written.
 pub(crate) fn first_busy<'a>(held: &HeldPaths, uses: &'a [Use]) -> Option<&'a [u8]>
-    ensures { option_copied result ≡ first_busy_lem held.now uses.now }
+    ensures { option_copied result ≡ first_busy_def held.now uses.now }
 {
     let mut left = uses;
     while let [first, rest @ ..] = left {
@@ -166,7 +166,7 @@ pub(crate) fn first_busy<'a>(held: &HeldPaths, uses: &'a [Use]) -> Option<&'a [u
 
 /// Whether the path of a use is held, or used again.
 fn is_busy(held: &HeldPaths, uses: &[Use], this: &Use) -> bool
-    ensures { result ≡ is_busy_lem held.now uses.now this.now.writes (path_at_lem this.now.place) }
+    ensures { result ≡ is_busy_def held.now uses.now this.now.writes (path_at_def this.now.place) }
 {
     match path_at(&this.place) {
         Some(path) => is_held(held.as_slice(), this.writes, path)
@@ -177,7 +177,7 @@ fn is_busy(held: &HeldPaths, uses: &[Use], this: &Use) -> bool
 
 /// The path of a place, whether or not a file is there.
 fn path_at(place: &Place) -> Option<&Path>
-    ensures { option_copied result ≡ path_at_lem place.now }
+    ensures { option_copied result ≡ path_at_def place.now }
 {
     match place {
         Place::Makeable(path) => Some(path),
@@ -190,21 +190,21 @@ fn path_at(place: &Place) -> Option<&Path>
 
 /// Whether the path is held, and is written here or there.
 fn is_held(held: &[Held], writes: bool, path: &Path) -> bool
-    ensures { result ≡ list_any (λ other. clashes_lem writes path.now other.writes (Some other.path)) held.now }
+    ensures { result ≡ list_any (λ other. clashes_def writes path.now other.writes (Some other.path)) held.now }
 {
     held.iter().any(|other| clashes(writes, path, other.writes, Some(&other.path)))
 }
 
 /// Whether the path is used, and is written here or there.
 fn is_used(uses: &[Use], writes: bool, path: &Path) -> bool
-    ensures { result ≡ list_any (λ other. clashes_lem writes path.now other.writes (path_at_lem other.place)) uses.now }
+    ensures { result ≡ list_any (λ other. clashes_def writes path.now other.writes (path_at_def other.place)) uses.now }
 {
     uses.iter().any(|other| clashes(writes, path, other.writes, path_at(&other.place)))
 }
 
 /// Whether both are at the path, and one of them writes it.
 fn clashes(writes: bool, path: &Path, also: bool, other: Option<&Path>) -> bool
-    ensures { result ≡ clashes_lem writes path.now also (option_copied other.entry) }
+    ensures { result ≡ clashes_def writes path.now also (option_copied other.entry) }
 {
     match other {
         Some(other) => path == other && (writes || also),
@@ -224,7 +224,7 @@ pub(crate) fn hold(uses: &[Use], held: &mut HeldPaths) -> Result<(), Memory>
 
 /// Has a compound command hold the path of a use.
 fn hold_use(used: &Use, held: &mut HeldPaths) -> Result<(), Memory>
-    ensures { OnOk result (held.new ≡ held.old ++ held_at (path_at_lem used.now.place) used.now.writes) }
+    ensures { OnOk result (held.new ≡ held.old ++ held_at (path_at_def used.now.place) used.now.writes) }
 {
     match path_at(&used.place) {
         Some(path) => held.push(path, used.writes),

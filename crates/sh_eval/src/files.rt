@@ -5,7 +5,7 @@ ghost use Rattle.ps_world.specs.Counts.{Counts, Rose};
 ghost use Rattle.ps_world.specs.Files.{CanBeMade, IsFileAt, bytes_at};
 ghost use Rattle.ps_world.specs.TreeState.{Balanced, OnlyLent};
 ghost use Rattle.fl_commands.specs.Writers.{ChangesOnly};
-ghost use Rattle.sh_eval.specs.Leading.{begun_at, mode_of as mode_of_lem};
+ghost use Rattle.sh_eval.specs.Leading.{begun_at, mode_of as mode_of_def};
 
 use ps_world::{Mode, Path, Tree, WorldErr, read_all};
 use std::alloc::Global;
@@ -43,7 +43,7 @@ pub(crate) fn begin_file<T: Tree>(anew: bool, path: &Path, tree: &mut T) -> Resu
 
 /// How a file is opened that is begun anew, or behind the bytes that it has.
 fn mode_of(anew: bool) -> Mode
-    ensures { result ≡ mode_of_lem anew }
+    ensures { result ≡ mode_of_def anew }
 {
     if anew { Mode::Fresh } else { Mode::Append }
 }

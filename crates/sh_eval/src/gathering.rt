@@ -9,7 +9,7 @@ ghost use Rattle.ut_args.specs.Inputs.{operands_of};
 ghost use Rattle.ut_args.specs.Invocations.{command_of};
 ghost use Rattle.sh_eval.specs.Inner.Gathering.{AddsStage, CanBeMember, Gathers, GiveFields, IsAskedBy, IsFound, IsFree, IsRead};
 ghost use Rattle.sh_eval.specs.Inner.Inputs.{IsLooked, called_by, lines_by};
-ghost use Rattle.sh_eval.specs.Segments.{is_plain_place as is_plain_place_lem, name_of as name_of_lem};
+ghost use Rattle.sh_eval.specs.Segments.{is_plain_place as is_plain_place_def, name_of as name_of_def};
 ghost use Rattle.sh_eval.specs.Table.{patterns_of};
 ghost use Rattle.sh_eval.specs.Utilities.{needs_all, read};
 
@@ -75,7 +75,7 @@ pub(crate) fn gather<T: Tree>(
 fn may_run_as_one(stages: &[Command], streams: &Streams) -> bool
     ensures several { result ≡ true → 2 ≤ length stages.now }
     ensures most { result ≡ true → length stages.now ≤ MAX_STAGES }
-    ensures plain { result ≡ true → is_plain_place_lem streams.now.errors_to ≡ true }
+    ensures plain { result ≡ true → is_plain_place_def streams.now.errors_to ≡ true }
 {
     2 <= stages.len()
         && stages.len() <= MAX_STAGES
@@ -85,7 +85,7 @@ fn may_run_as_one(stages: &[Command], streams: &Streams) -> bool
 
 /// Whether what is told there changes no file and no pipe.
 fn is_plain_place(place: &To) -> bool
-    ensures { result ≡ is_plain_place_lem place.now }
+    ensures { result ≡ is_plain_place_def place.now }
 {
     match place {
         To::Output | To::Errors | To::Null => true,
@@ -139,7 +139,7 @@ fn add_stage<T: Tree>(
 /// Puts a member behind those of a segment, and its lines behind theirs.
 fn add_member(alloc: Global, member: Member, segment: &mut Segment) -> Result<(), Memory>
     ensures members { OnOk result (segment.new.members.items ≡ segment.old.members.items ++ member ∷ []) }
-    ensures lines { OnOk result (segment.new.lines.items ≡ segment.old.lines.items ++ lines_by (name_of_lem (called_by member.inv)) member.inv member.operands.items) }
+    ensures lines { OnOk result (segment.new.lines.items ≡ segment.old.lines.items ++ lines_by (name_of_def (called_by member.inv)) member.inv member.operands.items) }
 {
     match add_lines(alloc, &member, &mut segment.lines) {
         Ok(()) => {
@@ -155,7 +155,7 @@ fn add_member(alloc: Global, member: Member, segment: &mut Segment) -> Result<()
 
 /// Puts the lines of a member behind others.
 fn add_lines(alloc: Global, member: &Member, lines: &mut Vec<u8>) -> Result<(), Memory>
-    ensures { OnOk result (lines.new.items ≡ lines.old.items ++ lines_by (name_of_lem (called_by member.now.inv)) member.now.inv member.now.operands.items) }
+    ensures { OnOk result (lines.new.items ≡ lines.old.items ++ lines_by (name_of_def (called_by member.now.inv)) member.now.inv member.now.operands.items) }
 {
     let told = lines_told(
         alloc,
@@ -169,7 +169,7 @@ fn add_lines(alloc: Global, member: &Member, lines: &mut Vec<u8>) -> Result<(), 
 
 /// The name of a utility: the first of its words.
 fn name_of(inv: &Inv) -> &[u8]
-    ensures { result.now ≡ name_of_lem (called_by inv.now) }
+    ensures { result.now ≡ name_of_def (called_by inv.now) }
 {
     match inv.words() {
         [] => &[],

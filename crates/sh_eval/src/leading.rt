@@ -1,8 +1,8 @@
 //! Where descriptors lead before, within and behind a command's redirections (XCU 2.7).
 ghost use Rattle.std.specs.Prelude.{◌≡◌, IfOk};
 ghost use Rattle.std.specs.Option.{unwrap_or};
-ghost use Rattle.sh_eval.specs.Leading.{before_in, keeping, kept_by, put_back, read_again as read_again_lem};
-ghost use Rattle.sh_eval.specs.Redirections.{leads_to, led_to as led_to_lem};
+ghost use Rattle.sh_eval.specs.Leading.{before_in, keeping, kept_by, put_back, read_again as read_again_def};
+ghost use Rattle.sh_eval.specs.Redirections.{leads_to, led_to as led_to_def};
 ghost use Rattle.sh_eval.specs.States.{in_streams, reading};
 
 use crate::rests::Rest;
@@ -77,7 +77,7 @@ impl Before {
 
 /// Has descriptor 0 read what it read before, if it was something else.
 fn read_again(from: Option<From>, session: &mut Session)
-    ensures { session.new ≡ in_streams (read_again_lem from) session.old }
+    ensures { session.new ≡ in_streams (read_again_def from) session.old }
 {
     match from {
         Some(from) => session.streams.from = from,
@@ -106,7 +106,7 @@ pub(crate) fn lead(number: u8, place: To, session: &mut Session)
 
 /// Where the descriptor leads that a redirection copies.
 pub(crate) fn led_to(text: &[u8], streams: &Streams) -> Result<To, Memory>
-    ensures { IfOk result (λ place. place ≡ led_to_lem text.now streams.now) }
+    ensures { IfOk result (λ place. place ≡ led_to_def text.now streams.now) }
 {
     if text == b"2".as_slice() {
         return streams.errors_to.copy();

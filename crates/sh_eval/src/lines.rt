@@ -1,6 +1,6 @@
 //! The lines that a shell and its commands tell.
 ghost use Rattle.std.specs.Prelude.{◌≡◌, IfOk};
-ghost use Rattle.sh_eval.specs.Lines.{arithmetic_line as arithmetic_line_lem, arithmetic_reason as arithmetic_reason_lem, bad_usage as bad_usage_lem, diagnostic as diagnostic_lem, unset_line as unset_line_lem};
+ghost use Rattle.sh_eval.specs.Lines.{arithmetic_line as arithmetic_line_def, arithmetic_reason as arithmetic_reason_def, bad_usage as bad_usage_def, diagnostic as diagnostic_def, unset_line as unset_line_def};
 
 use ps_lines::Memory;
 use sh_arith::ArithFault;
@@ -19,7 +19,7 @@ pub(crate) fn diagnostic(
     subject: &[u8],
     reason: &[u8],
 ) -> Result<Vec<u8>, Memory>
-    ensures { IfOk result (λ line. line.items ≡ diagnostic_lem name.now subject.now reason.now) }
+    ensures { IfOk result (λ line. line.items ≡ diagnostic_def name.now subject.now reason.now) }
 {
     let mut line = Vec::from_slice(alloc, name)?;
     line.extend_from_slice(b": ")?;
@@ -32,7 +32,7 @@ pub(crate) fn diagnostic(
 
 /// That a command's words can't be used.
 pub(crate) fn bad_usage(alloc: Global, name: &[u8]) -> Result<Vec<u8>, Memory>
-    ensures { IfOk result (λ line. line.items ≡ bad_usage_lem name.now) }
+    ensures { IfOk result (λ line. line.items ≡ bad_usage_def name.now) }
 {
     let mut line = Vec::from_slice(alloc, name)?;
     line.extend_from_slice(b": bad usage\n")?;
@@ -41,21 +41,21 @@ pub(crate) fn bad_usage(alloc: Global, name: &[u8]) -> Result<Vec<u8>, Memory>
 
 /// That a parameter that has to be set isn't.
 pub(crate) fn unset_line(alloc: Global, name: &[u8], text: &[u8]) -> Result<Vec<u8>, Memory>
-    ensures { IfOk result (λ line. line.items ≡ unset_line_lem name.now text.now) }
+    ensures { IfOk result (λ line. line.items ≡ unset_line_def name.now text.now) }
 {
     diagnostic(alloc, b"pash", name, text)
 }
 
 /// That an arithmetic expression has no value.
 pub(crate) fn arithmetic_line(alloc: Global, fault: &ArithFault) -> Result<Vec<u8>, Memory>
-    ensures { IfOk result (λ line. line.items ≡ arithmetic_line_lem fault.now) }
+    ensures { IfOk result (λ line. line.items ≡ arithmetic_line_def fault.now) }
 {
     diagnostic(alloc, b"pash", b"arithmetic", arithmetic_reason(fault))
 }
 
 /// Why it has none.
 fn arithmetic_reason(fault: &ArithFault) -> &[u8]
-    ensures { result.now ≡ arithmetic_reason_lem fault.now }
+    ensures { result.now ≡ arithmetic_reason_def fault.now }
 {
     match fault {
         ArithFault::Syntax => b"syntax",

@@ -6,7 +6,7 @@ ghost use Rattle.sh_eval.specs.Contract.{Drawn, Evaluates, IsSound, Seen, faults
 ghost use Rattle.sh_eval.specs.Growth.{Adds};
 ghost use Rattle.sh_eval.specs.Inner.Opening.{FindsUses, IsBusy, Opens, Shuts, closed, freed, held_opened, opened};
 ghost use Rattle.sh_eval.specs.Meaning.{held_in};
-ghost use Rattle.sh_eval.specs.Redirections.{first_busy as first_busy_lem, in_redirections, uses_of};
+ghost use Rattle.sh_eval.specs.Redirections.{first_busy as first_busy_def, in_redirections, uses_of};
 ghost use Rattle.sh_eval.specs.States.{Means, State};
 ghost use Rattle.sh_eval.specs.Table.{pages};
 ghost use Rattle.sh_eval.specs.declared.shell.Shell.{Shell};
@@ -146,7 +146,7 @@ fn look_up<T: Tree>(
     tree: &mut T,
 ) -> Result<(), How>
     ensures ok { OnOk result (FindsUses (T.state tree.old) uses.new.items (λ state. uses.old.items ++ uses_of state targets.now)) }
-    ensures free { OnOk result (first_busy_lem session.now.streams.held uses.new.items ≡ None) }
+    ensures free { OnOk result (first_busy_def session.now.streams.held uses.new.items ≡ None) }
     ensures calm { OnOk result (T.faults tree.new ≡ T.faults tree.old) }
     ensures state { T.state tree.new ≡ T.state tree.old }
     ensures err { IfErr result (λ how. (shell : Shell) (seen : Seen) (input output errors : ℕ) (found : State → List Use) → FindsUses (T.state tree.old) uses.old.items found →

@@ -1,10 +1,10 @@
 //! How the evaluation of a command came out.
 ghost use Rattle.std.specs.Prelude.{◌≡◌, ◌<◌, [], false, true};
 ghost use Rattle.sh_tree.specs.declared.commands.Command.TheViews.{out-List};
-ghost use Rattle.sh_eval.specs.Commands.{goes_on_behind, goes_round as goes_round_lem, kept_by, left_by as left_by_lem, negated_status, position_at};
-ghost use Rattle.sh_eval.specs.Contract.{changed_by, goes_on as goes_on_lem, going, gone_by, settled_how};
+ghost use Rattle.sh_eval.specs.Commands.{goes_on_behind, goes_round as goes_round_def, kept_by, left_by as left_by_def, negated_status, position_at};
+ghost use Rattle.sh_eval.specs.Contract.{changed_by, goes_on as goes_on_def, going, gone_by, settled_how};
 ghost use Rattle.sh_eval.specs.Inner.Loops.{condition_left};
-ghost use Rattle.sh_eval.specs.Inner.Opening.{how_of as how_of_lem};
+ghost use Rattle.sh_eval.specs.Inner.Opening.{how_of as how_of_def};
 ghost use Rattle.sh_eval.specs.Shells.{with_status};
 
 use crate::flows::Flow;
@@ -58,14 +58,14 @@ pub(crate) fn position_of(place: usize, count: usize) -> Position
 
 /// Whether the shell goes on with the next command.
 pub(crate) fn goes_on(how: &How) -> bool
-    ensures { result ≡ goes_on_lem how.now }
+    ensures { result ≡ goes_on_def how.now }
 {
     matches!(how, How::Gone(Flow::On))
 }
 
 /// How a command is over at which the tree failed, or memory was refused.
 pub(crate) fn how_of(error: WorldErr) -> How
-    ensures { result ≡ how_of_lem error }
+    ensures { result ≡ how_of_def error }
 {
     match error {
         WorldErr::Failed => How::TreeFault,
@@ -104,14 +104,14 @@ pub(crate) fn negate(negated: bool, shell: &mut Shell)
 
 /// Whether a loop goes on with its next round behind this one.
 pub(crate) fn goes_round(how: &How) -> bool
-    ensures { result ≡ gone_by goes_round_lem how.now }
+    ensures { result ≡ gone_by goes_round_def how.now }
 {
     matches!(how, How::Gone(Flow::On | Flow::Continue(0 | 1)))
 }
 
 /// How the command behind a loop goes on, where a round has ended the loop.
 pub(crate) fn left_by(how: How) -> How
-    ensures { result ≡ going left_by_lem how }
+    ensures { result ≡ going left_by_def how }
 {
     match how {
         How::Gone(Flow::Break(0 | 1) | Flow::Continue(0 | 1)) => How::Gone(Flow::On),

@@ -1,7 +1,7 @@
 //! The patterns of an invocation: those of `grep` may be none that can be read.
 ghost use Rattle.std.specs.Prelude.{◌≡◌, Some, IfOk};
 ghost use Rattle.ut_args.specs.Invocations.{command_of};
-ghost use Rattle.ut_grep.specs.Faults.{first_faulty as first_faulty_lem};
+ghost use Rattle.ut_grep.specs.Faults.{first_faulty as first_faulty_def};
 ghost use Rattle.sh_eval.specs.Inner.Checks.{found_of};
 ghost use Rattle.sh_eval.specs.Table.{patterns_of, told_by};
 
@@ -33,7 +33,7 @@ pub(crate) fn check_patterns(alloc: Global, inv: &Inv) -> Result<Checked, Memory
 
 /// Reads the patterns of `grep`.
 fn check_grep(alloc: Global, grep: &GrepInv) -> Result<Checked, Memory>
-    ensures { IfOk result (λ checked. found_of checked ≡ told_by (first_faulty_lem grep.now.args.syntax grep.now.args.patterns)) }
+    ensures { IfOk result (λ checked. found_of checked ≡ told_by (first_faulty_def grep.now.args.syntax grep.now.args.patterns)) }
 {
     match first_faulty(alloc, grep) {
         Ok(None) => Ok(Checked::Read),

@@ -3,10 +3,10 @@ ghost use Rattle.std.specs.Prelude.{◌≡◌, ℕ, codes, false, IfOk, IfSome, 
 ghost use Rattle.ps_world.specs.Files.{CanBeMade, NoWriterOut};
 ghost use Rattle.ps_world.specs.Places.{StandsIn};
 ghost use Rattle.sh_eval.specs.Contract.{Faults, Seen, faults_of, point_of};
-ghost use Rattle.sh_eval.specs.Lines.{diagnostic as diagnostic_lem};
+ghost use Rattle.sh_eval.specs.Lines.{diagnostic as diagnostic_def};
 ghost use Rattle.sh_eval.specs.Reaching.{DoesAll, Remembers, RemembersSome, has_read};
-ghost use Rattle.sh_eval.specs.Redirecting.{Does, TellsLine, of_tree as of_tree_lem};
-ghost use Rattle.sh_eval.specs.Redirections.{file_begun, is_read, leading, led_to as led_to_lem, named_by, reading_at, redirected, writing_at};
+ghost use Rattle.sh_eval.specs.Redirecting.{Does, TellsLine, of_tree as of_tree_def};
+ghost use Rattle.sh_eval.specs.Redirections.{file_begun, is_read, leading, led_to as led_to_def, named_by, reading_at, redirected, writing_at};
 ghost use Rattle.sh_eval.specs.States.{in_world};
 ghost use Rattle.ps_world.specs.TreeState.{TreeState};
 ghost use Rattle.sh_eval.specs.declared.shell.Shell.{Shell};
@@ -202,7 +202,7 @@ fn lead_to_file<T: Tree>(
 
 /// Has a descriptor lead where another leads.
 fn copy(number: u8, text: &[u8], session: &mut Session) -> Result<Option<From>, Stop>
-    ensures does { (shell : Shell) (tree : TreeState) (seen : Seen) (faults : Faults) → Does (λ state. leading number (led_to_lem text.now state.session.streams) state)
+    ensures does { (shell : Shell) (tree : TreeState) (seen : Seen) (faults : Faults) → Does (λ state. leading number (led_to_def text.now state.session.streams) state)
         (point_of shell session.old tree seen faults) (point_of shell session.new tree seen faults) result }
     ensures from { IfOk result (λ read. read ≡ None) }
     ensures kept { OnOk result (session.new.streams.from ≡ session.old.streams.from) }
@@ -219,7 +219,7 @@ fn copy(number: u8, text: &[u8], session: &mut Session) -> Result<Option<From>, 
 
 /// The line of why a path can't be read or written.
 fn line_of(alloc: Global, text: &[u8], reason: &[u8]) -> Stop
-    ensures { TellsLine result (diagnostic_lem (codes "pash") text.now reason.now) }
+    ensures { TellsLine result (diagnostic_def (codes "pash") text.now reason.now) }
 {
     match diagnostic(alloc, b"pash", text, reason) {
         Ok(line) => Stop::Line(Text::from_vec(line)),
@@ -229,7 +229,7 @@ fn line_of(alloc: Global, text: &[u8], reason: &[u8]) -> Stop
 
 /// Why a redirection isn't done where the tree failed.
 fn of_tree(error: WorldErr) -> Stop
-    ensures { result ≡ of_tree_lem error }
+    ensures { result ≡ of_tree_def error }
 {
     match error {
         WorldErr::Failed => Stop::Tree,

@@ -2,7 +2,7 @@
 ghost use Rattle.std.specs.Prelude.{◌≡◌, [], IfNone, IfOk, IfSome, OnOk};
 ghost use Rattle.std.specs.FinMap as map;
 ghost use Rattle.ps_lines.specs.Texts.{texts_of};
-ghost use Rattle.sh_eval.specs.Shells.{started, inside as inside_lem, with_status};
+ghost use Rattle.sh_eval.specs.Shells.{started, inside as inside_def, with_status};
 ghost use Rattle.sh_eval.specs.Commands.{entered, none_substituted, with_kept};
 
 use crate::newlines::without_newlines;
@@ -68,7 +68,7 @@ impl Shell {
 
     /// The shell of a subshell, a stage or a substitution: a copy, in which no loop encloses a command.
     pub(crate) fn inside(&self, alloc: Global) -> Result<Shell, Memory>
-        ensures { IfOk result (λ shell. shell ≡ inside_lem self.now) }
+        ensures { IfOk result (λ shell. shell ≡ inside_def self.now) }
     {
         Ok(Shell {
             variables: self.variables.copy(alloc)?,

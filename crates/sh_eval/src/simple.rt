@@ -6,12 +6,12 @@ ghost use Rattle.ut_args.specs.Built.{is_built_of};
 ghost use Rattle.ut_args.specs.Invocations.{command_of, words_of};
 ghost use Rattle.ut_args.specs.Reading.{invocation};
 ghost use Rattle.ut_args.specs.declared.commands.Command.{Command};
-ghost use Rattle.fl_segments.specs.Stages.{is_tee as is_tee_lem};
-ghost use Rattle.sh_eval.specs.Asking.{asked_as, asked_by, at_fault, does, is_special as is_special_lem, tee as tee_asked};
+ghost use Rattle.fl_segments.specs.Stages.{is_tee as is_tee_def};
+ghost use Rattle.sh_eval.specs.Asking.{asked_as, asked_by, at_fault, does, is_special as is_special_def, tee as tee_asked};
 ghost use Rattle.sh_eval.specs.Contract.{Evaluates, IsSound, drawn_of, faults_of, point_of, seen_of};
 ghost use Rattle.sh_eval.specs.Expanding.{assigning};
 ghost use Rattle.sh_eval.specs.Inner.Bodies.{assign_tree};
-ghost use Rattle.sh_eval.specs.Inner.Doing.{asked_of, can_be_done, is_own, own_means, stays_of, uses_own, way_of as way_of_lem};
+ghost use Rattle.sh_eval.specs.Inner.Doing.{asked_of, can_be_done, is_own, own_means, stays_of, uses_own, way_of as way_of_def};
 ghost use Rattle.sh_eval.specs.Inner.Inputs.{called_by};
 ghost use Rattle.sh_eval.specs.Inner.Opening.{FindsUses, LooksInVain, opened};
 ghost use Rattle.sh_eval.specs.Simple.{assigned_for, by_patterns, checked, runs_simple};
@@ -83,7 +83,7 @@ pub(crate) fn is_builtin(inv: &Inv) -> bool
 
 /// Whether this name is that of a special built-in of the table (XCU 2.14).
 fn is_special_name(name: &[u8]) -> bool
-    ensures { result ≡ is_special_lem name.now }
+    ensures { result ≡ is_special_def name.now }
 {
     name == b":".as_slice()
         || name == b"break".as_slice()
@@ -117,7 +117,7 @@ fn stays(doing: Doing<'_, '_>) -> bool
 
 /// How the shell goes on where the command of this name can't be run (XCU 2.8.1).
 fn flow_at_fault(name: &[u8]) -> Flow
-    ensures { result ≡ at_fault (is_special_lem name.now) }
+    ensures { result ≡ at_fault (is_special_def name.now) }
 {
     if is_special_name(name) {
         Flow::Exit
@@ -128,7 +128,7 @@ fn flow_at_fault(name: &[u8]) -> Flow
 
 /// How the shell goes on where a redirection of the command stops (XCU 2.8.1).
 fn way_of(doing: Doing<'_, '_>) -> Flow
-    ensures { result ≡ way_of_lem (asked_of doing.entry) }
+    ensures { result ≡ way_of_def (asked_of doing.entry) }
 {
     match doing {
         Doing::Nothing | Doing::WrongPatterns(_) | Doing::Tee(_, _) | Doing::Utility(_, _) =>
@@ -349,7 +349,7 @@ fn run_few_files<T: Tree, I: Source + Send, O: Sink + Send, E: Sink, G: Gate, X:
     gate: &G,
     engine: &mut X,
 ) -> Played<I, O>
-    requires tee { is_tee_lem inv.now ≡ true }
+    requires tee { is_tee_def inv.now ≡ true }
     requires sound { IsSound session.old (T.state tree.old) }
     ensures { Evaluates (λ expansions. checked expansions pages (map assign_tree assigns.now) targets.now (tee_asked name.now (called_by inv.now)))
         (point_of shell.old session.old (T.state tree.old) (seen_of (drawn_of (I.left input) (X.used engine.old)) (O.taken out) (E.taken err.old))
@@ -564,7 +564,7 @@ fn run_in_redirections<T: Tree, I: Source + Send, O: Sink + Send, E: Sink, G: Ga
 ) -> Played<I, O>
     requires own { can_be_done doing ≡ true }
     requires sound { IsSound session.old (T.state tree.old) }
-    ensures { Evaluates (λ expansions. opened (way_of_lem (asked_of doing.entry)) (uses_own (asked_of doing.entry)) targets.now
+    ensures { Evaluates (λ expansions. opened (way_of_def (asked_of doing.entry)) (uses_own (asked_of doing.entry)) targets.now
         (assigned_for expansions (stays_of (asked_of doing.entry)) (map assign_tree assigns.now) (own_means (asked_of doing.entry))))
         (point_of shell.old session.old (T.state tree.old) (seen_of (drawn_of (I.left input) (X.used engine.old)) (O.taken out) (E.taken err.old))
         (faults_of (I.faults input) (O.faults out) (E.faults err.old) (T.faults tree.old)))

@@ -4,15 +4,15 @@ ghost use Rattle.ps_lines.specs.Texts.{texts_of};
 ghost use Rattle.ps_world.specs.Files.{CanBeMade, NoWriterOut};
 ghost use Rattle.ps_world.specs.Places.{StandsIn};
 ghost use Rattle.ut_args.specs.Invocations.{command_of};
-ghost use Rattle.fl_segments.specs.Stages.{is_tee as is_tee_lem};
+ghost use Rattle.fl_segments.specs.Stages.{is_tee as is_tee_def};
 ghost use Rattle.fl_commands.specs.Writers.{AreFilesAt};
 ghost use Rattle.sh_eval.specs.Contract.{Evaluates, IsSound, drawn_of, faults_of, point_of, seen_of};
 ghost use Rattle.sh_eval.specs.Inner.Inputs.{called_by};
 ghost use Rattle.sh_eval.specs.Inner.Teeing.{Begins, Fails, made_of};
-ghost use Rattle.sh_eval.specs.Lines.{diagnostic as diagnostic_lem};
+ghost use Rattle.sh_eval.specs.Lines.{diagnostic as diagnostic_def};
 ghost use Rattle.sh_eval.specs.Redirections.{file_begun};
 ghost use Rattle.sh_eval.specs.States.{in_world};
-ghost use Rattle.sh_eval.specs.Teeing.{begins_anew as begins_anew_lem, copies, making, making_at, making_one, none_made, status_by, tees, tells_and_copies, with_file, without};
+ghost use Rattle.sh_eval.specs.Teeing.{begins_anew as begins_anew_def, copies, making, making_at, making_one, none_made, status_by, tees, tells_and_copies, with_file, without};
 
 use crate::files::begin_file;
 use crate::lines::{IS_A_DIRECTORY, NO_SUCH_FILE};
@@ -38,7 +38,7 @@ pub(crate) struct Begun {
 
 /// Whether an invocation is that of tee.
 pub(crate) fn is_tee(inv: &Inv) -> bool
-    ensures { result ≡ is_tee_lem inv.now }
+    ensures { result ≡ is_tee_def inv.now }
 {
     matches!(inv, Inv::Tee(_))
 }
@@ -57,7 +57,7 @@ pub(crate) fn run_tee<T: Tree, I: Source + Send, O: Sink + Send, E: Sink, G: Gat
     gate: &G,
     engine: &mut X,
 ) -> Played<I, O>
-    requires tee { is_tee_lem inv.now ≡ true }
+    requires tee { is_tee_def inv.now ≡ true }
     requires sound { IsSound session.old (T.state tree.old) }
     ensures { Evaluates (λ expansions. tees name.now (called_by inv.now))
         (point_of shell.old session.old (T.state tree.old) (seen_of (drawn_of (I.left input) (X.used engine.old)) (O.taken out) (E.taken err.old))
@@ -76,7 +76,7 @@ pub(crate) fn run_tee<T: Tree, I: Source + Send, O: Sink + Send, E: Sink, G: Gat
 
 /// Whether tee begins its files anew: not with -a.
 fn begins_anew(inv: &Inv) -> bool
-    ensures { result ≡ begins_anew_lem (command_of inv.now) }
+    ensures { result ≡ begins_anew_def (command_of inv.now) }
 {
     match inv {
         Inv::Tee(tee) => !tee.args.appends,
@@ -194,7 +194,7 @@ fn leave_out(
     reason: &[u8],
     begun: &mut Begun,
 ) -> Result<(), How>
-    ensures added { OnOk result (made_of begun.new ≡ without (diagnostic_lem name.now text.now reason.now) (made_of begun.old)) }
+    ensures added { OnOk result (made_of begun.new ≡ without (diagnostic_def name.now text.now reason.now) (made_of begun.old)) }
     ensures memory { IfErr result (λ how. how ≡ How.Memory) }
 {
     begun.is_whole = false;
@@ -218,7 +218,7 @@ fn tell_and_copy<T: Tree, I: Source + Send, O: Sink + Send, E: Sink, G: Gate, X:
     gate: &G,
     engine: &mut X,
 ) -> Played<I, O>
-    requires tee { is_tee_lem inv.now ≡ true }
+    requires tee { is_tee_def inv.now ≡ true }
     requires sound { IsSound session.old (T.state tree.old) }
     requires there { IfSome (T.state tree.old).held (λ held. AreFilesAt held begun.now.files.items) }
     ensures { Evaluates (λ expansions. tells_and_copies (called_by inv.now) (made_of begun.now))
@@ -264,7 +264,7 @@ fn copy<T: Tree, I: Source + Send, O: Sink + Send, E: Sink, G: Gate, X: Engine>(
     gate: &G,
     engine: &mut X,
 ) -> Played<I, O>
-    requires tee { is_tee_lem inv.now ≡ true }
+    requires tee { is_tee_def inv.now ≡ true }
     requires sound { IsSound session.old (T.state tree.old) }
     requires there { IfSome (T.state tree.old).held (λ held. AreFilesAt held files.now) }
     ensures { Evaluates (λ expansions. copies (called_by inv.now) files.now is_whole)

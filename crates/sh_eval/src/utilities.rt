@@ -9,21 +9,21 @@ ghost use Rattle.ps_world.specs.Places.{is_null_path};
 ghost use Rattle.ut_args.specs.Built.{is_built_of};
 ghost use Rattle.ut_args.specs.Inputs.{operands_of};
 ghost use Rattle.ut_args.specs.Invocations.{command_of};
-ghost use Rattle.fl_graph.specs.Paths.{are_distinct as are_distinct_lem, is_among as is_among_lem};
-ghost use Rattle.fl_commands.specs.Inner.Stages.{some_lacks as some_lacks_lem};
+ghost use Rattle.fl_graph.specs.Paths.{are_distinct as are_distinct_def, is_among as is_among_def};
+ghost use Rattle.fl_commands.specs.Inner.Stages.{some_lacks as some_lacks_def};
 ghost use Rattle.fl_commands.specs.Inputs.{status_of};
 ghost use Rattle.fl_commands.specs.Runs.{Runs, counts_of};
 ghost use Rattle.fl_commands.specs.Writers.{AreWrittenApart};
 ghost use Rattle.sh_eval.specs.Contract.{Drawn, Evaluates, IsSound, drawn_of, faults_of, point_of, seen_of};
-ghost use Rattle.sh_eval.specs.Inner.Inputs.{IsLooked, TakesStream, called_by, how_ended as how_ended_lem, is_stream_operand, line_at, line_of, lines_by, lines_of, reads_stream as reads_stream_lem, runs_behind, shell_ended};
+ghost use Rattle.sh_eval.specs.Inner.Inputs.{IsLooked, TakesStream, called_by, how_ended as how_ended_def, is_stream_operand, line_at, line_of, lines_by, lines_of, reads_stream as reads_stream_def, runs_behind, shell_ended};
 ghost use Rattle.sh_eval.specs.Inner.Opening.{LooksInVain};
 ghost use Rattle.sh_eval.specs.Inner.Runs.{AreMeant, CanRun, CanRunTee, Does, asks_of, ended_with, reads_head, reads_of, takes, tee_asks};
-ghost use Rattle.sh_eval.specs.Lines.{diagnostic as diagnostic_lem};
+ghost use Rattle.sh_eval.specs.Lines.{diagnostic as diagnostic_def};
 ghost use Rattle.sh_eval.specs.Segments.{is_plain_place};
 ghost use Rattle.sh_eval.specs.Simple.{most_operands};
 ghost use Rattle.sh_eval.specs.States.{on};
 ghost use Rattle.sh_eval.specs.Table.{pages};
-ghost use Rattle.sh_eval.specs.Utilities.{is_silent as is_silent_lem, needs_all as needs_all_lem, runs_utility, takes_inputs, tells_some};
+ghost use Rattle.sh_eval.specs.Utilities.{is_silent as is_silent_def, needs_all as needs_all_def, runs_utility, takes_inputs, tells_some};
 
 use crate::flows::Flow;
 use crate::gathered::Gathered;
@@ -169,7 +169,7 @@ fn run_looked<T: Tree, I: Source + Send, O: Sink + Send, E: Sink, G: Gate, X: En
 
 /// Whether a utility does nothing, since one of these operands has no input.
 pub(crate) fn skips(inv: &Inv, operands: &[Operand]) -> bool
-    ensures { result ≡ (needs_all_lem (command_of inv.now) && some_lacks_lem operands.now) }
+    ensures { result ≡ (needs_all_def (command_of inv.now) && some_lacks_def operands.now) }
 {
     needs_all(inv) && some_lacks(operands)
 }
@@ -193,8 +193,8 @@ fn run_told<T: Tree, I: Source + Send, O: Sink + Send, E: Sink, G: Gate, X: Engi
     requires built { is_built_of inv.now ≡ true }
     requires few { length (operands_of inv.now) ≤ most_operands }
     requires looked { lines.now ≡ [] → IsLooked (T.state tree.old) (operands_of inv.now) found.items }
-    requires needed { skips ≡ false → (needs_all_lem (command_of inv.now) && some_lacks_lem found.items) ≡ false }
-    requires untold { skips ≡ false → needs_all_lem (command_of inv.now) ≡ true → lines.now ≡ [] }
+    requires needed { skips ≡ false → (needs_all_def (command_of inv.now) && some_lacks_def found.items) ≡ false }
+    requires untold { skips ≡ false → needs_all_def (command_of inv.now) ≡ true → lines.now ≡ [] }
     requires sound { IsSound session.old (T.state tree.old) }
     ensures { (name : List ℕ) → Evaluates (λ expansions. runs_behind skips name inv.now)
         (point_of shell.old session.old (T.state tree.old) (seen_of (drawn_of (I.left input) (X.used engine.old)) (O.taken out) (E.taken err.old))
@@ -267,7 +267,7 @@ fn take_inputs<T: Tree, I: Source + Send, O: Sink + Send, E: Sink, G: Gate, X: E
     requires built { is_built_of inv.now ≡ true }
     requires few { length (operands_of inv.now) ≤ most_operands }
     requires looked { IsLooked (T.state tree.old) (operands_of inv.now) operands.now }
-    requires needed { (needs_all_lem (command_of inv.now) && some_lacks_lem operands.now) ≡ false }
+    requires needed { (needs_all_def (command_of inv.now) && some_lacks_def operands.now) ≡ false }
     requires sound { IsSound session.old (T.state tree.old) }
     ensures { (name : List ℕ) → Evaluates (λ expansions. takes_inputs pages name (called_by inv.now))
         (point_of shell.old session.old (T.state tree.old) (seen_of (drawn_of (I.left input) (X.used engine.old)) (O.taken out) (E.taken err.old))
@@ -380,7 +380,7 @@ fn has_null(files: &[Path]) -> bool
 
 /// Whether no file stands there twice.
 fn are_distinct(files: &[Path]) -> bool
-    ensures { result ≡ are_distinct_lem files.now }
+    ensures { result ≡ are_distinct_def files.now }
 {
     let mut left = files;
     while let [first, rest @ ..] = left {
@@ -394,7 +394,7 @@ fn are_distinct(files: &[Path]) -> bool
 
 /// Whether a file stands among these.
 fn is_among(files: &[Path], file: &Path) -> bool
-    ensures { result ≡ is_among_lem files.now file.now }
+    ensures { result ≡ is_among_def files.now file.now }
 {
     files.iter().any(|other| other == file)
 }
@@ -517,7 +517,7 @@ fn head_reads(members: &[Member]) -> bool
 
 /// Leaves the status of a utility that has run, and gives how its command goes on.
 fn end(ended: Ended, shell: &mut Shell) -> How
-    ensures how { result ≡ how_ended_lem ended }
+    ensures how { result ≡ how_ended_def ended }
     ensures shell { shell.new ≡ shell_ended ended shell.old }
 {
     match ended {
@@ -548,7 +548,7 @@ fn take_stream(alloc: Global, reads: bool, session: &mut Session) -> Result<Firs
 
 /// Whether the standard input is read: an operand names it, or there is none.
 fn reads_stream(operands: &[Operand]) -> bool
-    ensures { result ≡ reads_stream_lem operands.now }
+    ensures { result ≡ reads_stream_def operands.now }
 {
     match operands {
         [] => true,
@@ -572,14 +572,14 @@ fn is_stream(operand: &Operand) -> bool
 
 /// Whether some operand has no input.
 fn some_lacks(operands: &[Operand]) -> bool
-    ensures { result ≡ some_lacks_lem operands.now }
+    ensures { result ≡ some_lacks_def operands.now }
 {
     operands.iter().any(|operand| lacks(operand))
 }
 
 /// Whether nothing at all is done where an operand has no input (own).
 fn needs_all(inv: &Inv) -> bool
-    ensures { result ≡ needs_all_lem (command_of inv.now) }
+    ensures { result ≡ needs_all_def (command_of inv.now) }
 {
     matches!(
         inv,
@@ -599,7 +599,7 @@ fn lacking_status(inv: &Inv) -> u8
 
 /// Whether nothing is told of an operand that has no input (XCU grep).
 fn is_silent(inv: &Inv) -> bool
-    ensures { result ≡ is_silent_lem (command_of inv.now) }
+    ensures { result ≡ is_silent_def (command_of inv.now) }
 {
     match inv {
         Inv::Grep(grep) => grep.args.silent,
@@ -710,7 +710,7 @@ pub(crate) fn add_reason(
     reason: &[u8],
     lines: &mut Vec<u8>,
 ) -> Result<(), Memory>
-    ensures { OnOk result (lines.new.items ≡ lines.old.items ++ diagnostic_lem name.now text.now reason.now) }
+    ensures { OnOk result (lines.new.items ≡ lines.old.items ++ diagnostic_def name.now text.now reason.now) }
 {
     let line = diagnostic(alloc, name, text, reason)?;
     lines.extend_from_slice(line.as_slice())?;

@@ -9,7 +9,7 @@ ghost use Rattle.sh_eval.specs.Contract.{CanTake, Drawn, Evaluates, IsSound, See
 ghost use Rattle.sh_eval.specs.Segments.{is_plain_place};
 ghost use Rattle.sh_eval.specs.States.{on, puts, tells, write};
 ghost use Rattle.sh_eval.specs.Teeing.{spreads, writes};
-ghost use Rattle.sh_eval.specs.Writing.{added_to, kept as kept_lem, written as written_lem};
+ghost use Rattle.sh_eval.specs.Writing.{added_to, kept as kept_def, written as written_def};
 ghost use Rattle.sh_eval.specs.declared.session.Session.{Session};
 ghost use Rattle.sh_eval.specs.declared.shell.Shell.{Shell};
 
@@ -149,7 +149,7 @@ pub(crate) fn write_to<T: Tree, O: Sink, E: Sink>(
 
 /// How a command goes on behind what it wrote to the standard output or error.
 fn written(outcome: Result<(), WorldErr>) -> How
-    ensures { result ≡ written_lem outcome }
+    ensures { result ≡ written_def outcome }
 {
     match outcome {
         Ok(()) => How::Gone(Flow::On),
@@ -160,7 +160,7 @@ fn written(outcome: Result<(), WorldErr>) -> How
 
 /// How a command goes on behind what it wrote to a file.
 fn kept(outcome: Result<(), WorldErr>) -> How
-    ensures { result ≡ kept_lem outcome }
+    ensures { result ≡ kept_def outcome }
 {
     match outcome {
         Ok(()) => How::Gone(Flow::On),

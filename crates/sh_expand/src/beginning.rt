@@ -3,8 +3,8 @@
 ghost use Rattle.std.specs.Prelude.{◌≡◌, ◌⊎◌, ◌++◌, IfOk};
 ghost use Rattle.sh_tree.specs.Trees.{WordTree};
 ghost use Rattle.sh_expand.specs.Given.{given_of};
-ghost use Rattle.sh_expand.specs.Parameters.{name_of as name_of_lem};
-ghost use Rattle.sh_expand.specs.Values.{BeginsAs, begun, form_begun, word_in, word_in_form, text_in, unless_set as unless_set_lem, where_set as where_set_lem, needs, at_once, inside as inside_lem, plain_manner as plain_manner_lem, not_set as not_set_lem};
+ghost use Rattle.sh_expand.specs.Parameters.{name_of as name_of_def};
+ghost use Rattle.sh_expand.specs.Values.{BeginsAs, begun, form_begun, word_in, word_in_form, text_in, unless_set as unless_set_def, where_set as where_set_def, needs, at_once, inside as inside_def, plain_manner as plain_manner_def, not_set as not_set_def};
 ghost use Rattle.sh_tree.specs.Views.{part_tree, form_tree};
 
 use crate::faults::ValueFault;
@@ -119,7 +119,7 @@ fn unless_set(
     text: Option<Text>,
     within: Setting,
 ) -> Result<Begin, ValueFault>
-    ensures { (word : WordTree) → BeginsAs (unless_set_lem quoted colon text (needs within word)) word text out.old.items out.new.items result }
+    ensures { (word : WordTree) → BeginsAs (unless_set_def quoted colon text (needs within word)) word text out.old.items out.new.items result }
 {
     if !is_usable(colon, &text) {
         return Ok(Begin::Needs(within, text));
@@ -139,7 +139,7 @@ fn where_set(
     text: Option<Text>,
     within: Setting,
 ) -> Result<Begin, ValueFault>
-    ensures { (word : WordTree) → BeginsAs (where_set_lem quoted colon text (needs within word)) word text out.old.items out.new.items result }
+    ensures { (word : WordTree) → BeginsAs (where_set_def quoted colon text (needs within word)) word text out.old.items out.new.items result }
 {
     if is_usable(colon, &text) {
         return Ok(Begin::Needs(within, text));
@@ -160,7 +160,7 @@ fn set_or_fault(
     colon: bool,
     text: Option<Text>,
 ) -> Result<Begin, ValueFault>
-    ensures { (word : WordTree) → BeginsAs (unless_set_lem quoted colon text (at_once (Err (ValueFault.Unset (name_of_lem what.now) not_set_lem)))) word text out.old.items out.new.items result }
+    ensures { (word : WordTree) → BeginsAs (unless_set_def quoted colon text (at_once (Err (ValueFault.Unset (name_of_def what.now) not_set_def)))) word text out.old.items out.new.items result }
 {
     if !is_usable(colon, &text) {
         return Err(unset(alloc, what, NOT_SET));
@@ -173,7 +173,7 @@ fn set_or_fault(
 
 /// The fault of a parameter that is unset, told by this text; or want of memory.
 pub(crate) fn unset(alloc: Global, what: &Param, text: &[u8]) -> ValueFault
-    ensures { (result ≡ ValueFault.Unset (name_of_lem what.now) text.now) ⊎ (result ≡ ValueFault.Memory) }
+    ensures { (result ≡ ValueFault.Unset (name_of_def what.now) text.now) ⊎ (result ≡ ValueFault.Memory) }
 {
     let Ok(name) = name_of(alloc, what) else {
         return ValueFault::Memory;
@@ -186,7 +186,7 @@ pub(crate) fn unset(alloc: Global, what: &Param, text: &[u8]) -> ValueFault
 
 /// How a byte outside quotes is marked.
 fn plain_manner(used: Setting) -> Manner
-    ensures { result ≡ plain_manner_lem used }
+    ensures { result ≡ plain_manner_def used }
 {
     match used {
         Setting::Outer | Setting::Joined => Manner::Written,
@@ -196,7 +196,7 @@ fn plain_manner(used: Setting) -> Manner
 
 /// How the word of an expansion is used.
 fn inside(used: Setting) -> Setting
-    ensures { result ≡ inside_lem used }
+    ensures { result ≡ inside_def used }
 {
     match used {
         Setting::Outer | Setting::Inner => Setting::Inner,

@@ -1,8 +1,8 @@
 //! What a part of a word makes of the marks of its word.
 
 ghost use Rattle.std.specs.Prelude.{◌≡◌, ◌⊎◌, ◌++◌, Ok, Err, IfErr, IfOk, OnOk, OnErr, MatchResult};
-ghost use Rattle.sh_expand.specs.Marks.{bare as bare_lem, or_empty, value};
-ghost use Rattle.sh_expand.specs.Parameters.{name_of as name_of_lem};
+ghost use Rattle.sh_expand.specs.Marks.{bare as bare_def, or_empty, value};
+ghost use Rattle.sh_expand.specs.Parameters.{name_of as name_of_def};
 ghost use Rattle.sh_expand.specs.Values.{Adds, Computes, Trims, Ends, FormEnds, form_assigns};
 ghost use Rattle.sh_tree.specs.Views.{part_tree, form_tree};
 
@@ -98,7 +98,7 @@ fn add_text(
     marks: &[Marked],
     out: &mut Vec<Marked>,
 ) -> Result<(), ValueFault>
-    ensures ok { OnOk result (out.new.items ≡ out.old.items ++ value quoted (bare_lem marks.now)) }
+    ensures ok { OnOk result (out.new.items ≡ out.old.items ++ value quoted (bare_def marks.now)) }
     ensures memory { IfErr result (λ fault. fault ≡ ValueFault.Memory) }
 {
     let Ok(text) = bare(alloc, marks) else {
@@ -112,7 +112,7 @@ fn add_text(
 
 /// The fault of a parameter that is unset, told by the text of the marks; or want of memory.
 fn unset_by(alloc: Global, what: &Param, marks: &[Marked]) -> ValueFault
-    ensures { (result ≡ ValueFault.Unset (name_of_lem what.now) (bare_lem marks.now)) ⊎ (result ≡ ValueFault.Memory) }
+    ensures { (result ≡ ValueFault.Unset (name_of_def what.now) (bare_def marks.now)) ⊎ (result ≡ ValueFault.Memory) }
 {
     match bare(alloc, marks) {
         Ok(text) => unset(alloc, what, text.as_slice()),

@@ -1,7 +1,7 @@
 //! Why an expansion gives no fields.
 
 ghost use Rattle.std.specs.Prelude.{◌≡◌};
-ghost use Rattle.sh_expand.specs.Faults.{told as told_lem, arith_fault as arith_fault_lem};
+ghost use Rattle.sh_expand.specs.Faults.{told as told_def, arith_fault as arith_fault_def};
 
 use ps_lines::{Memory, Text};
 use sh_arith::ArithFault;
@@ -32,7 +32,7 @@ pub(crate) enum ValueFault {
 
 /// The same, as callers are told.
 pub(crate) fn told(fault: ValueFault) -> ExpandFault
-    ensures { result ≡ told_lem fault }
+    ensures { result ≡ told_def fault }
 {
     match fault {
         ValueFault::Unset(name, text) => ExpandFault::Unset(name, text),
@@ -43,7 +43,7 @@ pub(crate) fn told(fault: ValueFault) -> ExpandFault
 
 /// The fault of an arithmetic expansion.
 pub(crate) fn arith_fault(fault: ArithFault) -> ValueFault
-    ensures { result ≡ arith_fault_lem fault }
+    ensures { result ≡ arith_fault_def fault }
 {
     match fault {
         ArithFault::Memory => ValueFault::Memory,

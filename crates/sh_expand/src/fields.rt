@@ -7,10 +7,10 @@ ghost use Rattle.ps_world.specs.Counts.{Counts};
 ghost use Rattle.sh_arith.specs.Variables.{Variables};
 ghost use Rattle.sh_pattern.specs.PathExpansion.{Expands};
 ghost use Rattle.sh_tree.specs.Views.{word_tree};
-ghost use Rattle.sh_expand.specs.Marks.{bare as bare_lem, has_pattern as has_pattern_lem, pattern_of as pattern_of_lem};
-ghost use Rattle.sh_expand.specs.Splitting.{split as split_lem, fields_of};
+ghost use Rattle.sh_expand.specs.Marks.{bare as bare_def, has_pattern as has_pattern_def, pattern_of as pattern_of_def};
+ghost use Rattle.sh_expand.specs.Splitting.{split as split_def, fields_of};
 ghost use Rattle.sh_expand.specs.Given.{given_of};
-ghost use Rattle.sh_expand.specs.Fields.{HasMarks, HasSomeMarks, AreNames, AreFields, WordFields, Pass, PatternIn, WordStops, Stop, IsOfWords, IsOfWordsOrTree, IsPlain, Sees, TooMany, Asks, Appends, AppendsUpTo, outside as outside_lem};
+ghost use Rattle.sh_expand.specs.Fields.{HasMarks, HasSomeMarks, AreNames, AreFields, WordFields, Pass, PatternIn, WordStops, Stop, IsOfWords, IsOfWordsOrTree, IsPlain, Sees, TooMany, Asks, Appends, AppendsUpTo, outside as outside_def};
 ghost use Rattle.ps_world.specs.Files.{Files};
 ghost use Rattle.ps_world.specs.Paths.{Components};
 ghost use Rattle.sh_expand.specs.Frames.{frame_given};
@@ -207,7 +207,7 @@ fn add_word_fields<T: Tree>(
 
 /// The fault of the tree, or want of memory.
 fn outside(fault: WorldErr) -> ExpandFault
-    ensures { result ≡ outside_lem fault }
+    ensures { result ≡ outside_def fault }
 {
     match fault {
         WorldErr::Failed => ExpandFault::Failed,
@@ -223,9 +223,9 @@ fn add_fields<T: Tree>(
     tree: &mut T,
     out: &mut Vec<Vec<u8>>,
 ) -> Result<(), WorldErr>
-    ensures names { (files : Files) (home : Components) → Sees (T.state tree.old) (list_any has_pattern_lem (split_lem ifs.now marks.now) ≡ false) files home
-        → OnOk result (AppendsUpTo MAX_FIELDS (AreNames files home (split_lem ifs.now marks.now)) (texts_of out.old.items) (texts_of out.new.items)) }
-    ensures unasked { list_any has_pattern_lem (split_lem ifs.now marks.now) ≡ false → tree.new ≡ tree.old }
+    ensures names { (files : Files) (home : Components) → Sees (T.state tree.old) (list_any has_pattern_def (split_def ifs.now marks.now) ≡ false) files home
+        → OnOk result (AppendsUpTo MAX_FIELDS (AreNames files home (split_def ifs.now marks.now)) (texts_of out.old.items) (texts_of out.new.items)) }
+    ensures unasked { list_any has_pattern_def (split_def ifs.now marks.now) ≡ false → tree.new ≡ tree.old }
     ensures state { T.state tree.new ≡ T.state tree.old }
     ensures cause { Counts (T.faults tree.old) (T.faults tree.new) result }
 {
@@ -240,9 +240,9 @@ fn add_all_names<T: Tree>(
     tree: &mut T,
     out: &mut Vec<Vec<u8>>,
 ) -> Result<(), WorldErr>
-    ensures names { (files : Files) (home : Components) → Sees (T.state tree.old) (list_any has_pattern_lem (fields_of fields.now) ≡ false) files home
+    ensures names { (files : Files) (home : Components) → Sees (T.state tree.old) (list_any has_pattern_def (fields_of fields.now) ≡ false) files home
         → OnOk result (AppendsUpTo MAX_FIELDS (AreNames files home (fields_of fields.now)) (texts_of out.old.items) (texts_of out.new.items)) }
-    ensures unasked { list_any has_pattern_lem (fields_of fields.now) ≡ false → tree.new ≡ tree.old }
+    ensures unasked { list_any has_pattern_def (fields_of fields.now) ≡ false → tree.new ≡ tree.old }
     ensures state { T.state tree.new ≡ T.state tree.old }
     ensures cause { Counts (T.faults tree.old) (T.faults tree.new) result }
 {
@@ -276,9 +276,9 @@ fn add_names<T: Tree>(
     tree: &mut T,
     out: &mut Vec<Vec<u8>>,
 ) -> Result<(), WorldErr>
-    ensures names { (files : Files) (home : Components) → Sees (T.state tree.old) (has_pattern_lem field.now ≡ false) files home
-        → OnOk result (Appends (Expands files home (pattern_of_lem field.now)) (texts_of out.old.items) (texts_of out.new.items)) }
-    ensures unasked { has_pattern_lem field.now ≡ false → tree.new ≡ tree.old }
+    ensures names { (files : Files) (home : Components) → Sees (T.state tree.old) (has_pattern_def field.now ≡ false) files home
+        → OnOk result (Appends (Expands files home (pattern_of_def field.now)) (texts_of out.old.items) (texts_of out.new.items)) }
+    ensures unasked { has_pattern_def field.now ≡ false → tree.new ≡ tree.old }
     ensures state { T.state tree.new ≡ T.state tree.old }
     ensures cause { Counts (T.faults tree.old) (T.faults tree.new) result }
 {
@@ -293,7 +293,7 @@ fn add_names<T: Tree>(
 /// Appends a field without its marks.
 #[tactic(auto, using(crate::proofs::FieldLemmas::names))]
 fn add_bare(alloc: Global, field: &[Marked], out: &mut Vec<Vec<u8>>) -> Result<(), Memory>
-    ensures { OnOk result (texts_of out.new.items ≡ texts_of out.old.items ++ bare_lem field.now ∷ []) }
+    ensures { OnOk result (texts_of out.new.items ≡ texts_of out.old.items ++ bare_def field.now ∷ []) }
 {
     let text = bare(alloc, field)?;
     Ok(out.push(text)?)

@@ -2,7 +2,7 @@
 
 ghost use Rattle.std.specs.Prelude.{◌≡◌};
 ghost use Rattle.std.specs.Option.{option_copied, unwrap_or};
-ghost use Rattle.sh_expand.specs.Given.{given_of, argument as argument_lem, substituted as substituted_lem};
+ghost use Rattle.sh_expand.specs.Given.{given_of, argument as argument_def, substituted as substituted_def};
 
 /// What an expansion is given, besides the variables.
 #[derive(Clone, Copy)]
@@ -20,7 +20,7 @@ pub(crate) struct Known<'a> {
 /// `$0`, or an argument, counted from 1.
 #[tactic(auto, using(crate::proofs::ParameterLemmas::texts))]
 pub(crate) fn argument<'a>(known: &Known<'a>, place: u32) -> Option<&'a [u8]>
-    ensures { option_copied result ≡ argument_lem (given_of known.now) place }
+    ensures { option_copied result ≡ argument_def (given_of known.now) place }
 {
     if place == 0 {
         return Some(known.zero);
@@ -30,7 +30,7 @@ pub(crate) fn argument<'a>(known: &Known<'a>, place: u32) -> Option<&'a [u8]>
 
 /// The text of a command substitution, counted from 0.
 pub(crate) fn substituted<'a>(known: &Known<'a>, number: u32) -> &'a [u8]
-    ensures { result.now ≡ substituted_lem (given_of known.now) number }
+    ensures { result.now ≡ substituted_def (given_of known.now) number }
 {
     match text_at(known.subs, number as usize) {
         Some(text) => text,

@@ -1,7 +1,7 @@
 //! Marked bytes: what a word's parts give, before it is cut into fields.
 
 ghost use Rattle.std.specs.Prelude.{◌≡◌, ◌++◌, ◌∷◌, [], map, IfOk, OnOk, take, drop};
-ghost use Rattle.sh_expand.specs.Marks.{bare, byte_of as byte_of_lem, has_pattern as has_pattern_lem, is_pattern, mark as mark_lem, marked, or_empty, pattern_mark, pattern_of as pattern_of_lem, value};
+ghost use Rattle.sh_expand.specs.Marks.{bare, byte_of as byte_of_def, has_pattern as has_pattern_def, is_pattern, mark as mark_def, marked, or_empty, pattern_mark, pattern_of as pattern_of_def, value};
 
 use ps_lines::Memory;
 use sh_pattern::Mark;
@@ -32,7 +32,7 @@ pub(crate) enum Manner {
 
 /// The byte, marked so.
 fn mark(manner: Manner, byte: u8) -> Marked
-    ensures { result ≡ mark_lem manner byte }
+    ensures { result ≡ mark_def manner byte }
 {
     match manner {
         Manner::Written => Marked::Written(byte),
@@ -68,7 +68,7 @@ pub(crate) fn add_value(out: &mut Vec<Marked>, quoted: bool, text: &[u8]) -> Res
 
 /// The byte, where the mark is one.
 fn byte_of(mark: Marked) -> Option<u8>
-    ensures { result ≡ byte_of_lem mark }
+    ensures { result ≡ byte_of_def mark }
 {
     match mark {
         Marked::Written(byte) | Marked::Quoted(byte) | Marked::Loose(byte) => Some(byte),
@@ -107,7 +107,7 @@ fn pattern_mark(mark: Marked) -> Option<Mark>
 
 /// The bytes as patterns see them.
 pub(crate) fn pattern_of(alloc: Global, marks: &[Marked]) -> Result<Vec<Mark>, Memory>
-    ensures { IfOk result (λ text. text.items ≡ pattern_of_lem marks.now) }
+    ensures { IfOk result (λ text. text.items ≡ pattern_of_def marks.now) }
 {
     let mut text = Vec::with_capacity(alloc, marks.len())?;
     let mut left = marks;
@@ -122,7 +122,7 @@ pub(crate) fn pattern_of(alloc: Global, marks: &[Marked]) -> Result<Vec<Mark>, M
 
 /// Whether an unquoted `*`, `?` or `[` is among them.
 pub(crate) fn has_pattern(marks: &[Marked]) -> bool
-    ensures { result ≡ has_pattern_lem marks.now }
+    ensures { result ≡ has_pattern_def marks.now }
 {
     marks.iter().any(|mark| is_pattern(*mark))
 }

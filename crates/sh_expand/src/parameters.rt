@@ -6,7 +6,7 @@ ghost use Rattle.std.specs.Option.{option_copied};
 ghost use Rattle.ps_lines.specs.Texts.{texts_of};
 ghost use Rattle.sh_arith.specs.Values.{assigned_text};
 ghost use Rattle.sh_expand.specs.Given.{given_of};
-ghost use Rattle.sh_expand.specs.Parameters.{separator_of as separator_of_lem, joined as joined_lem, joined_behind, parameter_text, is_usable as is_usable_lem, or_nothing as or_nothing_lem, assigned, name_of as name_of_lem, as_fields, behind_fields, plain_value, makes_fields};
+ghost use Rattle.sh_expand.specs.Parameters.{separator_of as separator_of_def, joined as joined_def, joined_behind, parameter_text, is_usable as is_usable_def, or_nothing as or_nothing_def, assigned, name_of as name_of_def, as_fields, behind_fields, plain_value, makes_fields};
 
 use crate::known::{Known, argument};
 use crate::marks::{Marked, add_value};
@@ -29,7 +29,7 @@ pub(crate) enum Setting {
 
 /// The byte that joins `$*`, the first of IFS; none where IFS is empty.
 fn separator_of(env: &Env) -> &[u8]
-    ensures { result.now ≡ separator_of_lem env.now }
+    ensures { result.now ≡ separator_of_def env.now }
 {
     let ifs = ifs_of(env);
     if ifs.is_empty() { ifs } else { &ifs[..1] }
@@ -58,7 +58,7 @@ pub(crate) fn signed_text(alloc: Global, number: i64) -> Result<Vec<u8>, Memory>
 
 /// The texts, with the separator between them.
 fn joined(alloc: Global, separator: &[u8], texts: &[Vec<u8>]) -> Result<Text, Memory>
-    ensures { IfOk result (λ text. text ≡ joined_lem separator.now (texts_of texts.now)) }
+    ensures { IfOk result (λ text. text ≡ joined_def separator.now (texts_of texts.now)) }
 {
     let mut text = Vec::new(alloc);
     if let Some((first, others)) = front(texts) {
@@ -149,7 +149,7 @@ fn copied(alloc: Global, text: Option<&[u8]>) -> Result<Option<Text>, Memory>
 
 /// Whether the parameter counts as set; with the colon an empty one doesn't.
 pub(crate) fn is_usable(colon: bool, text: &Option<Text>) -> bool
-    ensures { result ≡ is_usable_lem colon text.now }
+    ensures { result ≡ is_usable_def colon text.now }
 {
     match text {
         Some(text) => match text.as_slice() {
@@ -162,7 +162,7 @@ pub(crate) fn is_usable(colon: bool, text: &Option<Text>) -> bool
 
 /// The text, or nothing where the parameter is unset.
 pub(crate) fn or_nothing(text: &Option<Text>) -> &[u8]
-    ensures { result.now ≡ or_nothing_lem text.now }
+    ensures { result.now ≡ or_nothing_def text.now }
 {
     match text {
         Some(text) => text.as_slice(),
@@ -196,7 +196,7 @@ pub(crate) fn set(alloc: Global, what: &Param, text: &[u8], env: &mut Env) -> Re
 
 /// How a fault names the parameter.
 pub(crate) fn name_of(alloc: Global, what: &Param) -> Result<Text, Memory>
-    ensures { IfOk result (λ name. name ≡ name_of_lem what.now) }
+    ensures { IfOk result (λ name. name ≡ name_of_def what.now) }
 {
     match what {
         Param::Name(name) => Text::copy_of(alloc, name.as_slice()),

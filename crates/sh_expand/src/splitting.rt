@@ -3,7 +3,7 @@
 ghost use Rattle.std.specs.Prelude.{◌≡◌, ◌<◌, ◌++◌, ◌∷◌, [], List, IfOk, IfSome, OnOk, MatchOption, length, ◌==◌};
 ghost use Rattle.std.specs.List.{list_any};
 ghost use Rattle.sh_expand.specs.Marks.{has_pattern};
-ghost use Rattle.sh_expand.specs.Splitting.{AreUpTo, keeps_pattern, class_of, class_of_byte, act_at as act_lem, after as after_lem, split as split_lem, fields_of, spliced, at_mark, at_end, held, IsHeld};
+ghost use Rattle.sh_expand.specs.Splitting.{AreUpTo, keeps_pattern, class_of, class_of_byte, act_at as act_def, after as after_def, split as split_def, fields_of, spliced, at_mark, at_end, held, IsHeld};
 ghost use Rattle.sh_expand.specs.declared.marks.Marked.{Marked};
 
 use crate::marks::{Marked, is_pattern};
@@ -48,7 +48,7 @@ pub(crate) enum Act {
 
 /// Whether an unquoted pattern byte is left in a field of the marks.
 pub(crate) fn is_pattern_left(marks: &[Marked], ifs: &[u8]) -> bool
-    ensures { result ≡ list_any has_pattern (split_lem ifs.now marks.now) }
+    ensures { result ≡ list_any has_pattern (split_def ifs.now marks.now) }
 {
     let mut before = Before::Start;
     let mut left = marks;
@@ -80,7 +80,7 @@ pub(crate) fn split(
     ifs: &[u8],
     most: usize,
 ) -> Result<Vec<Vec<Marked>>, Memory>
-    ensures { IfOk result (λ fields. AreUpTo most (split_lem ifs.now marks.now) (fields_of fields.items)) }
+    ensures { IfOk result (λ fields. AreUpTo most (split_def ifs.now marks.now) (fields_of fields.items)) }
 {
     let mut fields = Vec::new(alloc);
     let mut field = Vec::new(alloc);
@@ -192,7 +192,7 @@ fn is_among(byte: u8, bytes: &[u8]) -> bool
 
 /// What is done at a mark, by what stands before it.
 fn act_at(class: Class, before: Before) -> Act
-    ensures { result ≡ act_lem class before }
+    ensures { result ≡ act_def class before }
 {
     match (class, before) {
         (Class::Content, _) => Act::Keep,
@@ -205,7 +205,7 @@ fn act_at(class: Class, before: Before) -> Act
 
 /// What stands before the next mark.
 fn after(class: Class, before: Before) -> Before
-    ensures { result ≡ after_lem class before }
+    ensures { result ≡ after_def class before }
 {
     match (class, before) {
         (Class::Content, _) => Before::Field,

@@ -5,14 +5,14 @@ ghost use Rattle.std.specs.List.{list_any, slice_split, list_all};
 ghost use Rattle.std.specs.List.Sorted.{IsStrictlySortedBy};
 ghost use Rattle.std.specs.Ordering.{nat_cmp};
 ghost use Rattle.std.specs.Cmp.Lexicographic.{slice_cmp};
-ghost use Rattle.ps_lines.specs.Texts.{texts_of as texts_of_lem};
+ghost use Rattle.ps_lines.specs.Texts.{texts_of as texts_of_def};
 ghost use Rattle.ps_world.specs.Counts.{Counts};
 ghost use Rattle.ps_world.specs.Paths.{goes_up, has_slash, is_name, stays};
-ghost use Rattle.ps_world.specs.Places.{start_of as start_of_lem};
+ghost use Rattle.ps_world.specs.Places.{start_of as start_of_def};
 ghost use Rattle.ps_world.specs.Files.{kind_at};
 ghost use Rattle.sh_pattern.specs.declared.elements.Element.{Element};
-ghost use Rattle.sh_pattern.specs.Reading.{Reads, is_special as is_special_lem};
-ghost use Rattle.sh_pattern.specs.PathExpansion.{bytes_of as bytes_of_lem, begins_with_period as begins_with_period_lem, components_of, has_special as has_special_lem, HasNoSlash, is_slash_mark, place_in as place_in_lem, AreNamed, Expands, FitsComponent, IsAmong, Names};
+ghost use Rattle.sh_pattern.specs.Reading.{Reads, is_special as is_special_def};
+ghost use Rattle.sh_pattern.specs.PathExpansion.{bytes_of as bytes_of_def, begins_with_period as begins_with_period_def, components_of, has_special as has_special_def, HasNoSlash, is_slash_mark, place_in as place_in_def, AreNamed, Expands, FitsComponent, IsAmong, Names};
 ghost use Rattle.sh_pattern.specs.Finding.{Adds, IsFound, IsText, Follows, FollowsAll, AddsFitting, GoesOn};
 
 use crate::elements::Pattern;
@@ -41,9 +41,9 @@ pub fn expand_paths<T: Tree>(
     text: &[Mark],
 ) -> Result<Vec<Vec<u8>>, WorldErr>
     ensures names { IfOk result (λ names. IfSome (T.state tree.old).held (λ files.
-        Expands files (T.state tree.old).home text.now (texts_of_lem names.items))) }
-    ensures plain { has_special_lem text.now ≡ false → IfOk result (λ names. texts_of_lem names.items ≡ bytes_of_lem text.now ∷ []) }
-    ensures unasked { has_special_lem text.now ≡ false → tree.new ≡ tree.old }
+        Expands files (T.state tree.old).home text.now (texts_of_def names.items))) }
+    ensures plain { has_special_def text.now ≡ false → IfOk result (λ names. texts_of_def names.items ≡ bytes_of_def text.now ∷ []) }
+    ensures unasked { has_special_def text.now ≡ false → tree.new ≡ tree.old }
     ensures state { T.state tree.new ≡ T.state tree.old }
     ensures cause { Counts (T.faults tree.old) (T.faults tree.new) result }
 {
@@ -59,7 +59,7 @@ pub fn expand_paths<T: Tree>(
 
 /// The text without its marks, alone.
 fn itself(alloc: Global, text: &[Mark]) -> Result<Vec<Vec<u8>>, WorldErr>
-    ensures names { IfOk result (λ names. texts_of_lem names.items ≡ bytes_of_lem text.now ∷ []) }
+    ensures names { IfOk result (λ names. texts_of_def names.items ≡ bytes_of_def text.now ∷ []) }
     ensures memory { OnErr result (result ≡ Err WorldErr.Memory) }
 {
     let mut names = Vec::new(alloc);
@@ -69,7 +69,7 @@ fn itself(alloc: Global, text: &[Mark]) -> Result<Vec<Vec<u8>>, WorldErr>
 
 /// The bytes of a marked text.
 fn bytes_of(alloc: Global, text: &[Mark]) -> Result<Vec<u8>, AllocError>
-    ensures { IfOk result (λ bytes. bytes.items ≡ bytes_of_lem text.now) }
+    ensures { IfOk result (λ bytes. bytes.items ≡ bytes_of_def text.now) }
 {
     let mut bytes = Vec::with_capacity(alloc, text.len())?;
     for mark in text {
@@ -80,14 +80,14 @@ fn bytes_of(alloc: Global, text: &[Mark]) -> Result<Vec<u8>, AllocError>
 
 /// Whether an unquoted `*`, `?` or `[` stands in the text.
 fn has_special(text: &[Mark]) -> bool
-    ensures { result ≡ has_special_lem text.now }
+    ensures { result ≡ has_special_def text.now }
 {
     text.iter().any(|mark| is_special(*mark))
 }
 
 /// Whether the mark is an unquoted `*`, `?` or `[`.
 fn is_special(mark: Mark) -> bool
-    ensures { result ≡ is_special_lem mark }
+    ensures { result ≡ is_special_def mark }
 {
     is_unquoted(mark, b'*') || is_unquoted(mark, b'?') || is_unquoted(mark, b'[')
 }
@@ -102,7 +102,7 @@ struct Found {
 /// The texts of all that is there and for which the marked text stands, each once, in the order of their bytes.
 fn find_names<T: Tree>(alloc: Global, tree: &mut T, text: &[Mark]) -> Result<Vec<Vec<u8>>, WorldErr>
     ensures names { IfOk result (λ names. IfSome (T.state tree.old).held (λ files.
-        AreNamed files (T.state tree.old).home text.now (texts_of_lem names.items))) }
+        AreNamed files (T.state tree.old).home text.now (texts_of_def names.items))) }
     ensures state { T.state tree.new ≡ T.state tree.old }
     ensures cause { Counts (T.faults tree.old) (T.faults tree.new) result }
 {
@@ -122,7 +122,7 @@ fn find_names<T: Tree>(alloc: Global, tree: &mut T, text: &[Mark]) -> Result<Vec
 
 /// Where the components of a text start.
 fn start_of<T: Tree>(alloc: Global, tree: &T, text: &[Mark]) -> Result<Path, AllocError>
-    ensures { IfOk result (λ start. start ≡ start_of_lem (T.state tree.now).home (bytes_of_lem text.now)) }
+    ensures { IfOk result (λ start. start ≡ start_of_def (T.state tree.now).home (bytes_of_def text.now)) }
 {
     match text {
         [first, ..] if first.byte == b'/' => Ok(Path::root(alloc)),
@@ -211,7 +211,7 @@ fn follow_written<T: Tree>(
     found: &mut Vec<Found>,
 ) -> Result<(), WorldErr>
     requires part { HasNoSlash component.now }
-    requires plain { has_special_lem component.now ≡ false }
+    requires plain { has_special_def component.now ≡ false }
     requires directory { IfSome (T.state tree.old).held (λ files. kind_at files from.now.place ≡ Kind.Dir) }
     ensures found { OnOk result (IfSome (T.state tree.old).held (λ files.
         Follows files from.now component.now ending.now found.old.items found.new.items)) }
@@ -233,7 +233,7 @@ fn place_in<T: Tree>(
     name: &[u8],
 ) -> Result<Option<Path>, WorldErr>
     requires part { has_slash name.now ≡ false }
-    ensures place { IfOk result (λ place. IfSome (T.state tree.old).held (λ files. place ≡ place_in_lem files dir.now name.now)) }
+    ensures place { IfOk result (λ place. IfSome (T.state tree.old).held (λ files. place ≡ place_in_def files dir.now name.now)) }
     ensures state { T.state tree.new ≡ T.state tree.old }
     ensures cause { Counts (T.faults tree.old) (T.faults tree.new) result }
 {
@@ -316,7 +316,7 @@ fn follow_pattern<T: Tree>(
     ending: &[u8],
     found: &mut Vec<Found>,
 ) -> Result<(), WorldErr>
-    requires special { has_special_lem component.now ≡ true }
+    requires special { has_special_def component.now ≡ true }
     requires directory { IfSome (T.state tree.old).held (λ files. kind_at files from.now.place ≡ Kind.Dir) }
     ensures found { OnOk result (IfSome (T.state tree.old).held (λ files.
         Follows files from.now component.now ending.now found.old.items found.new.items)) }
@@ -336,8 +336,8 @@ fn add_fitting(
     ending: &[u8],
     found: &mut Vec<Found>,
 ) -> Result<(), WorldErr>
-    requires names { IsTrue (list_all is_name (texts_of_lem names.now)) }
-    ensures found { OnOk result (AddsFitting (texts_of_lem names.now) from.now component.now ending.now found.old.items found.new.items) }
+    requires names { IsTrue (list_all is_name (texts_of_def names.now)) }
+    ensures found { OnOk result (AddsFitting (texts_of_def names.now) from.now component.now ending.now found.old.items found.new.items) }
     ensures memory { OnErr result (result ≡ Err WorldErr.Memory) }
 {
     let pattern = read_pattern(alloc, component)?;
@@ -403,7 +403,7 @@ fn fits(pattern: &Pattern, component: &[Mark], name: &[u8]) -> bool
 
 /// Whether the first byte is a period.
 fn begins_with_period(name: &[u8]) -> bool
-    ensures { result ≡ begins_with_period_lem name.now }
+    ensures { result ≡ begins_with_period_def name.now }
 {
     match name {
         [first, ..] => *first == b'.',
@@ -413,7 +413,7 @@ fn begins_with_period(name: &[u8]) -> bool
 
 /// Whether the first byte is a period, quoted or not.
 fn has_leading_period(text: &[Mark]) -> bool
-    ensures { result ≡ begins_with_period_lem (bytes_of_lem text.now) }
+    ensures { result ≡ begins_with_period_def (bytes_of_def text.now) }
 {
     match text {
         [first, ..] => first.byte == b'.',
@@ -424,8 +424,8 @@ fn has_leading_period(text: &[Mark]) -> bool
 /// The texts of what was found, each once, in the order of their bytes.
 #[tactic(auto, using(crate::proofs::ExpansionLemmas::ordered))]
 fn sorted_texts(alloc: Global, found: Vec<Found>) -> Result<Vec<Vec<u8>>, AllocError>
-    ensures texts { IfOk result (λ texts. (text : List ℕ) → IsAmong (texts_of_lem texts.items) text ↔ IsText found.items text) }
-    ensures sorted { IfOk result (λ texts. IsStrictlySortedBy (slice_cmp nat_cmp) (texts_of_lem texts.items)) }
+    ensures texts { IfOk result (λ texts. (text : List ℕ) → IsAmong (texts_of_def texts.items) text ↔ IsText found.items text) }
+    ensures sorted { IfOk result (λ texts. IsStrictlySortedBy (slice_cmp nat_cmp) (texts_of_def texts.items)) }
 {
     let mut texts = texts_of(alloc, found)?;
     texts.sort()?;

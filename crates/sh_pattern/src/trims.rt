@@ -4,7 +4,7 @@ ghost use Rattle.std.specs.Prelude.{◌≡◌, ◌↔◌, ◌≤◌, ◌<◌, �
 ghost use Rattle.sh_pattern.specs.declared.elements.Element.{Element};
 ghost use Rattle.sh_pattern.specs.Fits.{Fits, EndsIn};
 ghost use Rattle.sh_pattern.specs.Trims.{IsNowhere, Cuts, left_of};
-ghost use Rattle.sh_pattern.specs.Standing.{from_side, begins_with_star as begins_with_star_lem, FitsFrom, FitsFirst, IsBestCount, later as later_lem, place_of as place_of_lem};
+ghost use Rattle.sh_pattern.specs.Standing.{from_side, begins_with_star as begins_with_star_def, FitsFrom, FitsFirst, IsBestCount, later as later_def, place_of as place_of_def};
 
 use crate::elements::{Element, Pattern};
 use crate::matching::takes;
@@ -52,7 +52,7 @@ pub(crate) fn left_of(text: &[u8], side: Side, place: usize) -> &[u8]
 /// The place behind so many bytes, counted from the side.
 fn place_of(side: Side, count: usize, bytes: usize) -> usize
     requires { count ≤ bytes }
-    ensures { result ≡ place_of_lem side count bytes }
+    ensures { result ≡ place_of_def side count bytes }
 {
     match side {
         Side::Prefix => count,
@@ -112,7 +112,7 @@ fn is_over(count: usize, text: &[u8], standing: &[usize]) -> bool
 
 /// The number of bytes found last.
 fn later(ends: bool, count: usize, found: Option<usize>) -> Option<usize>
-    ensures { result ≡ later_lem ends count found }
+    ensures { result ≡ later_def ends count found }
 {
     if ends { Some(count) } else { found }
 }
@@ -183,7 +183,7 @@ fn add_taken(
     byte: u8,
     next: &mut Vec<usize>,
 ) -> Result<(), Memory>
-    requires no_star { begins_with_star_lem (drop place (from_side side elements.now)) ≡ false }
+    requires no_star { begins_with_star_def (drop place (from_side side elements.now)) ≡ false }
     ensures { OnOk result ((more : List ℕ) → FitsFrom (from_side side elements.now) next.new.items more
         ↔ (FitsFrom (from_side side elements.now) next.old.items more ⊎ Fits (drop place (from_side side elements.now)) (byte ∷ more))) }
 {
@@ -211,7 +211,7 @@ fn add(place: usize, places: &mut Vec<usize>) -> Result<(), Memory>
 
 /// The first place from this one on at which no star stands.
 fn past_stars(elements: &[Element], side: Side, place: usize) -> usize
-    ensures no_star { begins_with_star_lem (drop result (from_side side elements.now)) ≡ false }
+    ensures no_star { begins_with_star_def (drop result (from_side side elements.now)) ≡ false }
     ensures same { (text : List ℕ) → EndsIn (Fits (drop place (from_side side elements.now))) text
         ↔ EndsIn (Fits (drop result (from_side side elements.now))) text }
 {
@@ -224,7 +224,7 @@ fn past_stars(elements: &[Element], side: Side, place: usize) -> usize
 
 /// Whether a star stands at this place.
 fn is_star_at(elements: &[Element], side: Side, place: usize) -> bool
-    ensures star { result ≡ begins_with_star_lem (drop place (from_side side elements.now)) }
+    ensures star { result ≡ begins_with_star_def (drop place (from_side side elements.now)) }
 {
     if place >= elements.len() {
         return false;

@@ -1,6 +1,6 @@
 //! The class of each invocation.
 ghost use Rattle.std.specs.Prelude.{◌≡◌};
-ghost use Rattle.ut_args.specs.Classes.{class_of, is_no_count as is_no_count_lem, keeps_closed_of, of_one as of_one_lem, report_class as report_class_lem};
+ghost use Rattle.ut_args.specs.Classes.{class_of, is_no_count as is_no_count_def, keeps_closed_of, of_one as of_one_def, report_class as report_class_def};
 
 use crate::classes::{Class, Seam};
 use crate::commands::{Origin, Report};
@@ -41,7 +41,7 @@ pub fn class(inv: &Inv) -> Class
 
 /// A class of an invocation with at most one operand.
 fn of_one(operands: &Texts, class: Class) -> Class
-    ensures { result ≡ of_one_lem operands.now class }
+    ensures { result ≡ of_one_def operands.now class }
 {
     if has_at_most_one(operands) {
         class
@@ -52,7 +52,7 @@ fn of_one(operands: &Texts, class: Class) -> Class
 
 /// The class of grep of one input.
 fn report_class(report: Report, numbers: bool) -> Class
-    ensures { result ≡ report_class_lem report numbers }
+    ensures { result ≡ report_class_def report numbers }
 {
     match report {
         Report::Lines => {
@@ -82,7 +82,7 @@ pub fn keeps_closed(inv: &Inv) -> bool
 
 /// Whether grep doesn't count.
 fn is_no_count(report: Report) -> bool
-    ensures { result ≡ is_no_count_lem report }
+    ensures { result ≡ is_no_count_def report }
 {
     match report {
         Report::Count => false,

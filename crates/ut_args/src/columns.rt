@@ -2,7 +2,7 @@
 ghost use Rattle.std.specs.Prelude.{◌≡◌, [], ◌∷◌, codes, IfOk};
 ghost use Rattle.ut_options.specs.Given.{last_by};
 ghost use Rattle.ut_args.specs.Utilities.{letter};
-ghost use Rattle.ut_args.specs.Lists.{bytes_or_fields as bytes_or_fields_lem, cut as cut_lem, delimiters_of as delimiters_of_lem, escaped as escaped_lem, list_of as list_of_lem, paste as paste_lem, place_of as place_of_lem, range_between as range_between_lem, range_of as range_of_lem};
+ghost use Rattle.ut_args.specs.Lists.{bytes_or_fields as bytes_or_fields_def, cut as cut_def, delimiters_of as delimiters_of_def, escaped as escaped_def, list_of as list_of_def, paste as paste_def, place_of as place_of_def, range_between as range_between_def, range_of as range_of_def};
 
 use crate::commands::{Command, CutArgs, Parts, PasteArgs};
 use crate::lists::{Delimiters, Range, Ranges};
@@ -20,7 +20,7 @@ pub(crate) fn cut(
     options: &Options,
     operands: Texts,
 ) -> Result<Option<Command>, Memory>
-    ensures { IfOk result (λ read. read ≡ cut_lem options.now operands) }
+    ensures { IfOk result (λ read. read ≡ cut_def options.now operands) }
 {
     let Some(delimiter) = options.byte(b'd', None) else {
         return Ok(None);
@@ -43,7 +43,7 @@ pub(crate) fn cut(
 
 /// The parts that are counted; None where bytes are, and there is an option of fields.
 fn bytes_or_fields(bytes: bool, only_delimited: bool, delimiter: Option<u8>) -> Option<Parts>
-    ensures { result ≡ bytes_or_fields_lem bytes only_delimited delimiter }
+    ensures { result ≡ bytes_or_fields_def bytes only_delimited delimiter }
 {
     match (bytes, delimiter) {
         (true, None) => {
@@ -67,7 +67,7 @@ fn bytes_or_fields(bytes: bool, only_delimited: bool, delimiter: Option<u8>) -> 
 /// The ranges of a list, which commas and blanks part.
 #[tactic(auto, using(crate::proofs::ListLemmas::list_steps))]
 fn list_of(alloc: Global, list: &[u8]) -> Result<Option<Ranges>, Memory>
-    ensures { IfOk result (λ read. read ≡ list_of_lem list.now) }
+    ensures { IfOk result (λ read. read ≡ list_of_def list.now) }
 {
     let mut ranges = Ranges::new(alloc);
     let mut left = list;
@@ -88,7 +88,7 @@ fn list_of(alloc: Global, list: &[u8]) -> Result<Option<Ranges>, Memory>
 /// The range of one part: `N`, `N-M`, `N-` or `-M`.
 #[tactic(auto, unfolding(crate::specs::Lists::range_of))]
 fn range_of(part: &[u8]) -> Option<Range>
-    ensures { result ≡ range_of_lem part.now }
+    ensures { result ≡ range_of_def part.now }
 {
     match cut_at(b"-", part) {
         None => {
@@ -120,7 +120,7 @@ fn range_of(part: &[u8]) -> Option<Range>
 
 /// The range from one place up to another; None where that is before it.
 fn range_between(from: u64, to: u64) -> Option<Range>
-    ensures { result ≡ range_between_lem from to }
+    ensures { result ≡ range_between_def from to }
 {
     if from <= to {
         Some(Range { from, to: Some(to) })
@@ -131,7 +131,7 @@ fn range_between(from: u64, to: u64) -> Option<Range>
 
 /// A number from 1.
 pub(crate) fn place_of(text: &[u8]) -> Option<u64>
-    ensures { result ≡ place_of_lem text.now }
+    ensures { result ≡ place_of_def text.now }
 {
     let number = read_number(text)?;
     if 1 <= number { Some(number) } else { None }
@@ -143,7 +143,7 @@ pub(crate) fn paste(
     options: &Options,
     operands: Texts,
 ) -> Result<Option<Command>, Memory>
-    ensures { IfOk result (λ read. read ≡ paste_lem options.now operands) }
+    ensures { IfOk result (λ read. read ≡ paste_def options.now operands) }
 {
     match delimiters_among(alloc, options.as_slice())? {
         Some(delimiters) => Ok(Some(Command::Paste(PasteArgs {
@@ -157,7 +157,7 @@ pub(crate) fn paste(
 
 /// The delimiters that the last list gives, or a tab; None where a list has a fault.
 fn delimiters_among(alloc: Global, options: &[Given]) -> Result<Option<Delimiters>, Memory>
-    ensures { IfOk result (λ read. read ≡ last_by delimiters_of_lem (letter (codes "d")) (Some 9 ∷ []) options.now) }
+    ensures { IfOk result (λ read. read ≡ last_by delimiters_of_def (letter (codes "d")) (Some 9 ∷ []) options.now) }
 {
     let mut delimiters = Delimiters::new(alloc);
     delimiters.push(Some(TAB))?;
@@ -177,7 +177,7 @@ fn delimiters_among(alloc: Global, options: &[Given]) -> Result<Option<Delimiter
 /// The delimiters of a list: its bytes, with `\n`, `\t`, `\\` and `\0` for a newline, a tab, a backslash and the empty one.
 #[tactic(auto, using(crate::proofs::ListLemmas::key_steps))]
 fn delimiters_of(alloc: Global, list: &[u8]) -> Result<Option<Delimiters>, Memory>
-    ensures { IfOk result (λ read. read ≡ delimiters_of_lem list.now) }
+    ensures { IfOk result (λ read. read ≡ delimiters_of_def list.now) }
 {
     if list.is_empty() {
         return Ok(None);
@@ -208,7 +208,7 @@ fn delimiters_of(alloc: Global, list: &[u8]) -> Result<Option<Delimiters>, Memor
 /// The delimiter that an escape stands for.
 #[tactic(auto, unfolding(crate::specs::Lists::escaped))]
 fn escaped(byte: u8) -> Option<Option<u8>>
-    ensures { result ≡ escaped_lem byte }
+    ensures { result ≡ escaped_def byte }
 {
     if byte == b'n' {
         return Some(Some(NEWLINE));

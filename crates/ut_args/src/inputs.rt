@@ -5,7 +5,7 @@ ghost use Rattle.ps_lines.specs.Lines.{is_empty};
 ghost use Rattle.ps_lines.specs.Texts.{texts_of};
 ghost use Rattle.ut_args.specs.Invocations.{command_of, words_of};
 ghost use Rattle.ut_args.specs.Reading.{invocation};
-ghost use Rattle.ut_args.specs.Inputs.{counted as counted_lem, emptied, files_of, inputs_of, is_file, is_named, is_standard, joined_inputs as joined_inputs_lem, operands_of, separate_inputs as separate_inputs_lem, shared_inputs as shared_inputs_lem, with_operands};
+ghost use Rattle.ut_args.specs.Inputs.{counted as counted_def, emptied, files_of, inputs_of, is_file, is_named, is_standard, joined_inputs as joined_inputs_def, operands_of, separate_inputs as separate_inputs_def, shared_inputs as shared_inputs_def, with_operands};
 
 use crate::faults::ArgFault;
 use crate::invocations::Inv;
@@ -159,7 +159,7 @@ fn behind_first(flags: &[bool]) -> &[bool]
 
 /// How many inputs there are where operands are joined before.
 fn joined_inputs(operands: &[Vec<u8>]) -> u32
-    ensures { result ≡ joined_inputs_lem (texts_of operands.now) }
+    ensures { result ≡ joined_inputs_def (texts_of operands.now) }
 {
     match operands {
         [] => 1,
@@ -174,7 +174,7 @@ fn joined_inputs(operands: &[Vec<u8>]) -> u32
 
 /// How many inputs there are where each operand that names one has its own.
 fn separate_inputs(operands: &[Vec<u8>]) -> u32
-    ensures { result ≡ separate_inputs_lem (texts_of operands.now) }
+    ensures { result ≡ separate_inputs_def (texts_of operands.now) }
 {
     match operands {
         [] => 1,
@@ -184,7 +184,7 @@ fn separate_inputs(operands: &[Vec<u8>]) -> u32
 
 /// The same, with one input for all operands that are standard input.
 fn shared_inputs(operands: &[Vec<u8>]) -> u32
-    ensures { result ≡ shared_inputs_lem (texts_of operands.now) }
+    ensures { result ≡ shared_inputs_def (texts_of operands.now) }
 {
     match operands {
         [] => 1,
@@ -199,7 +199,7 @@ fn shared_inputs(operands: &[Vec<u8>]) -> u32
 
 /// So many, as a number of 32 bits counts.
 fn counted(number: usize) -> u32
-    ensures { result ≡ counted_lem number }
+    ensures { result ≡ counted_def number }
 {
     const MOST: usize = 4_294_967_295;
     if number < MOST {

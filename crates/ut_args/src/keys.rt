@@ -1,9 +1,9 @@
 //! What the words of sort ask for.
 ghost use Rattle.std.specs.Prelude.{◌≡◌, codes, IfOk};
 ghost use Rattle.std.specs.List.{list_all};
-ghost use Rattle.ut_options.specs.Rows.{is_among as is_among_lem};
+ghost use Rattle.ut_options.specs.Rows.{is_among as is_among_def};
 ghost use Rattle.ps_lines.specs.Texts.{texts_of};
-ghost use Rattle.ut_args.specs.Keys.{behind_digits, digits_front, end_of as end_of_lem, end_with as end_with_lem, if_at_least as if_at_least_lem, key_of as key_of_lem, keys_of as keys_of_lem, ordering_of as ordering_of_lem, sort as sort_lem};
+ghost use Rattle.ut_args.specs.Keys.{behind_digits, digits_front, end_of as end_of_def, end_with as end_with_def, if_at_least as if_at_least_def, key_of as key_of_def, keys_of as keys_of_def, ordering_of as ordering_of_def, sort as sort_def};
 
 use crate::commands::{Command, SortArgs};
 use crate::lists::{Key, KeyEnd, Keys, Ordering};
@@ -18,7 +18,7 @@ pub(crate) fn sort(
     options: &Options,
     operands: Texts,
 ) -> Result<Option<Command>, Memory>
-    ensures { IfOk result (λ read. read ≡ sort_lem options.now operands) }
+    ensures { IfOk result (λ read. read ≡ sort_def options.now operands) }
 {
     let Some(separator) = options.byte(b't', None) else {
         return Ok(None);
@@ -44,7 +44,7 @@ pub(crate) fn sort(
 /// The keys that texts are; None where one is none.
 #[tactic(auto, using(crate::proofs::ListLemmas::key_steps))]
 fn keys_of(alloc: Global, texts: &[Vec<u8>]) -> Result<Option<Keys>, Memory>
-    ensures { IfOk result (λ read. read ≡ keys_of_lem (texts_of texts.now)) }
+    ensures { IfOk result (λ read. read ≡ keys_of_def (texts_of texts.now)) }
 {
     let mut keys = Keys::new(alloc);
     let mut left = texts;
@@ -61,7 +61,7 @@ fn keys_of(alloc: Global, texts: &[Vec<u8>]) -> Result<Option<Keys>, Memory>
 /// A key: `START` or `START,END`.
 #[tactic(auto, unfolding(crate::specs::Keys::key_of))]
 fn key_of(text: &[u8]) -> Option<Key>
-    ensures { result ≡ key_of_lem text.now }
+    ensures { result ≡ key_of_def text.now }
 {
     match cut_at(b",", text) {
         None => {
@@ -81,7 +81,7 @@ fn key_of(text: &[u8]) -> Option<Key>
 
 /// One end of a key: `F[.C][bfnr]`, with C from `least`, which it is where it is absent.
 fn end_of(least: u64, text: &[u8]) -> Option<KeyEnd>
-    ensures { result ≡ end_of_lem least text.now }
+    ensures { result ≡ end_of_def least text.now }
 {
     let (field, behind) = split_digits(text);
     match behind {
@@ -98,7 +98,7 @@ fn end_of(least: u64, text: &[u8]) -> Option<KeyEnd>
 
 /// One end of a key, of its numbers and letters.
 fn end_with(least: u64, field: Option<u64>, byte: Option<u64>, letters: &[u8]) -> Option<KeyEnd>
-    ensures { result ≡ end_with_lem least field byte letters.now }
+    ensures { result ≡ end_with_def least field byte letters.now }
 {
     let field = if_at_least(1, field)?;
     let byte = if_at_least(least, byte)?;
@@ -112,7 +112,7 @@ fn end_with(least: u64, field: Option<u64>, byte: Option<u64>, letters: &[u8]) -
 
 /// A number that is at least this one.
 fn if_at_least(least: u64, number: Option<u64>) -> Option<u64>
-    ensures { result ≡ if_at_least_lem least number }
+    ensures { result ≡ if_at_least_def least number }
 {
     let number = number?;
     if least <= number { Some(number) } else { None }
@@ -120,7 +120,7 @@ fn if_at_least(least: u64, number: Option<u64>) -> Option<u64>
 
 /// The letters of one end of a key.
 fn ordering_of(letters: &[u8]) -> Option<Ordering>
-    ensures { result ≡ ordering_of_lem letters.now }
+    ensures { result ≡ ordering_of_def letters.now }
 {
     if !are_key_letters(letters) {
         return None;
@@ -135,7 +135,7 @@ fn ordering_of(letters: &[u8]) -> Option<Ordering>
 
 /// Whether all bytes are letters that a key may have.
 fn are_key_letters(letters: &[u8]) -> bool
-    ensures { result ≡ list_all (is_among_lem (codes "bfnr")) letters.now }
+    ensures { result ≡ list_all (is_among_def (codes "bfnr")) letters.now }
 {
     let mut left = letters;
     while let [letter, rest @ ..] = left {
@@ -149,7 +149,7 @@ fn are_key_letters(letters: &[u8]) -> bool
 
 /// Whether a key may have the letter.
 fn is_key_letter(letter: u8) -> bool
-    ensures { result ≡ is_among_lem (codes "bfnr") letter }
+    ensures { result ≡ is_among_def (codes "bfnr") letter }
 {
     b"bfnr".contains(&letter)
 }

@@ -1,6 +1,6 @@
 //! Texts between separators.
 ghost use Rattle.std.specs.Prelude.{◌≡◌, ◌<◌, ◌≤◌, ◌++◌, length, Some, None, IfSome, IfNone, OnOk};
-ghost use Rattle.ut_args.specs.Pieces.{before_separator, cut_at as cut_at_lem, from_separator, pieces};
+ghost use Rattle.ut_args.specs.Pieces.{before_separator, cut_at as cut_at_def, from_separator, pieces};
 
 use ps_lines::Memory;
 use std::alloc::Global;
@@ -8,8 +8,8 @@ use ut_options::Texts;
 
 /// The texts before and behind the first separator.
 pub(crate) fn cut_at<'t>(separators: &[u8], text: &'t [u8]) -> Option<(&'t [u8], &'t [u8])>
-    ensures cut { IfSome result (λ cut. cut_at_lem separators.now text.now ≡ Some (cut.0.now, cut.1.now)) }
-    ensures none { IfNone result (cut_at_lem separators.now text.now ≡ None) }
+    ensures cut { IfSome result (λ cut. cut_at_def separators.now text.now ≡ Some (cut.0.now, cut.1.now)) }
+    ensures none { IfNone result (cut_at_def separators.now text.now ≡ None) }
     ensures shorter { IfSome result (λ cut. length cut.1.now < length text.now) }
 {
     let (before, from) = split_at_separator(separators, text);

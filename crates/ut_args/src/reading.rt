@@ -4,7 +4,7 @@ ghost use Rattle.ps_lines.specs.Texts.{texts_of};
 ghost use Rattle.ut_options.specs.Scanning.{scanned};
 ghost use Rattle.ut_args.specs.Table.{row};
 ghost use Rattle.ut_args.specs.Invocations.{command_of, words_of};
-ghost use Rattle.ut_args.specs.Reading.{asked as asked_lem, asked_behind, asked_by as asked_by_lem, if_some as if_some_lem, invocation};
+ghost use Rattle.ut_args.specs.Reading.{asked as asked_def, asked_behind, asked_by as asked_by_def, if_some as if_some_def, invocation};
 
 use crate::commands::Command;
 use crate::faults::ArgFault;
@@ -45,7 +45,7 @@ pub fn read_inv(alloc: Global, words: &[Vec<u8>]) -> Result<Inv, ArgFault>
 
 /// What the words behind a command's name ask for. Those of four commands are all operands.
 fn asked(alloc: Global, name: Name, words: &[Vec<u8>]) -> Result<Result<Command, Usage>, Memory>
-    ensures { IfOk result (λ read. read ≡ asked_lem name (texts_of words.now)) }
+    ensures { IfOk result (λ read. read ≡ asked_def name (texts_of words.now)) }
 {
     match name {
         Name::Set | Name::Test | Name::Bracket | Name::Echo => {
@@ -61,7 +61,7 @@ fn asked_by_operands(
     name: Name,
     words: &[Vec<u8>],
 ) -> Result<Result<Command, Usage>, Memory>
-    ensures { IfOk result (λ read. read ≡ asked_by_lem name [] (texts_of words.now)) }
+    ensures { IfOk result (λ read. read ≡ asked_by_def name [] (texts_of words.now)) }
 {
     let options = Options::new(alloc);
     let operands = Texts::copy_of(alloc, words)?;
@@ -92,7 +92,7 @@ fn asked_by(
     options: &Options,
     operands: Texts,
 ) -> Result<Result<Command, Usage>, Memory>
-    ensures { IfOk result (λ read. read ≡ asked_by_lem name options.now operands) }
+    ensures { IfOk result (λ read. read ≡ asked_by_def name options.now operands) }
 {
     match name {
         Name::Cat => Ok(Ok(utilities::cat(operands))),
@@ -124,7 +124,7 @@ fn asked_by(
 
 /// A command, or bad usage.
 fn if_some(asked: Option<Command>) -> Result<Command, Usage>
-    ensures { result ≡ if_some_lem asked }
+    ensures { result ≡ if_some_def asked }
 {
     asked.ok_or(Usage::BadUsage)
 }

@@ -1,7 +1,7 @@
 //! The option letters of each command.
 ghost use Rattle.std.specs.Prelude.{◌≡◌};
 ghost use Rattle.ut_options.specs.Rows.{row_of};
-ghost use Rattle.ut_args.specs.Table.{counting as counting_lem, letters as letters_lem, row};
+ghost use Rattle.ut_args.specs.Table.{counting as counting_def, letters as letters_def, row};
 
 use crate::names::Name;
 use ut_options::Letters;
@@ -40,7 +40,7 @@ pub(crate) fn letters_of(name: Name) -> Letters
 
 /// Letters without an argument and with one.
 fn letters(plain: &'static [u8], valued: &'static [u8]) -> Letters
-    ensures { row_of result ≡ letters_lem plain.now valued.now }
+    ensures { row_of result ≡ letters_def plain.now valued.now }
 {
     Letters {
         plain,
@@ -51,7 +51,7 @@ fn letters(plain: &'static [u8], valued: &'static [u8]) -> Letters
 
 /// Letters of a command whose `-N` is a count.
 fn counting(plain: &'static [u8], valued: &'static [u8]) -> Letters
-    ensures { row_of result ≡ counting_lem plain.now valued.now }
+    ensures { row_of result ≡ counting_def plain.now valued.now }
 {
     Letters {
         plain,

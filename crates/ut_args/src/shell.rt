@@ -2,10 +2,10 @@
 ghost use Rattle.std.specs.Prelude.{◌≡◌, Some, None, IfOk, IfSome, IfNone, option_map};
 ghost use Rattle.std.specs.List.{list_all};
 ghost use Rattle.ps_lines.specs.Texts.{texts_of};
-ghost use Rattle.ps_lines.specs.Bytes.{is_name_byte as is_name_byte_lem};
+ghost use Rattle.ps_lines.specs.Bytes.{is_name_byte as is_name_byte_def};
 ghost use Rattle.ut_options.specs.Numbers.{option_number};
-ghost use Rattle.ut_args.specs.Lists.{place_of as place_of_lem};
-ghost use Rattle.ut_args.specs.Shell.{are_names as are_names_lem, before_bracket, begins_with_word as begins_with_word_lem, begins_with_sign as begins_with_sign_lem, bracket as bracket_lem, echo as echo_lem, fault_of_three as fault_of_three_lem, fault_of_two as fault_of_two_lem, is_name as is_name_lem, no_operator as no_operator_lem, numbers_fault as numbers_fault_lem, one_at_most, read as read_lem, set as set_lem, set_fault as set_fault_lem, signed_letter as signed_letter_lem, status_of as status_of_lem, test as test_lem, test_fault as test_fault_lem, unset as unset_lem};
+ghost use Rattle.ut_args.specs.Lists.{place_of as place_of_def};
+ghost use Rattle.ut_args.specs.Shell.{are_names as are_names_def, before_bracket, begins_with_word as begins_with_word_def, begins_with_sign as begins_with_sign_def, bracket as bracket_def, echo as echo_def, fault_of_three as fault_of_three_def, fault_of_two as fault_of_two_def, is_name as is_name_def, no_operator as no_operator_def, numbers_fault as numbers_fault_def, one_at_most, read as read_def, set as set_def, set_fault as set_fault_def, signed_letter as signed_letter_def, status_of as status_of_def, test as test_def, test_fault as test_fault_def, unset as unset_def};
 
 use crate::columns::place_of;
 use crate::commands::{
@@ -18,7 +18,7 @@ use ut_options::{Options, Texts, Usage, number_of, read_number};
 
 /// `break`: at most one number, from 1.
 pub(crate) fn break_loop(operands: &Texts) -> Option<Command>
-    ensures { result ≡ option_map (λ depth. Command.Break (record { depth = depth })) (one_at_most place_of_lem operands.now) }
+    ensures { result ≡ option_map (λ depth. Command.Break (record { depth = depth })) (one_at_most place_of_def operands.now) }
 {
     let depth = one_place(operands)?;
     Some(Command::Break(LoopArgs { depth }))
@@ -26,7 +26,7 @@ pub(crate) fn break_loop(operands: &Texts) -> Option<Command>
 
 /// `continue`: at most one number, from 1.
 pub(crate) fn continue_loop(operands: &Texts) -> Option<Command>
-    ensures { result ≡ option_map (λ depth. Command.Continue (record { depth = depth })) (one_at_most place_of_lem operands.now) }
+    ensures { result ≡ option_map (λ depth. Command.Continue (record { depth = depth })) (one_at_most place_of_def operands.now) }
 {
     let depth = one_place(operands)?;
     Some(Command::Continue(LoopArgs { depth }))
@@ -34,7 +34,7 @@ pub(crate) fn continue_loop(operands: &Texts) -> Option<Command>
 
 /// At most one number, from 1.
 fn one_place(operands: &Texts) -> Option<Option<u64>>
-    ensures { result ≡ one_at_most place_of_lem operands.now }
+    ensures { result ≡ one_at_most place_of_def operands.now }
 {
     match operands.as_slice() {
         [] => Some(None),
@@ -45,7 +45,7 @@ fn one_place(operands: &Texts) -> Option<Option<u64>>
 
 /// `exit`: at most one number, up to 255.
 pub(crate) fn exit(operands: &Texts) -> Option<Command>
-    ensures { result ≡ option_map (λ status. Command.Exit (record { status = status })) (one_at_most status_of_lem operands.now) }
+    ensures { result ≡ option_map (λ status. Command.Exit (record { status = status })) (one_at_most status_of_def operands.now) }
 {
     let status = one_status(operands)?;
     Some(Command::Exit(ExitArgs { status }))
@@ -53,7 +53,7 @@ pub(crate) fn exit(operands: &Texts) -> Option<Command>
 
 /// At most one number, up to 255.
 fn one_status(operands: &Texts) -> Option<Option<u8>>
-    ensures { result ≡ one_at_most status_of_lem operands.now }
+    ensures { result ≡ one_at_most status_of_def operands.now }
 {
     match operands.as_slice() {
         [] => Some(None),
@@ -64,7 +64,7 @@ fn one_status(operands: &Texts) -> Option<Option<u8>>
 
 /// A number up to 255.
 fn status_of(text: &[u8]) -> Option<u8>
-    ensures { result ≡ status_of_lem text.now }
+    ensures { result ≡ status_of_def text.now }
 {
     let number = read_number(text)?;
     if number <= 255 {
@@ -95,7 +95,7 @@ fn one_number(operands: &Texts) -> Option<Option<u64>>
 
 /// `unset`: names.
 pub(crate) fn unset(names: Texts) -> Option<Command>
-    ensures { result ≡ unset_lem names }
+    ensures { result ≡ unset_def names }
 {
     if are_names(&names) {
         Some(Command::Unset(NamesArgs { names }))
@@ -106,7 +106,7 @@ pub(crate) fn unset(names: Texts) -> Option<Command>
 
 /// `read`: `-r`, and names.
 pub(crate) fn read(options: &Options, names: Texts) -> Result<Command, Usage>
-    ensures { result ≡ read_lem options.now names }
+    ensures { result ≡ read_def options.now names }
 {
     if !options.has(b'r') {
         return Err(Usage::UnsupportedFlag(b'r'));
@@ -119,7 +119,7 @@ pub(crate) fn read(options: &Options, names: Texts) -> Result<Command, Usage>
 
 /// Whether they are one name or more.
 fn are_names(names: &Texts) -> bool
-    ensures { result ≡ are_names_lem names.now }
+    ensures { result ≡ are_names_def names.now }
 {
     match names.as_slice() {
         [] => false,
@@ -129,7 +129,7 @@ fn are_names(names: &Texts) -> bool
 
 /// Whether each of the texts is a name.
 fn all_names(names: &[Vec<u8>]) -> bool
-    ensures { result ≡ list_all is_name_lem (texts_of names.now) }
+    ensures { result ≡ list_all is_name_def (texts_of names.now) }
 {
     let mut left = names;
     while let [name, rest @ ..] = left {
@@ -143,7 +143,7 @@ fn all_names(names: &[Vec<u8>]) -> bool
 
 /// Whether the text is a name (XBD 3.216).
 fn is_name(text: &[u8]) -> bool
-    ensures { result ≡ is_name_lem text.now }
+    ensures { result ≡ is_name_def text.now }
 {
     match text {
         [] => false,
@@ -153,7 +153,7 @@ fn is_name(text: &[u8]) -> bool
 
 /// Whether each byte may go on a name.
 fn are_name_bytes(text: &[u8]) -> bool
-    ensures { result ≡ list_all is_name_byte_lem text.now }
+    ensures { result ≡ list_all is_name_byte_def text.now }
 {
     let mut left = text;
     while let [byte, rest @ ..] = left {
@@ -167,7 +167,7 @@ fn are_name_bytes(text: &[u8]) -> bool
 
 /// `echo`: every word is an operand, but a first `-n` is an option that isn't there.
 pub(crate) fn echo(operands: Texts) -> Result<Command, Usage>
-    ensures { result ≡ echo_lem operands }
+    ensures { result ≡ echo_def operands }
 {
     if begins_with_word(&operands, b"-n") {
         return Err(Usage::UnsupportedFlag(b'n'));
@@ -177,7 +177,7 @@ pub(crate) fn echo(operands: Texts) -> Result<Command, Usage>
 
 /// Whether the first text is this word.
 fn begins_with_word(texts: &Texts, word: &[u8]) -> bool
-    ensures { result ≡ begins_with_word_lem texts.now word.now }
+    ensures { result ≡ begins_with_word_def texts.now word.now }
 {
     match texts.as_slice() {
         [] => false,
@@ -187,7 +187,7 @@ fn begins_with_word(texts: &Texts, word: &[u8]) -> bool
 
 /// `set`: the words behind a first `--`, or all where the first begins with no sign.
 pub(crate) fn set(alloc: Global, words: Texts) -> Result<Result<Command, Usage>, Memory>
-    ensures { IfOk result (λ read. read ≡ set_lem words) }
+    ensures { IfOk result (λ read. read ≡ set_def words) }
 {
     match words.as_slice() {
         [] => Ok(Err(Usage::BadUsage)),
@@ -207,7 +207,7 @@ pub(crate) fn set(alloc: Global, words: Texts) -> Result<Result<Command, Usage>,
 
 /// The usage fault of set: the first letter with a sign, among words that begin with one, up to `--`.
 fn set_fault(words: &[Vec<u8>]) -> Usage
-    ensures { result ≡ set_fault_lem (texts_of words.now) }
+    ensures { result ≡ set_fault_def (texts_of words.now) }
 {
     let mut left = words;
     while let [word, rest @ ..] = left {
@@ -224,7 +224,7 @@ fn set_fault(words: &[Vec<u8>]) -> Usage
 
 /// Whether the word begins with a sign.
 fn begins_with_sign(word: &[u8]) -> bool
-    ensures { result ≡ begins_with_sign_lem word.now }
+    ensures { result ≡ begins_with_sign_def word.now }
 {
     match word {
         [byte, ..] => *byte == b'-' || *byte == b'+',
@@ -234,7 +234,7 @@ fn begins_with_sign(word: &[u8]) -> bool
 
 /// The letter of a word of a sign and one letter.
 fn signed_letter(word: &[u8]) -> Option<u8>
-    ensures { result ≡ signed_letter_lem word.now }
+    ensures { result ≡ signed_letter_def word.now }
 {
     match word {
         [_, byte] => {
@@ -250,7 +250,7 @@ fn signed_letter(word: &[u8]) -> Option<u8>
 
 /// `test`.
 pub(crate) fn test(arguments: Texts) -> Result<Command, Usage>
-    ensures { result ≡ test_lem arguments }
+    ensures { result ≡ test_def arguments }
 {
     match test_fault(arguments.as_slice()) {
         Some(fault) => Err(fault),
@@ -260,7 +260,7 @@ pub(crate) fn test(arguments: Texts) -> Result<Command, Usage>
 
 /// `[`: as test, with a last `]`.
 pub(crate) fn bracket(alloc: Global, words: Texts) -> Result<Result<Command, Usage>, Memory>
-    ensures { IfOk result (λ read. read ≡ bracket_lem words) }
+    ensures { IfOk result (λ read. read ≡ bracket_def words) }
 {
     let Some(arguments) = before_bracket(words.as_slice()) else {
         return Ok(Err(Usage::BadUsage));
@@ -289,7 +289,7 @@ fn before_bracket(words: &[Vec<u8>]) -> Option<&[Vec<u8>]>
 
 /// The usage fault of test with these arguments.
 fn test_fault(arguments: &[Vec<u8>]) -> Option<Usage>
-    ensures { result ≡ test_fault_lem (texts_of arguments.now) }
+    ensures { result ≡ test_fault_def (texts_of arguments.now) }
 {
     match arguments {
         [] | [_] => None,
@@ -309,7 +309,7 @@ fn test_fault(arguments: &[Vec<u8>]) -> Option<Usage>
 
 /// The usage fault of an operator before one operand.
 fn fault_of_two(operator: &[u8]) -> Option<Usage>
-    ensures { result ≡ fault_of_two_lem operator.now }
+    ensures { result ≡ fault_of_two_def operator.now }
 {
     match unary_of(operator) {
         Some(_) => None,
@@ -319,7 +319,7 @@ fn fault_of_two(operator: &[u8]) -> Option<Usage>
 
 /// The usage fault of an operator between two operands; where there is none, `!` may stand before two arguments.
 fn fault_of_three(left: &[u8], operator: &[u8], right: &[u8]) -> Option<Usage>
-    ensures { result ≡ fault_of_three_lem left.now operator.now right.now }
+    ensures { result ≡ fault_of_three_def left.now operator.now right.now }
 {
     match binary_of(operator) {
         Some(Binary::Compare(_)) => numbers_fault(number_of(left), number_of(right)),
@@ -335,7 +335,7 @@ fn fault_of_three(left: &[u8], operator: &[u8], right: &[u8]) -> Option<Usage>
 
 /// Two numbers are compared.
 fn numbers_fault(left: Option<i64>, right: Option<i64>) -> Option<Usage>
-    ensures { result ≡ numbers_fault_lem left right }
+    ensures { result ≡ numbers_fault_def left right }
 {
     match (left, right) {
         (Some(_), Some(_)) => None,
@@ -345,7 +345,7 @@ fn numbers_fault(left: Option<i64>, right: Option<i64>) -> Option<Usage>
 
 /// The usage fault of a word in the place of an operator.
 fn no_operator(word: &[u8]) -> Usage
-    ensures { result ≡ no_operator_lem word.now }
+    ensures { result ≡ no_operator_def word.now }
 {
     match word {
         [b'-', ..] => match signed_letter(word) {

@@ -1,7 +1,7 @@
 //! What the words of tr ask for, and whether it keeps newlines.
 ghost use Rattle.std.specs.Prelude.{◌≡◌, IfOk};
 ghost use Rattle.ps_lines.specs.Texts.{texts_of};
-ghost use Rattle.ut_args.specs.Strings.{image as image_lem, is_one_of as is_one_of_lem, keeps_newline as keeps_newline_lem, tr as tr_lem, tr_by as tr_by_lem, tr_one as tr_one_lem, tr_two as tr_two_lem};
+ghost use Rattle.ut_args.specs.Strings.{image as image_def, is_one_of as is_one_of_def, keeps_newline as keeps_newline_def, tr as tr_def, tr_by as tr_by_def, tr_one as tr_one_def, tr_two as tr_two_def};
 
 use crate::commands::{Command, TrArgs};
 use ps_lines::{Memory, NEWLINE, Text};
@@ -15,7 +15,7 @@ pub(crate) fn tr(
     options: &Options,
     operands: &Texts,
 ) -> Result<Option<Command>, Memory>
-    ensures { IfOk result (λ read. read ≡ tr_lem options.now operands.now) }
+    ensures { IfOk result (λ read. read ≡ tr_def options.now operands.now) }
 {
     let complements = options.has(b'c') || options.has(b'C');
     tr_by(
@@ -35,7 +35,7 @@ fn tr_by(
     squeezes: bool,
     strings: &[Vec<u8>],
 ) -> Result<Option<Command>, Memory>
-    ensures { IfOk result (λ read. read ≡ tr_by_lem complements deletes squeezes (texts_of strings.now)) }
+    ensures { IfOk result (λ read. read ≡ tr_by_def complements deletes squeezes (texts_of strings.now)) }
 {
     match strings {
         [first] => {
@@ -63,7 +63,7 @@ fn tr_by(
 
 /// One of two, and not both.
 fn is_one_of(one: bool, other: bool) -> bool
-    ensures { result ≡ is_one_of_lem one other }
+    ensures { result ≡ is_one_of_def one other }
 {
     (one || other) && !(one && other)
 }
@@ -76,7 +76,7 @@ fn tr_one(
     squeezes: bool,
     first: &[u8],
 ) -> Result<Option<Command>, Memory>
-    ensures { IfOk result (λ read. read ≡ tr_one_lem complements deletes squeezes first.now) }
+    ensures { IfOk result (λ read. read ≡ tr_one_def complements deletes squeezes first.now) }
 {
     let Some(from) = expand_first(alloc, first, complements)? else {
         return Ok(None);
@@ -101,7 +101,7 @@ fn tr_two(
     first: &[u8],
     second: &[u8],
 ) -> Result<Option<Command>, Memory>
-    ensures { IfOk result (λ read. read ≡ tr_two_lem complements deletes squeezes first.now second.now) }
+    ensures { IfOk result (λ read. read ≡ tr_two_def complements deletes squeezes first.now second.now) }
 {
     let Some(from) = expand_first(alloc, first, complements)? else {
         return Ok(None);
@@ -122,7 +122,7 @@ fn tr_two(
 
 /// Whether a newline of the input is a newline of the output.
 pub(crate) fn keeps_newline(args: &TrArgs) -> bool
-    ensures { result ≡ keeps_newline_lem args.now }
+    ensures { result ≡ keeps_newline_def args.now }
 {
     if args.deletes {
         return !args.from.as_slice().contains(&NEWLINE);
@@ -135,7 +135,7 @@ pub(crate) fn keeps_newline(args: &TrArgs) -> bool
 
 /// The byte that a byte becomes: that at the last place at which it stands, where the second string goes on with its last byte.
 fn image(byte: u8, from: &[u8], to: &[u8]) -> u8
-    ensures { result ≡ image_lem byte byte byte from.now to.now }
+    ensures { result ≡ image_def byte byte byte from.now to.now }
 {
     let mut current = byte;
     let mut last = byte;

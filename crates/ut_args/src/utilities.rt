@@ -1,7 +1,7 @@
 //! What the options and operands of the utilities ask for.
 ghost use Rattle.std.specs.Prelude.{◌≡◌, [], Some, IfOk};
 ghost use Rattle.ps_lines.specs.Texts.{texts_of};
-ghost use Rattle.ut_args.specs.Utilities.{cat as cat_lem, grep as grep_lem, grep_for as grep_for_lem, groups_by as groups_by_lem, has_at_most_one as has_at_most_one_lem, head as head_lem, in_lines as in_lines_lem, origin_of as origin_of_lem, report_by as report_by_lem, syntax_by as syntax_by_lem, tail as tail_lem, tail_from as tail_from_lem, tee as tee_lem, uniq as uniq_lem, unit_of as unit_of_lem, wc as wc_lem, wc_of as wc_of_lem};
+ghost use Rattle.ut_args.specs.Utilities.{cat as cat_def, grep as grep_def, grep_for as grep_for_def, groups_by as groups_by_def, has_at_most_one as has_at_most_one_def, head as head_def, in_lines as in_lines_def, origin_of as origin_of_def, report_by as report_by_def, syntax_by as syntax_by_def, tail as tail_def, tail_from as tail_from_def, tee as tee_def, uniq as uniq_def, unit_of as unit_of_def, wc as wc_def, wc_of as wc_of_def};
 
 use crate::commands::{
     CatArgs, Command, GrepArgs, Groups, HeadArgs, Origin, Report, Syntax, Tail, TailArgs, TeeArgs,
@@ -15,14 +15,14 @@ use ut_options::{Given, Options, Texts, read_number};
 
 /// `cat`.
 pub(crate) fn cat(operands: Texts) -> Command
-    ensures { Some result ≡ cat_lem [] operands }
+    ensures { Some result ≡ cat_def [] operands }
 {
     Command::Cat(CatArgs { operands })
 }
 
 /// `tee`.
 pub(crate) fn tee(options: &Options, operands: Texts) -> Command
-    ensures { Some result ≡ tee_lem options.now operands }
+    ensures { Some result ≡ tee_def options.now operands }
 {
     Command::Tee(TeeArgs {
         appends: options.has(b'a'),
@@ -36,7 +36,7 @@ pub(crate) fn grep(
     options: &Options,
     operands: Texts,
 ) -> Result<Option<Command>, Memory>
-    ensures { IfOk result (λ read. read ≡ grep_lem options.now operands) }
+    ensures { IfOk result (λ read. read ≡ grep_def options.now operands) }
 {
     if options.has(b'e') {
         let patterns = options.arguments(alloc, b'e')?;
@@ -55,7 +55,7 @@ fn grep_for(
     patterns: &[Vec<u8>],
     operands: &[Vec<u8>],
 ) -> Result<Option<Command>, Memory>
-    ensures { IfOk result (λ read. read ≡ grep_for_lem options.now (texts_of patterns.now) (texts_of operands.now)) }
+    ensures { IfOk result (λ read. read ≡ grep_for_def options.now (texts_of patterns.now) (texts_of operands.now)) }
 {
     let Some(syntax) = syntax_by(options.has(b'E'), options.has(b'F')) else {
         return Ok(None);
@@ -78,7 +78,7 @@ fn grep_for(
 
 /// The lines of patterns, each a pattern.
 fn in_lines(alloc: Global, patterns: &[Vec<u8>]) -> Result<Texts, Memory>
-    ensures { IfOk result (λ lines. lines ≡ in_lines_lem (texts_of patterns.now)) }
+    ensures { IfOk result (λ lines. lines ≡ in_lines_def (texts_of patterns.now)) }
 {
     let mut lines = Texts::new(alloc);
     let mut left = patterns;
@@ -91,7 +91,7 @@ fn in_lines(alloc: Global, patterns: &[Vec<u8>]) -> Result<Texts, Memory>
 
 /// One syntax; none where both letters are given.
 fn syntax_by(extended: bool, fixed: bool) -> Option<Syntax>
-    ensures { result ≡ syntax_by_lem extended fixed }
+    ensures { result ≡ syntax_by_def extended fixed }
 {
     match (extended, fixed) {
         (false, false) => Some(Syntax::Basic),
@@ -103,7 +103,7 @@ fn syntax_by(extended: bool, fixed: bool) -> Option<Syntax>
 
 /// One report; none where two of the letters are given.
 fn report_by(counts: bool, names: bool, quiet: bool) -> Option<Report>
-    ensures { result ≡ report_by_lem counts names quiet }
+    ensures { result ≡ report_by_def counts names quiet }
 {
     match (counts, names, quiet) {
         (false, false, false) => Some(Report::Lines),
@@ -116,7 +116,7 @@ fn report_by(counts: bool, names: bool, quiet: bool) -> Option<Report>
 
 /// `head`.
 pub(crate) fn head(options: &Options, operands: Texts) -> Option<Command>
-    ensures { result ≡ head_lem options.now operands }
+    ensures { result ≡ head_def options.now operands }
 {
     let count = options.number(b'n', 10)?;
     Some(Command::Head(HeadArgs { count, operands }))
@@ -124,7 +124,7 @@ pub(crate) fn head(options: &Options, operands: Texts) -> Option<Command>
 
 /// `tail`: at most one operand.
 pub(crate) fn tail(options: &Options, operands: Texts) -> Option<Command>
-    ensures { result ≡ tail_lem options.now operands }
+    ensures { result ≡ tail_def options.now operands }
 {
     if !has_at_most_one(&operands) {
         return None;
@@ -135,7 +135,7 @@ pub(crate) fn tail(options: &Options, operands: Texts) -> Option<Command>
 
 /// What the last option of tail says; None where an argument is no number with an optional sign.
 fn tail_part(options: &[Given]) -> Option<Tail>
-    ensures { result ≡ tail_from_lem (record { unit = Unit.Lines; origin = Origin.End 10 }) options.now }
+    ensures { result ≡ tail_from_def (record { unit = Unit.Lines; origin = Origin.End 10 }) options.now }
 {
     let mut part = Tail {
         unit: Unit::Lines,
@@ -154,7 +154,7 @@ fn tail_part(options: &[Given]) -> Option<Tail>
 
 /// What a letter of tail counts.
 fn unit_of(letter: u8) -> Unit
-    ensures { result ≡ unit_of_lem letter }
+    ensures { result ≡ unit_of_def letter }
 {
     if letter == b'c' {
         Unit::Bytes
@@ -165,7 +165,7 @@ fn unit_of(letter: u8) -> Unit
 
 /// Where an argument of tail lets it begin.
 fn origin_of(argument: &[u8]) -> Option<Origin>
-    ensures { result ≡ origin_of_lem argument.now }
+    ensures { result ≡ origin_of_def argument.now }
 {
     match argument.split_first() {
         None => None,
@@ -177,7 +177,7 @@ fn origin_of(argument: &[u8]) -> Option<Origin>
 
 /// `wc`: bytes and characters are the same, and not both may be asked for.
 pub(crate) fn wc(options: &Options, operands: Texts) -> Option<Command>
-    ensures { result ≡ wc_lem options.now operands }
+    ensures { result ≡ wc_def options.now operands }
 {
     if options.has(b'c') && options.has(b'm') {
         return None;
@@ -192,7 +192,7 @@ pub(crate) fn wc(options: &Options, operands: Texts) -> Option<Command>
 
 /// `wc` of these counts, or of all where none is asked for.
 fn wc_of(lines: bool, words: bool, bytes: bool, operands: Texts) -> Command
-    ensures { result ≡ wc_of_lem lines words bytes operands }
+    ensures { result ≡ wc_of_def lines words bytes operands }
 {
     if lines || words || bytes {
         return Command::Wc(WcArgs {
@@ -212,7 +212,7 @@ fn wc_of(lines: bool, words: bool, bytes: bool, operands: Texts) -> Command
 
 /// `uniq`: at most one operand.
 pub(crate) fn uniq(options: &Options, operands: Texts) -> Option<Command>
-    ensures { result ≡ uniq_lem options.now operands }
+    ensures { result ≡ uniq_def options.now operands }
 {
     if !has_at_most_one(&operands) {
         return None;
@@ -230,7 +230,7 @@ pub(crate) fn uniq(options: &Options, operands: Texts) -> Option<Command>
 
 /// One kind of groups; none where two of the letters are given.
 fn groups_by(counted: bool, repeated: bool, single: bool) -> Option<Groups>
-    ensures { result ≡ groups_by_lem counted repeated single }
+    ensures { result ≡ groups_by_def counted repeated single }
 {
     match (counted, repeated, single) {
         (false, false, false) => Some(Groups::All),
@@ -243,7 +243,7 @@ fn groups_by(counted: bool, repeated: bool, single: bool) -> Option<Groups>
 
 /// Whether there is at most one operand.
 pub fn has_at_most_one(operands: &Texts) -> bool
-    ensures { result ≡ has_at_most_one_lem operands.now }
+    ensures { result ≡ has_at_most_one_def operands.now }
 {
     match operands.as_slice() {
         [] | [_] => true,

@@ -8,7 +8,7 @@ ghost use Rattle.ut_streams.specs.Streams.{Wrote};
 ghost use Rattle.ut_streams.specs.Utilities.{labelled};
 ghost use Rattle.ut_grep.specs.Grep.{label_in};
 ghost use Rattle.ut_grep.specs.Output.{picked_by};
-ghost use Rattle.ut_grep.specs.Patterns.{first_number as first_number_lem, head_by as head_by_lem, head_of as head_of_lem, is_selected, name_of as name_of_lem, selects, written};
+ghost use Rattle.ut_grep.specs.Patterns.{first_number as first_number_def, head_by as head_by_def, head_of as head_of_def, is_selected, name_of as name_of_def, selects, written};
 ghost use Rattle.ut_grep.specs.Series.{is_silent};
 
 use crate::patterns::read_patterns;
@@ -65,8 +65,8 @@ impl Grep {
 fn selection_of(alloc: Global, args: &GrepArgs, label: &[u8]) -> Result<Selection, Memory>
     ensures test { IfOk result (λ selection. picked_by selection.inverts (answers selection.matcher) ≡ is_selected args.now) }
     ensures report { IfOk result (λ selection. selection.tally.report ≡ args.now.report) }
-    ensures head { IfOk result (λ selection. selection.tally.head.items ≡ head_of_lem args.now label.now) }
-    ensures number { IfOk result (λ selection. selection.tally.number ≡ first_number_lem args.now) }
+    ensures head { IfOk result (λ selection. selection.tally.head.items ≡ head_of_def args.now label.now) }
+    ensures number { IfOk result (λ selection. selection.tally.number ≡ first_number_def args.now) }
     ensures count { IfOk result (λ selection. selection.tally.count ≡ 0) }
     ensures selected { IfOk result (λ selection. selection.tally.selected ≡ false) }
 {
@@ -96,7 +96,7 @@ fn selection_of(alloc: Global, args: &GrepArgs, label: &[u8]) -> Result<Selectio
 
 /// The number of the first line, where lines are numbered.
 fn first_number(args: &GrepArgs) -> Option<u64>
-    ensures { result ≡ first_number_lem args.now }
+    ensures { result ≡ first_number_def args.now }
 {
     if args.numbers { Some(1) } else { None }
 }
@@ -105,7 +105,7 @@ fn first_number(args: &GrepArgs) -> Option<u64>
 ///
 /// `alone` says that no name stands before lines and counts, as with at most one operand.
 fn head_by(alloc: Global, report: Report, alone: bool, label: &[u8]) -> Result<Vec<u8>, Memory>
-    ensures { IfOk result (λ head. head.items ≡ head_by_lem report alone (name_of_lem label.now)) }
+    ensures { IfOk result (λ head. head.items ≡ head_by_def report alone (name_of_def label.now)) }
 {
     let mut head = Vec::new(alloc);
     match report {
@@ -126,7 +126,7 @@ fn head_by(alloc: Global, report: Report, alone: bool, label: &[u8]) -> Result<V
 
 /// The name of an input as it is written.
 fn name_of(label: &[u8]) -> &[u8]
-    ensures { result.now ≡ name_of_lem label.now }
+    ensures { result.now ≡ name_of_def label.now }
 {
     if label.is_empty() || label == b"-".as_slice() {
         return b"(standard input)".as_slice();

@@ -3,7 +3,7 @@ ghost use Rattle.std.specs.Prelude.{◌≡◌, ◌∷◌, ◌++◌, [], None, So
 ghost use Rattle.ps_lines.specs.Texts.{texts_of};
 ghost use Rattle.ut_regex.specs.Several.{trees_of};
 ghost use Rattle.ut_regex.specs.Tree.{Tree, tree};
-ghost use Rattle.ut_grep.specs.Faults.{fault_of as fault_of_lem, first_faulty as first_faulty_lem};
+ghost use Rattle.ut_grep.specs.Faults.{fault_of as fault_of_def, first_faulty as first_faulty_def};
 ghost use Rattle.ut_grep.specs.Patterns.{ArePatterns, AreRead, IsPattern, RefusesFirst, RefusesPattern};
 
 use ps_lines::Memory;
@@ -34,8 +34,8 @@ pub struct Faulty<'pattern> {
 
 /// The first pattern of an invocation that can't be read, if there is one.
 pub fn first_faulty(alloc: Global, inv: &GrepInv) -> Result<Option<Faulty<'_>>, Memory>
-    ensures some { IfOk result (λ found. IfSome found (λ faulty. first_faulty_lem inv.now.args.syntax inv.now.args.patterns ≡ Some (faulty.pattern.now, faulty.fault))) }
-    ensures none { IfOk result (λ found. IfNone found (first_faulty_lem inv.now.args.syntax inv.now.args.patterns ≡ None)) }
+    ensures some { IfOk result (λ found. IfSome found (λ faulty. first_faulty_def inv.now.args.syntax inv.now.args.patterns ≡ Some (faulty.pattern.now, faulty.fault))) }
+    ensures none { IfOk result (λ found. IfNone found (first_faulty_def inv.now.args.syntax inv.now.args.patterns ≡ None)) }
 {
     faulty_among(alloc, inv.args.syntax, inv.args.patterns.as_slice())
 }
@@ -46,8 +46,8 @@ fn faulty_among(
     form: Syntax,
     patterns: &[Vec<u8>],
 ) -> Result<Option<Faulty<'_>>, Memory>
-    ensures some { IfOk result (λ found. IfSome found (λ faulty. first_faulty_lem form (texts_of patterns.now) ≡ Some (faulty.pattern.now, faulty.fault))) }
-    ensures none { IfOk result (λ found. IfNone found (first_faulty_lem form (texts_of patterns.now) ≡ None)) }
+    ensures some { IfOk result (λ found. IfSome found (λ faulty. first_faulty_def form (texts_of patterns.now) ≡ Some (faulty.pattern.now, faulty.fault))) }
+    ensures none { IfOk result (λ found. IfNone found (first_faulty_def form (texts_of patterns.now) ≡ None)) }
 {
     let mut left = patterns;
     while let [pattern, rest @ ..] = left {
@@ -63,7 +63,7 @@ fn faulty_among(
 
 /// The first fault of a pattern.
 fn fault_of(alloc: Global, form: Syntax, pattern: &[u8]) -> Result<Option<ReFault>, Memory>
-    ensures { IfOk result (λ found. found ≡ fault_of_lem form pattern.now) }
+    ensures { IfOk result (λ found. found ≡ fault_of_def form pattern.now) }
 {
     match read_pattern(alloc, form, pattern) {
         Ok(_) => Ok(None),

@@ -1,9 +1,9 @@
 //! What grep writes of lines that are selected.
-ghost use Rattle.std.specs.Prelude.{◌≡◌, ◌+◌, ◌∷◌, ◌++◌, if◌then◌else◌, ℕ, Bool, List, [], length, true, decimal as decimal_lem};
+ghost use Rattle.std.specs.Prelude.{◌≡◌, ◌+◌, ◌∷◌, ◌++◌, if◌then◌else◌, ℕ, Bool, List, [], length, true, decimal as decimal_def};
 ghost use Rattle.std.specs.Result.{is_ok};
 ghost use Rattle.ps_lines.specs.Lines.{is_closed, lines};
 ghost use Rattle.ut_streams.specs.Streams.{Put, Wrote};
-ghost use Rattle.ut_grep.specs.Output.{AllAre, count_shown, number_behind as number_behind_lem, number_shown, is_plain, saturated, selected_from, shown};
+ghost use Rattle.ut_grep.specs.Output.{AllAre, count_shown, number_behind as number_behind_def, number_shown, is_plain, saturated, selected_from, shown};
 
 use memchr::memchr_iter;
 use ps_lines::{Memory, NEWLINE, cut_line, decimal};
@@ -142,7 +142,7 @@ impl Tally {
 
 /// The number of the line behind this one.
 fn next_number(number: Option<u64>) -> Option<u64>
-    ensures { result ≡ number_behind_lem 1 number }
+    ensures { result ≡ number_behind_def 1 number }
 {
     match number {
         Some(number) => Some(number.saturating_add(1)),
@@ -153,7 +153,7 @@ fn next_number(number: Option<u64>) -> Option<u64>
 /// The number of the line behind those of a closed text.
 fn number_behind(number: Option<u64>, block: &[u8]) -> Option<u64>
     requires { is_closed block.now ≡ true }
-    ensures { result ≡ number_behind_lem (length (lines block.now)) number }
+    ensures { result ≡ number_behind_def (length (lines block.now)) number }
 {
     match number {
         Some(number) => Some(number.saturating_add(line_count(block) as u64)),
@@ -246,7 +246,7 @@ fn put_shown(
     out: &mut Vec<u8>,
 ) -> Result<(), Memory>
     ensures wrote { Put (shown head.now number.old line.now) out.old.items out.new.items (is_ok result) }
-    ensures number { number.new ≡ number_behind_lem 1 number.old }
+    ensures number { number.new ≡ number_behind_def 1 number.old }
 {
     let here = *number;
     *number = next_number(here);
@@ -281,7 +281,7 @@ fn put_number(number: Option<u64>, out: &mut Vec<u8>) -> Result<(), Memory>
 /// Appends a number and a byte.
 #[tactic(auto, using(ut_streams::proofs::StreamLemmas::puts))]
 fn put_decimal(number: u64, end: u8, out: &mut Vec<u8>) -> Result<(), Memory>
-    ensures { Put (decimal_lem number ++ end ∷ []) out.old.items out.new.items (is_ok result) }
+    ensures { Put (decimal_def number ++ end ∷ []) out.old.items out.new.items (is_ok result) }
 {
     match decimal(number, out) {
         Ok(()) => put(&[end], out),

@@ -3,7 +3,7 @@ ghost use Rattle.std.specs.Prelude.{◌≡◌, ◌∷◌, ◌++◌, []};
 ghost use Rattle.std.specs.List.{position};
 ghost use Rattle.std.specs.Result.{is_ok};
 ghost use Rattle.ut_streams.specs.Streams.{Put};
-ghost use Rattle.ut_groups.specs.Columns.{behind_count as behind_count_lem, behind_number, behind_space, count_read, counts_line, counts_on, counts_read, is_space, number_before};
+ghost use Rattle.ut_groups.specs.Columns.{behind_count as behind_count_def, behind_number, behind_space, count_read, counts_line, counts_on, counts_read, is_space, number_before};
 ghost use Rattle.ut_groups.specs.Inner.Columns.{column, counts_text};
 ghost use Rattle.ut_groups.specs.Wc.{columns_of};
 
@@ -127,7 +127,7 @@ fn read_line(columns: Columns, line: &[u8]) -> Counts
 /// A count, where it is asked for, and what stands behind it.
 fn read_count(asked: bool, text: &[u8]) -> (u64, &[u8])
     ensures count { result.0 ≡ count_read asked text.now }
-    ensures rest { result.1.now ≡ behind_count_lem asked text.now }
+    ensures rest { result.1.now ≡ behind_count_def asked text.now }
 {
     if asked {
         return cut_number(text);

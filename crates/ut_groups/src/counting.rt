@@ -1,6 +1,6 @@
 //! Counts of 64 bits.
 ghost use Rattle.std.specs.Prelude.{◌≡◌, ◌+◌, ◌≤◌, length};
-ghost use Rattle.ut_groups.specs.Counting.{added, is_word as is_word_lem, newlines as newlines_lem, saturated, saturated_counts, word_begins as word_begins_lem, words_behind};
+ghost use Rattle.ut_groups.specs.Counting.{added, is_word as is_word_def, newlines as newlines_def, saturated, saturated_counts, word_begins as word_begins_def, words_behind};
 ghost use Rattle.ut_groups.specs.Inner.Columns.{last_behind};
 
 use ps_lines::{Class, NEWLINE};
@@ -40,7 +40,7 @@ const BLOCK: usize = 192;
 /// How many newlines the text has.
 #[tactic(auto, using(crate::proofs::CountingLemmas::blocks))]
 pub(crate) fn newlines(text: &[u8]) -> usize
-    ensures { result ≡ newlines_lem text.now }
+    ensures { result ≡ newlines_def text.now }
 {
     let mut count = 0;
     let mut rest = text;
@@ -56,7 +56,7 @@ pub(crate) fn newlines(text: &[u8]) -> usize
 #[tactic(auto, using(crate::proofs::CountingLemmas::blocks))]
 fn newlines_of_block(block: &[u8]) -> u8
     requires { length block.now ≤ BLOCK }
-    ensures { result ≡ newlines_lem block.now }
+    ensures { result ≡ newlines_def block.now }
 {
     let mut count = 0;
     for byte in block {
@@ -100,7 +100,7 @@ fn words_of_block(before: u8, block: &[u8]) -> u8
 /// How many words begin at a byte behind another: one or none.
 #[inline(always)]
 fn word_begins(before: u8, byte: u8) -> u8
-    ensures { result ≡ word_begins_lem before byte }
+    ensures { result ≡ word_begins_def before byte }
 {
     u8::from(is_word(byte) && !is_word(before))
 }
@@ -108,7 +108,7 @@ fn word_begins(before: u8, byte: u8) -> u8
 /// Whether the byte stands in words.
 #[inline(always)]
 fn is_word(byte: u8) -> bool
-    ensures { result ≡ is_word_lem byte }
+    ensures { result ≡ is_word_def byte }
 {
     !Class::Space.has(byte)
 }

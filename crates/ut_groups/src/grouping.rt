@@ -1,5 +1,5 @@
 //! Groups of lines, one after another.
-ghost use Rattle.std.specs.Prelude.{◌≡◌, ◌∷◌, ◌++◌, [], true, decimal as decimal_lem, if◌then◌else◌};
+ghost use Rattle.std.specs.Prelude.{◌≡◌, ◌∷◌, ◌++◌, [], true, decimal as decimal_def, if◌then◌else◌};
 ghost use Rattle.std.specs.Bool.{Decides};
 ghost use Rattle.std.specs.Result.{is_ok};
 ghost use Rattle.ps_lines.specs.Lines.{is_closed};
@@ -258,7 +258,7 @@ fn put_counted(group: &Group<'_>, out: &mut Vec<u8>) -> Result<(), Memory>
 /// Appends a count and a space.
 #[tactic(auto, using(crate::proofs::ColumnLemmas::puts))]
 fn put_count(count: u64, out: &mut Vec<u8>) -> Result<(), Memory>
-    ensures { Put (decimal_lem (saturated count) ++ SPACE ∷ []) out.old.items out.new.items (is_ok result) }
+    ensures { Put (decimal_def (saturated count) ++ SPACE ∷ []) out.old.items out.new.items (is_ok result) }
 {
     match decimal(count, out) {
         Ok(()) => put(&[SPACE], out),

@@ -3,7 +3,7 @@ ghost use Rattle.std.specs.Prelude.{◌≡◌, ◌<◌, ◌≤◌, ◌+◌, ◌*
 ghost use Rattle.std.specs.Int.{trailing_zeros};
 ghost use mir.Syntax.{w64};
 ghost use Rattle.ps_lines.specs.Lines.{has_newline, is_closed};
-ghost use Rattle.ut_groups.specs.Inner.Runs.{BeginsWithRun, common as common_lem};
+ghost use Rattle.ut_groups.specs.Inner.Runs.{BeginsWithRun, common as common_def};
 
 use crate::forms::Group;
 use ps_lines::cut_line;
@@ -64,7 +64,7 @@ fn times(size: usize, count: usize) -> usize
 #[tactic(auto, using(crate::proofs::CommonLemmas::cuts))]
 fn common(one: &[u8], other: &[u8]) -> usize
     requires { length one.now ≤ length other.now }
-    ensures { result ≡ common_lem one.now other.now }
+    ensures { result ≡ common_def one.now other.now }
 {
     if one.len() < 16 {
         return common_bytes(one, other);
@@ -82,7 +82,7 @@ fn common(one: &[u8], other: &[u8]) -> usize
 #[tactic(auto, using(crate::proofs::CommonLemmas::cuts))]
 fn common_blocks(one: &[u8], other: &[u8]) -> usize
     requires { length one.now ≤ length other.now }
-    ensures { result ≡ common_lem one.now other.now }
+    ensures { result ≡ common_def one.now other.now }
 {
     let mut passed = 0;
     let mut rest = one;
@@ -104,7 +104,7 @@ fn common_blocks(one: &[u8], other: &[u8]) -> usize
 /// The same, byte by byte.
 #[tactic(auto, using(crate::proofs::CommonLemmas::bytes))]
 fn common_bytes(one: &[u8], other: &[u8]) -> usize
-    ensures { result ≡ common_lem one.now other.now }
+    ensures { result ≡ common_def one.now other.now }
 {
     let mut count = 0;
     let mut rest = one;
@@ -125,7 +125,7 @@ fn common_bytes(one: &[u8], other: &[u8]) -> usize
 fn common_among_16(one: &[u8], other: &[u8]) -> usize
     requires one { 16 ≤ length one.now }
     requires other { 16 ≤ length other.now }
-    ensures { result ≡ common_lem (take 16 one.now) (take 16 other.now) }
+    ensures { result ≡ common_def (take 16 one.now) (take 16 other.now) }
 {
     lowest_or(
         16,
@@ -140,7 +140,7 @@ fn common_among_16(one: &[u8], other: &[u8]) -> usize
 fn common_among_64(one: &[u8], other: &[u8]) -> usize
     requires one { 64 ≤ length one.now }
     requires other { 64 ≤ length other.now }
-    ensures { result ≡ common_lem (take 64 one.now) (take 64 other.now) }
+    ensures { result ≡ common_def (take 64 one.now) (take 64 other.now) }
 {
     lowest_or(
         64,

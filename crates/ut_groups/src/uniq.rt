@@ -1,10 +1,10 @@
 //! The stream of `uniq`.
 ghost use Rattle.std.specs.Prelude.{◌≡◌, ℕ, List, ◌∷◌, ◌++◌, true, false, OnOk};
 ghost use Rattle.std.specs.Result.{is_ok};
-ghost use Rattle.ps_lines.specs.Lines.{is_closed, lines as lines_lem};
+ghost use Rattle.ps_lines.specs.Lines.{is_closed, lines as lines_def};
 ghost use Rattle.ut_streams.specs.Streams.{Wrote};
 ghost use Rattle.ut_groups.specs.Inner.Open.{due_of, group_at, group_held};
-ghost use Rattle.ut_groups.specs.Uniq.{form_kept as form_kept_lem, groups_kept as groups_kept_lem, groups_of_lines, skip_of as skip_of_lem, uniq_output, uniq_part};
+ghost use Rattle.ut_groups.specs.Uniq.{form_kept as form_kept_def, groups_kept as groups_kept_def, groups_of_lines, skip_of as skip_of_def, uniq_output, uniq_part};
 
 use crate::forms::{Form, Group};
 use crate::grouping::Grouping;
@@ -46,7 +46,7 @@ impl Uniq {
     /// The stream of its aggregate, which is fed the maps of parts, one after another.
     pub fn of_parts(alloc: Global, inv: &UniqInv) -> Uniq
         ensures due { (text : List ℕ) → ⟦<Uniq as Stream>⟧.due result text ≡
-            groups_of_lines (skip_of_lem inv.now.args) (form_kept_lem inv.now.args.groups) (groups_kept_lem inv.now.args.groups) (lines_lem text) }
+            groups_of_lines (skip_of_def inv.now.args) (form_kept_def inv.now.args.groups) (groups_kept_def inv.now.args.groups) (lines_def text) }
         ensures unspent { ⟦<Uniq as Stream>⟧.spent result ≡ false }
     {
         Uniq::of(
@@ -59,7 +59,7 @@ impl Uniq {
 
     /// The stream of the groups of lines of this form.
     fn of(alloc: Global, skip: Skip, form: Form, groups: Groups) -> Uniq
-        ensures due { (text : List ℕ) → ⟦<Uniq as Stream>⟧.due result text ≡ groups_of_lines skip form groups (lines_lem text) }
+        ensures due { (text : List ℕ) → ⟦<Uniq as Stream>⟧.due result text ≡ groups_of_lines skip form groups (lines_def text) }
         ensures unspent { ⟦<Uniq as Stream>⟧.spent result ≡ false }
     {
         let grouping = Grouping { skip, form, groups };
@@ -141,7 +141,7 @@ impl GroupLines {
     fn go_on(&mut self, text: &[u8], out: &mut Vec<u8>) -> Result<(), Memory>
         requires opened { self.old.is_open ≡ true }
         requires closed { is_closed text.now ≡ true }
-        ensures { Wrote (λ more. due_of self.old.grouping self.old.is_open (group_held self.old.first.items self.old.count) (lines_lem text.now ++ more))
+        ensures { Wrote (λ more. due_of self.old.grouping self.old.is_open (group_held self.old.first.items self.old.count) (lines_def text.now ++ more))
             (λ more. due_of self.new.grouping self.new.is_open (group_held self.new.first.items self.new.count) more) out.old.items out.new.items (is_ok result) }
     {
         let held = mem::replace(&mut self.first, Vec::new(self.alloc));
@@ -234,7 +234,7 @@ impl LineStream for GroupLines {
 
 /// What a comparison skips.
 pub(crate) fn skip_of(args: &UniqArgs) -> Skip
-    ensures { result ≡ skip_of_lem args.now }
+    ensures { result ≡ skip_of_def args.now }
 {
     Skip {
         fields: args.fields,
@@ -244,7 +244,7 @@ pub(crate) fn skip_of(args: &UniqArgs) -> Skip
 
 /// What the map of these groups writes.
 fn groups_kept(groups: Groups) -> Groups
-    ensures { result ≡ groups_kept_lem groups }
+    ensures { result ≡ groups_kept_def groups }
 {
     match groups {
         Groups::All => Groups::All,
@@ -254,7 +254,7 @@ fn groups_kept(groups: Groups) -> Groups
 
 /// What the lines of that map are.
 fn form_kept(groups: Groups) -> Form
-    ensures { result ≡ form_kept_lem groups }
+    ensures { result ≡ form_kept_def groups }
 {
     match groups {
         Groups::All => Form::Plain,

@@ -5,11 +5,11 @@ ghost use Rattle.std.specs.Result.{is_ok};
 ghost use Rattle.ut_args.specs.Inputs.{is_named};
 ghost use Rattle.ut_streams.specs.Streams.{Put, Wrote};
 ghost use Rattle.ut_streams.specs.Utilities.{labelled};
-ghost use Rattle.ut_groups.specs.Counting.{counts_of, newlines as newlines_lem, saturated, words_behind};
+ghost use Rattle.ut_groups.specs.Counting.{counts_of, newlines as newlines_def, saturated, words_behind};
 ghost use Rattle.ut_groups.specs.Columns.{counts_line};
 ghost use Rattle.ut_groups.specs.Inner.Columns.{counts_behind, last_behind};
 ghost use Rattle.ut_groups.specs.Inner.Series.{PrintAlike, total_line, wc_due};
-ghost use Rattle.ut_groups.specs.Wc.{name_in as name_in_lem, wc_line, wc_output};
+ghost use Rattle.ut_groups.specs.Wc.{name_in as name_in_def, wc_line, wc_output};
 
 use crate::columns::{Columns, put_counts};
 use crate::counting::{Counts, SPACE, add_counts, add_sat, last_byte, newlines, words};
@@ -187,7 +187,7 @@ fn put_total(
 
 /// A copy of the name of the one input of an invocation with at most one operand, where it has one.
 pub(crate) fn name_of(alloc: Global, args: &WcArgs) -> Result<Vec<u8>, Memory>
-    ensures { IfOk result (λ name. name.items ≡ name_in_lem args.now.operands) }
+    ensures { IfOk result (λ name. name.items ≡ name_in_def args.now.operands) }
 {
     Ok(Vec::from_slice(alloc, first_name(&args.operands))?)
 }
@@ -214,7 +214,7 @@ fn counted(columns: Columns, counts: Counts, before: u8, piece: &[u8]) -> Counts
 
 /// The newlines with those of a piece, where they are asked for.
 fn lines_with(asked: bool, count: u64, piece: &[u8]) -> u64
-    ensures { asked ≡ true → result ≡ saturated (count + newlines_lem piece.now) }
+    ensures { asked ≡ true → result ≡ saturated (count + newlines_def piece.now) }
 {
     if asked {
         return add_sat(count, newlines(piece) as u64);

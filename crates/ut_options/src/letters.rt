@@ -1,6 +1,6 @@
 //! The option letters of a command.
 ghost use Rattle.std.specs.Prelude.{◌≡◌};
-ghost use Rattle.ut_options.specs.Rows.{is_among as is_among_lem, row_of, takes};
+ghost use Rattle.ut_options.specs.Rows.{is_among as is_among_def, row_of, takes};
 
 /// The option letters of a command. Every byte may be one.
 #[derive(Clone, Copy, Debug)]
@@ -41,7 +41,7 @@ impl Letters {
 
 /// Whether the byte is one of the letters.
 pub(crate) fn is_among(letters: &[u8], letter: u8) -> bool
-    ensures { result ≡ is_among_lem letters.now letter }
+    ensures { result ≡ is_among_def letters.now letter }
 {
     letters.contains(&letter)
 }

@@ -4,7 +4,7 @@ ghost use Rattle.std.specs.Str.{all_ascii_digits, bytes_eq};
 ghost use Rattle.ps_lines.specs.Lines.{is_empty};
 ghost use Rattle.ps_lines.specs.Texts.{texts_of};
 ghost use Rattle.ut_options.specs.Rows.{row_of};
-ghost use Rattle.ut_options.specs.Scanning.{begins_with_hyphen as begins_with_hyphen_lem, is_count as is_count_lem, is_operand as is_operand_lem, letters_given, letters_step, scanned, word_given, word_step};
+ghost use Rattle.ut_options.specs.Scanning.{begins_with_hyphen as begins_with_hyphen_def, is_count as is_count_def, is_operand as is_operand_def, letters_given, letters_step, scanned, word_given, word_step};
 
 use crate::given::Options;
 use crate::letters::{Letters, Takes};
@@ -103,7 +103,7 @@ fn read_options(
     letters: &Letters,
     word: &[u8],
 ) -> Result<Step, Memory>
-    requires no_operand { is_operand_lem word.now ≡ false }
+    requires no_operand { is_operand_def word.now ≡ false }
     requires no_end { bytes_eq word.now (codes "--") ≡ false }
     ensures step { IfOk result (λ step. step ≡ word_step (row_of letters.now) None word.now) }
     ensures options { OnOk result (options.new ≡ options.old ++ word_given (row_of letters.now) None word.now) }
@@ -159,14 +159,14 @@ fn read_argument(
 
 /// Whether the word begins with no hyphen, or is one alone (XBD 12.2, guideline 13).
 fn is_operand(word: &[u8]) -> bool
-    ensures { result ≡ is_operand_lem word.now }
+    ensures { result ≡ is_operand_def word.now }
 {
     !begins_with_hyphen(word) || word == b"-".as_slice()
 }
 
 /// Whether the word begins with a hyphen.
 fn begins_with_hyphen(word: &[u8]) -> bool
-    ensures { result ≡ begins_with_hyphen_lem word.now }
+    ensures { result ≡ begins_with_hyphen_def word.now }
 {
     match word {
         [byte, ..] => *byte == b'-',
@@ -176,7 +176,7 @@ fn begins_with_hyphen(word: &[u8]) -> bool
 
 /// Whether the bytes behind a hyphen are a count.
 fn is_count(letters: &Letters, behind_hyphen: &[u8]) -> bool
-    ensures { result ≡ is_count_lem (row_of letters.now) behind_hyphen.now }
+    ensures { result ≡ is_count_def (row_of letters.now) behind_hyphen.now }
 {
     letters.counts && !behind_hyphen.is_empty() && are_digits(behind_hyphen)
 }

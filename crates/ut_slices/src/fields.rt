@@ -1,6 +1,6 @@
 //! The fields of a line.
 ghost use Rattle.std.specs.Prelude.{◌≡◌, ◌<◌, ◌≤◌, IfNone, IfSome, length};
-ghost use Rattle.ut_slices.specs.Cut.{fields, has_delimiter as has_delimiter_lem};
+ghost use Rattle.ut_slices.specs.Cut.{fields, has_delimiter as has_delimiter_def};
 ghost use Rattle.ut_slices.specs.Inner.Runs.{CutsAtDelimiter, CutsField};
 
 use memchr::memchr;
@@ -38,7 +38,7 @@ pub(crate) fn cut_field(delimiter: u8, text: &[u8]) -> Option<(&[u8], &[u8])>
 
 /// Whether the delimiter is among the bytes.
 pub(crate) fn has_delimiter(delimiter: u8, line: &[u8]) -> bool
-    ensures { result ≡ has_delimiter_lem delimiter line.now }
+    ensures { result ≡ has_delimiter_def delimiter line.now }
 {
     memchr(delimiter, line).is_some()
 }

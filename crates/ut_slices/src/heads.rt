@@ -6,7 +6,7 @@ ghost use Rattle.ut_args.specs.Inputs.{is_named};
 ghost use Rattle.ut_streams.specs.Streams.{Put, Wrote};
 ghost use Rattle.ut_streams.specs.Utilities.{labelled};
 ghost use Rattle.ut_slices.specs.Ends.{first_lines};
-ghost use Rattle.ut_slices.specs.Head.{head_output, header, input_name as input_name_lem};
+ghost use Rattle.ut_slices.specs.Head.{head_output, header, input_name as input_name_def};
 ghost use Rattle.ut_slices.specs.Inner.Heads.{header_by};
 
 use crate::ends::pass_lines;
@@ -229,7 +229,7 @@ fn put_header_end(name: &[u8], out: &mut Vec<u8>) -> Result<(), Memory>
 
 /// The name of an input as it is written.
 fn input_name(label: &[u8]) -> &[u8]
-    ensures { result.now ≡ input_name_lem label.now }
+    ensures { result.now ≡ input_name_def label.now }
 {
     if label == b"-".as_slice() {
         return b"standard input".as_slice();

@@ -1,6 +1,6 @@
 //! The ranges of cut as runs of neighbouring places, all selected or none.
 ghost use Rattle.std.specs.Prelude.{◌≡◌, ◌<◌, ◌≤◌, ◌+◌, ℕ, true, IfOk, IfSome};
-ghost use Rattle.ut_slices.specs.Cut.{is_selected as is_selected_lem, range_has as range_has_lem};
+ghost use Rattle.ut_slices.specs.Cut.{is_selected as is_selected_def, range_has as range_has_def};
 ghost use Rattle.ut_slices.specs.Inner.Runs.{in_runs, is_before};
 
 use crate::selections::{Run, Runs};
@@ -10,7 +10,7 @@ use ut_args::Range;
 
 /// The runs of ranges.
 pub(crate) fn runs_of(alloc: Global, ranges: &[Range]) -> Result<Runs, Memory>
-    ensures { IfOk result (λ runs. (index : ℕ) → in_runs runs.runs.items runs.rest index ≡ is_selected_lem ranges.now index) }
+    ensures { IfOk result (λ runs. (index : ℕ) → in_runs runs.runs.items runs.rest index ≡ is_selected_def ranges.now index) }
 {
     let mut runs = Vec::new(alloc);
     let mut from = 0;
@@ -29,7 +29,7 @@ pub(crate) fn runs_of(alloc: Global, ranges: &[Range]) -> Result<Runs, Memory>
 
 /// Whether some range has the place, counted from 0.
 fn is_selected(ranges: &[Range], index: u64) -> bool
-    ensures { result ≡ is_selected_lem ranges.now index }
+    ensures { result ≡ is_selected_def ranges.now index }
 {
     let mut left = ranges;
     while let [range, others @ ..] = left {
@@ -42,7 +42,7 @@ fn is_selected(ranges: &[Range], index: u64) -> bool
 }
 
 fn range_has(range: Range, index: u64) -> bool
-    ensures { result ≡ range_has_lem range (index + 1) }
+    ensures { result ≡ range_has_def range (index + 1) }
 {
     if range.from > 0 && range.from - 1 > index {
         return false;
@@ -56,7 +56,7 @@ fn range_has(range: Range, index: u64) -> bool
 /// The next place at which a range begins or has ended: up to there all are selected as this one is.
 fn next_end(ranges: &[Range], from: u64) -> Option<u64>
     ensures later { IfSome result (λ end. from < end) }
-    ensures same { (index : ℕ) → from ≤ index → is_before index result ≡ true → is_selected_lem ranges.now index ≡ is_selected_lem ranges.now from }
+    ensures same { (index : ℕ) → from ≤ index → is_before index result ≡ true → is_selected_def ranges.now index ≡ is_selected_def ranges.now from }
 {
     let mut end = None;
     let mut left = ranges;
@@ -72,7 +72,7 @@ fn end_before(range: Range, from: u64, end: Option<u64>) -> Option<u64>
     requires later { IfSome end (λ end. from < end) }
     ensures later { IfSome result (λ end. from < end) }
     ensures before { (index : ℕ) → is_before index result ≡ true → is_before index end ≡ true }
-    ensures same { (index : ℕ) → from ≤ index → is_before index result ≡ true → range_has_lem range (index + 1) ≡ range_has_lem range (from + 1) }
+    ensures same { (index : ℕ) → from ≤ index → is_before index result ≡ true → range_has_def range (index + 1) ≡ range_has_def range (from + 1) }
 {
     let begun = earlier(range.from.saturating_sub(1), from, end);
     match range.to {

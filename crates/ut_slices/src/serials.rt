@@ -4,7 +4,7 @@ ghost use Rattle.std.specs.List.{flat_map};
 ghost use Rattle.std.specs.Result.{is_ok};
 ghost use Rattle.ps_lines.specs.Lines.{has_newline, lines};
 ghost use Rattle.ut_streams.specs.Streams.{Put, Wrote};
-ghost use Rattle.ut_slices.specs.Paste.{first_delimiter, row as row_lem};
+ghost use Rattle.ut_slices.specs.Paste.{first_delimiter, row as row_def};
 ghost use Rattle.ut_slices.specs.Inner.Serials.{delimiters_behind, row_left};
 
 use crate::delimiters::{behind_none, next_place, put_delimiter};
@@ -36,7 +36,7 @@ impl Serial {
     /// The series of these arguments, from the beginning of its inputs.
     #[tactic(auto, using(crate::proofs::SerialLemmas::begins))]
     pub fn new(alloc: Global, args: &PasteArgs) -> Result<Serial, Memory>
-        ensures due { IfOk result (λ serial. (texts : List (List ℕ)) → ⟦<Serial as Series>⟧.due serial texts ≡ flat_map (λ text. row_lem args.now.delimiters (lines text)) texts) }
+        ensures due { IfOk result (λ serial. (texts : List (List ℕ)) → ⟦<Serial as Series>⟧.due serial texts ≡ flat_map (λ text. row_def args.now.delimiters (lines text)) texts) }
         ensures selects { IfOk result (λ serial. (texts : List (List ℕ)) → ⟦<Serial as Series>⟧.selects serial texts ≡ false) }
         ensures unspent { IfOk result (λ serial. ⟦<Serial as Series>⟧.spent serial ≡ false) }
     {

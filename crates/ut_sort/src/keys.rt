@@ -1,6 +1,6 @@
 //! The keys of lines, and how two are compared.
 ghost use Rattle.std.specs.Prelude.{◌≡◌, ◌-◌, drop};
-ghost use Rattle.ut_sort.specs.Keys.{bytes_cmp, counted_in as counted_in_lem, end_in_field, end_with as end_with_lem, end_with_if as end_with_if_lem, folded, has_letters as has_letters_lem, key_cmp, key_in as key_in_lem, keys_cmp, letters_of as letters_of_lem, texts_cmp, whole_line as whole_line_lem, with_global as with_global_lem};
+ghost use Rattle.ut_sort.specs.Keys.{bytes_cmp, counted_in as counted_in_def, end_in_field, end_with as end_with_def, end_with_if as end_with_if_def, folded, has_letters as has_letters_def, key_cmp, key_in as key_in_def, keys_cmp, letters_of as letters_of_def, texts_cmp, whole_line as whole_line_def, with_global as with_global_def};
 
 use crate::numbers::compare_numbers;
 use std::cmp::Ordering;
@@ -9,7 +9,7 @@ use ut_fields::{behind_blanks, behind_fields, field_end, up_to};
 
 /// The letters of a key: those at both its ends.
 pub(crate) fn letters_of(key: &Key) -> Letters
-    ensures { result ≡ letters_of_lem key.now }
+    ensures { result ≡ letters_of_def key.now }
 {
     let start = key.start.letters;
     match key.end {
@@ -25,14 +25,14 @@ pub(crate) fn letters_of(key: &Key) -> Letters
 
 /// Whether there are letters.
 fn has_letters(letters: Letters) -> bool
-    ensures { result ≡ has_letters_lem letters }
+    ensures { result ≡ has_letters_def letters }
 {
     letters.blanks || letters.fold || letters.numeric || letters.reverse
 }
 
 /// The key with the global letters where it has none.
 pub(crate) fn with_global(global: Letters, key: &Key) -> Key
-    ensures { result ≡ with_global_lem global key.now }
+    ensures { result ≡ with_global_def global key.now }
 {
     if has_letters(letters_of(key)) {
         *key
@@ -46,7 +46,7 @@ pub(crate) fn with_global(global: Letters, key: &Key) -> Key
 
 /// An end of a key with these letters.
 fn end_with(letters: Letters, place: KeyEnd) -> KeyEnd
-    ensures { result ≡ end_with_lem letters place }
+    ensures { result ≡ end_with_def letters place }
 {
     KeyEnd {
         field: place.field,
@@ -57,7 +57,7 @@ fn end_with(letters: Letters, place: KeyEnd) -> KeyEnd
 
 /// The same, where a key has an end.
 fn end_with_if(letters: Letters, place: Option<KeyEnd>) -> Option<KeyEnd>
-    ensures { result ≡ end_with_if_lem letters place }
+    ensures { result ≡ end_with_if_def letters place }
 {
     match place {
         None => None,
@@ -67,7 +67,7 @@ fn end_with_if(letters: Letters, place: Option<KeyEnd>) -> Option<KeyEnd>
 
 /// The key that a whole line is, with the blanks that it begins with.
 pub(crate) fn whole_line(global: Letters) -> Key
-    ensures { result ≡ whole_line_lem global }
+    ensures { result ≡ whole_line_def global }
 {
     Key {
         start: KeyEnd {
@@ -86,7 +86,7 @@ pub(crate) fn whole_line(global: Letters) -> Key
 
 /// Where one end of a key counts its bytes from, in its field.
 fn counted_in<'t>(place: &KeyEnd, field: &'t [u8]) -> &'t [u8]
-    ensures { result.now ≡ counted_in_lem place.now field.now }
+    ensures { result.now ≡ counted_in_def place.now field.now }
 {
     if place.letters.blanks {
         behind_blanks(field)
@@ -108,7 +108,7 @@ pub(crate) fn behind_bytes(count: u64, text: &[u8]) -> &[u8]
 
 /// Where a key begins, in its field.
 fn start_in<'t>(start: &KeyEnd, field: &'t [u8]) -> &'t [u8]
-    ensures { result.now ≡ drop (start.now.byte - 1) (counted_in_lem start.now field.now) }
+    ensures { result.now ≡ drop (start.now.byte - 1) (counted_in_def start.now field.now) }
 {
     behind_bytes(start.byte.saturating_sub(1), counted_in(start, field))
 }
@@ -126,7 +126,7 @@ fn end_in<'t>(separator: Option<u8>, end: &KeyEnd, field: &'t [u8]) -> &'t [u8]
 
 /// The bytes of a key in a line; none where its first field isn't there. A field that both ends count from is sought once.
 pub(crate) fn key_in<'t>(separator: Option<u8>, key: &Key, line: &'t [u8]) -> &'t [u8]
-    ensures { result.now ≡ key_in_lem separator key.now line.now }
+    ensures { result.now ≡ key_in_def separator key.now line.now }
 {
     let field = behind_fields(separator, key.start.field.saturating_sub(1), line);
     let start = start_in(&key.start, field);

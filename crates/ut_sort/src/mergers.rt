@@ -5,7 +5,7 @@ ghost use Rattle.ut_streams.specs.Streams.{comes_before, ends_at, Wrote};
 ghost use Rattle.ut_sort.specs.LineOrders.{cmp_by};
 ghost use Rattle.ut_sort.specs.Merging.{merged_of};
 ghost use Rattle.ut_sort.specs.Order.{order_of};
-ghost use Rattle.ut_sort.specs.Sides.{due_of, first_waiting as first_waiting_lem, is_open_at, total_held, Goes, IsSettled};
+ghost use Rattle.ut_sort.specs.Sides.{due_of, first_waiting as first_waiting_def, is_open_at, total_held, Goes, IsSettled};
 
 use crate::choices::{Choice, choose};
 use crate::line_orders::LineOrder;
@@ -50,7 +50,7 @@ impl Merger {
 impl PortStream for Merger {
     ghost due = { λ merger. due_of (cmp_by merger.order) merger.order.unique merger.sides.items };
 
-    ghost wanted = { λ merger. first_waiting_lem 0 merger.sides.items };
+    ghost wanted = { λ merger. first_waiting_def 0 merger.sides.items };
 
     ghost open_at = { λ merger port. is_open_at merger.sides.items port };
 
@@ -90,7 +90,7 @@ fn feed(
     piece: &[u8],
     out: &mut Vec<u8>,
 ) -> Result<(), Memory>
-    requires waiting { first_waiting_lem 0 sides.old.items ≡ Some port }
+    requires waiting { first_waiting_def 0 sides.old.items ≡ Some port }
     ensures wrote { Wrote (λ texts. due_of (cmp_by order.now) order.now.unique sides.old.items (comes_before port piece.now texts)) (due_of (cmp_by order.now) order.now.unique sides.new.items) out.old.items out.new.items (is_ok result) }
     ensures opens { (other : ℕ) → is_open_at sides.new.items other ≡ is_open_at sides.old.items other }
     ensures counted { length sides.new.items ≡ length sides.old.items }
@@ -110,7 +110,7 @@ fn end_at(
     port: u32,
     out: &mut Vec<u8>,
 ) -> Result<(), Memory>
-    requires waiting { first_waiting_lem 0 sides.old.items ≡ Some port }
+    requires waiting { first_waiting_def 0 sides.old.items ≡ Some port }
     ensures wrote { Wrote (λ texts. due_of (cmp_by order.now) order.now.unique sides.old.items (ends_at port texts)) (due_of (cmp_by order.now) order.now.unique sides.new.items) out.old.items out.new.items (is_ok result) }
     ensures opens { (other : ℕ) → is_open_at sides.new.items other ≡ (if other == port then false else is_open_at sides.old.items other) }
     ensures counted { length sides.new.items ≡ length sides.old.items }

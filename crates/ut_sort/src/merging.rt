@@ -4,7 +4,7 @@ ghost use Rattle.std.specs.Result.{is_ok};
 ghost use Rattle.ps_lines.specs.Lines.{has_newline, is_closed};
 ghost use Rattle.ut_streams.specs.Streams.{Put, Wrote};
 ghost use Rattle.ut_sort.specs.LineOrders.{cmp_by};
-ghost use Rattle.ut_sort.specs.Merging.{merged_texts, merged_with, step_of as step_of_lem};
+ghost use Rattle.ut_sort.specs.Merging.{merged_texts, merged_with, step_of as step_of_def};
 ghost use Rattle.ut_sort.specs.Order.{order_of};
 
 use crate::line_orders::LineOrder;
@@ -79,21 +79,21 @@ pub fn merge_some<'t>(
 
 /// What is done with the first line of each side.
 fn step_of(inv: &SortInv, line: &[u8], other: &[u8]) -> Step
-    ensures { result ≡ step_of_lem inv.now.args.unique (order_of inv.now.args line.now other.now) }
+    ensures { result ≡ step_of_def inv.now.args.unique (order_of inv.now.args line.now other.now) }
 {
     step_for(inv.args.unique, order(inv, line, other))
 }
 
 /// The same, in an order that is kept.
 pub(crate) fn step_by(order: &LineOrder, line: &[u8], other: &[u8]) -> Step
-    ensures { result ≡ step_of_lem order.now.unique (cmp_by order.now line.now other.now) }
+    ensures { result ≡ step_of_def order.now.unique (cmp_by order.now line.now other.now) }
 {
     step_for(order.unique, order.compare(line, other))
 }
 
 /// What is done with two first lines of this order.
 fn step_for(unique: bool, order: Ordering) -> Step
-    ensures { result ≡ step_of_lem unique order }
+    ensures { result ≡ step_of_def unique order }
 {
     match order {
         Ordering::Less => Step::PutLeft,

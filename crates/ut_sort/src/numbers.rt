@@ -5,7 +5,7 @@ ghost use Rattle.std.specs.Char.{is_ascii_digit};
 ghost use Rattle.std.specs.Ordering.{nat_cmp};
 ghost use Rattle.std.specs.Str.Parse.{digits_value};
 ghost use Rattle.ut_args.specs.Keys.{behind_digits, digits_front};
-ghost use Rattle.ut_sort.specs.Numbers.{above_sign as above_sign_lem, begins as begins_lem, behind_first as behind_first_lem, below_sign as below_sign_lem, fraction_behind as fraction_behind_lem, numbers_cmp, sizes_cmp, without_end_zeros as without_end_zeros_lem};
+ghost use Rattle.ut_sort.specs.Numbers.{above_sign as above_sign_def, begins as begins_def, behind_first as behind_first_def, below_sign as below_sign_def, fraction_behind as fraction_behind_def, numbers_cmp, sizes_cmp, without_end_zeros as without_end_zeros_def};
 
 use std::cmp::Ordering;
 use ut_fields::behind_blanks;
@@ -33,14 +33,14 @@ pub(crate) fn compare_numbers(one: &[u8], other: &[u8]) -> Ordering
 
 /// How far a number is above zero.
 pub(crate) fn above_sign(text: &[u8]) -> &[u8]
-    ensures { result.now ≡ above_sign_lem text.now }
+    ensures { result.now ≡ above_sign_def text.now }
 {
     if begins(MINUS, text) { &[] } else { text }
 }
 
 /// How far a number is below zero.
 pub(crate) fn below_sign(text: &[u8]) -> &[u8]
-    ensures { result.now ≡ below_sign_lem text.now }
+    ensures { result.now ≡ below_sign_def text.now }
 {
     if begins(MINUS, text) {
         behind_first(text)
@@ -51,7 +51,7 @@ pub(crate) fn below_sign(text: &[u8]) -> &[u8]
 
 /// Whether the text begins with this byte.
 fn begins(wanted: u8, text: &[u8]) -> bool
-    ensures { result ≡ begins_lem wanted text.now }
+    ensures { result ≡ begins_def wanted text.now }
 {
     match text {
         [] => false,
@@ -61,7 +61,7 @@ fn begins(wanted: u8, text: &[u8]) -> bool
 
 /// The text behind its first byte.
 fn behind_first(text: &[u8]) -> &[u8]
-    ensures { result.now ≡ behind_first_lem text.now }
+    ensures { result.now ≡ behind_first_def text.now }
 {
     match text {
         [] => text,
@@ -101,7 +101,7 @@ pub(crate) fn split_digits(text: &[u8]) -> (&[u8], &[u8])
 
 /// The digits of a fraction behind a point, without zeros at their end.
 pub(crate) fn fraction_behind(rest: &[u8]) -> &[u8]
-    ensures { result.now ≡ fraction_behind_lem rest.now }
+    ensures { result.now ≡ fraction_behind_def rest.now }
 {
     if begins(POINT, rest) {
         let (digits, _) = split_digits(behind_first(rest));
@@ -114,7 +114,7 @@ pub(crate) fn fraction_behind(rest: &[u8]) -> &[u8]
 /// The digits without zeros at their end.
 #[tactic(auto, using(crate::proofs::NumberLemmas::end_zeros))]
 fn without_end_zeros(digits: &[u8]) -> &[u8]
-    ensures { result.now ≡ without_end_zeros_lem digits.now }
+    ensures { result.now ≡ without_end_zeros_def digits.now }
 {
     let mut left = digits;
     while let Some((digit, front)) = left.split_last() {
@@ -131,7 +131,7 @@ fn without_front_zeros(digits: &[u8]) -> &[u8]
     requires { list_all is_ascii_digit digits.now ≡ true }
     ensures digits { list_all is_ascii_digit result.now ≡ true }
     ensures value { digits_value 10 result.now ≡ digits_value 10 digits.now }
-    ensures first { begins_lem ZERO result.now ≡ false }
+    ensures first { begins_def ZERO result.now ≡ false }
 {
     let mut left = digits;
     while let [digit, rest @ ..] = left {

@@ -1,8 +1,8 @@
 //! The order of lines.
 ghost use Rattle.std.specs.Prelude.{◌≡◌, drop, map, IfOk};
-ghost use Rattle.ut_sort.specs.Keys.{keys_cmp, keys_in_force as keys_in_force_lem, with_global as with_global_lem};
+ghost use Rattle.ut_sort.specs.Keys.{keys_cmp, keys_in_force as keys_in_force_def, with_global as with_global_def};
 ghost use Rattle.ut_sort.specs.LineOrders.{cmp_by, number_by, rest_by, tied_by};
-ghost use Rattle.ut_sort.specs.Prefixes.{FirstKey, begins_whole as begins_whole_lem, first_letters as first_letters_lem, is_whole_key as is_whole_key_lem, no_letters};
+ghost use Rattle.ut_sort.specs.Prefixes.{FirstKey, begins_whole as begins_whole_def, first_letters as first_letters_def, is_whole_key as is_whole_key_def, no_letters};
 ghost use Rattle.ut_sort.specs.Order.{last_cmp, order_of};
 
 use crate::keys::{compare_key, compare_keys, letters_of, whole_line, with_global};
@@ -41,7 +41,7 @@ fn compare_in_force(
     one: &[u8],
     other: &[u8],
 ) -> Ordering
-    ensures { result ≡ keys_cmp separator (keys_in_force_lem global keys.now) one.now other.now }
+    ensures { result ≡ keys_cmp separator (keys_in_force_def global keys.now) one.now other.now }
 {
     if keys.is_empty() {
         return compare_keys(separator, slice::from_ref(&whole_line(global)), one, other);
@@ -57,7 +57,7 @@ fn compare_each(
     one: &[u8],
     other: &[u8],
 ) -> Ordering
-    ensures { result ≡ keys_cmp separator (map (with_global_lem global) keys.now) one.now other.now }
+    ensures { result ≡ keys_cmp separator (map (with_global_def global) keys.now) one.now other.now }
 {
     let mut left = keys;
     while let [key, rest @ ..] = left {
@@ -87,7 +87,7 @@ pub(crate) fn compare_last(unique: bool, reverse: bool, one: &[u8], other: &[u8]
 impl LineOrder {
     /// The order of the lines of this invocation.
     pub(crate) fn new(alloc: Global, args: &SortArgs) -> Result<LineOrder, Memory>
-        ensures keys { IfOk result (λ order. order.keys.items ≡ keys_in_force_lem args.now.ordering args.now.keys) }
+        ensures keys { IfOk result (λ order. order.keys.items ≡ keys_in_force_def args.now.ordering args.now.keys) }
         ensures separator { IfOk result (λ order. order.separator ≡ args.now.separator) }
         ensures unique { IfOk result (λ order. order.unique ≡ args.now.unique) }
         ensures reverse { IfOk result (λ order. order.reverse ≡ args.now.ordering.reverse) }
@@ -168,7 +168,7 @@ fn behind_first_key(keys: &[Key]) -> &[Key]
 
 /// The letters of the first key; none where there is no key.
 fn first_letters(keys: &[Key]) -> Letters
-    ensures { result ≡ first_letters_lem keys.now }
+    ensures { result ≡ first_letters_def keys.now }
 {
     match keys {
         [] => Letters {
@@ -183,7 +183,7 @@ fn first_letters(keys: &[Key]) -> Letters
 
 /// Whether the first key is the line as it stands.
 fn begins_whole(keys: &[Key]) -> bool
-    ensures { result ≡ begins_whole_lem keys.now }
+    ensures { result ≡ begins_whole_def keys.now }
 {
     match keys {
         [] => false,
@@ -193,7 +193,7 @@ fn begins_whole(keys: &[Key]) -> bool
 
 /// Whether a key is the line as it stands.
 fn is_whole_key(key: &Key) -> bool
-    ensures { result ≡ is_whole_key_lem key.now }
+    ensures { result ≡ is_whole_key_def key.now }
 {
     let start = key.start;
     start.field == 1
@@ -206,7 +206,7 @@ fn is_whole_key(key: &Key) -> bool
 
 /// The keys with the letters that count for them, or the whole line where there are none.
 fn keys_in_force(alloc: Global, global: Letters, keys: &[Key]) -> Result<Vec<Key>, Memory>
-    ensures { IfOk result (λ found. found.items ≡ keys_in_force_lem global keys.now) }
+    ensures { IfOk result (λ found. found.items ≡ keys_in_force_def global keys.now) }
 {
     if keys.is_empty() {
         return Ok(Vec::from_slice(alloc, &[whole_line(global)])?);
@@ -216,7 +216,7 @@ fn keys_in_force(alloc: Global, global: Letters, keys: &[Key]) -> Result<Vec<Key
 
 /// Each of the keys with the letters that count for it.
 fn each_with_global(alloc: Global, global: Letters, keys: &[Key]) -> Result<Vec<Key>, Memory>
-    ensures { IfOk result (λ found. found.items ≡ map (with_global_lem global) keys.now) }
+    ensures { IfOk result (λ found. found.items ≡ map (with_global_def global) keys.now) }
 {
     let mut found = Vec::new(alloc);
     for key in keys {

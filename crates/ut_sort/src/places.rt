@@ -1,8 +1,8 @@
 //! The lines of a text by where they stand in it, each with its number, and their sorting.
 ghost use Rattle.std.specs.Prelude.{◌≡◌, ◌+◌, ◌-◌, ◌*◌, ◌≤◌, ◌++◌, ◌∷◌, [], drop, length, take, IfOk, OnOk};
-ghost use Rattle.ps_lines.specs.Lines.{lines as lines_lem};
+ghost use Rattle.ps_lines.specs.Lines.{lines as lines_def};
 ghost use Rattle.ut_sort.specs.LineOrders.{sorted_by};
-ghost use Rattle.ut_sort.specs.Places.{ArePlaces, RiseTo, first_line as first_line_lem, line_in as line_in_lem, lines_in, place_cmp, tie_cmp};
+ghost use Rattle.ut_sort.specs.Places.{ArePlaces, RiseTo, first_line as first_line_def, line_in as line_in_def, lines_in, place_cmp, tie_cmp};
 
 use crate::arranging::arrange;
 use crate::keys::behind_bytes;
@@ -35,7 +35,7 @@ pub(crate) fn sorted_places(
     alloc: Global,
     text: &[u8],
 ) -> Result<Vec<Place>, Memory>
-    ensures { IfOk result (λ places. lines_in text.now places.items ≡ sorted_by order.now (lines_lem text.now)) }
+    ensures { IfOk result (λ places. lines_in text.now places.items ≡ sorted_by order.now (lines_def text.now)) }
 {
     let mut places = places_of(order, alloc, text)?;
     sort_places(order, text, &mut places);
@@ -44,7 +44,7 @@ pub(crate) fn sorted_places(
 
 /// The places of the lines of a text; a last line that no newline ends counts too.
 fn places_of(order: &LineOrder, alloc: Global, text: &[u8]) -> Result<Vec<Place>, Memory>
-    ensures lines { IfOk result (λ places. lines_in text.now places.items ≡ lines_lem text.now) }
+    ensures lines { IfOk result (λ places. lines_in text.now places.items ≡ lines_def text.now) }
     ensures places { IfOk result (λ places. ArePlaces order.now text.now places.items) }
     ensures rise { IfOk result (λ places. RiseTo (SIZES * (length text.now + 1)) places.items) }
 {
@@ -71,7 +71,7 @@ fn push_place(
 ) -> Result<(), Memory>
     requires within { length left.now ≤ length text.now }
     requires left { left.now ≡ drop (length text.now - length left.now) text.now }
-    requires line { line.now ≡ first_line_lem left.now }
+    requires line { line.now ≡ first_line_def left.now }
     ensures lines { OnOk result (lines_in text.now places.new.items ≡ lines_in text.now places.old.items ++ line.now ∷ []) }
     ensures places { ArePlaces order.now text.now places.old.items → OnOk result (ArePlaces order.now text.now places.new.items) }
     ensures rise { RiseTo (SIZES * (length text.now - length left.now)) places.old.items
@@ -128,7 +128,7 @@ fn compare_ties(order: &LineOrder, text: &[u8], one: &Place, other: &Place) -> O
 
 /// The line at a place.
 pub(crate) fn line_in(text: &[u8], span: u64) -> &[u8]
-    ensures { result.now ≡ line_in_lem text.now span }
+    ensures { result.now ≡ line_in_def text.now span }
 {
     let left = behind_bytes(span / SIZES, text);
     let size = span % SIZES;
@@ -153,7 +153,7 @@ fn first_bytes(count: u64, text: &[u8]) -> &[u8]
 /// The bytes before the first newline; all where there is none.
 #[tactic(auto, using(crate::proofs::PlaceLemmas::first_lines))]
 fn first_line(text: &[u8]) -> &[u8]
-    ensures { result.now ≡ first_line_lem text.now }
+    ensures { result.now ≡ first_line_def text.now }
 {
     match cut_line(text) {
         Some((line, _)) => line,

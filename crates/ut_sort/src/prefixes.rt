@@ -4,7 +4,7 @@ ghost use Rattle.std.specs.List.{list_all};
 ghost use Rattle.std.specs.Char.{is_ascii_digit};
 ghost use Rattle.std.specs.Str.Parse.{digits_value};
 ghost use Rattle.ut_sort.specs.Numbers.{behind_first};
-ghost use Rattle.ut_sort.specs.Prefixes.{AreBytes, IsKey, compared, directed_number as directed_number_lem, first_byte, is_exact as is_exact_lem, key_number, letters_number as letters_number_lem, packed, prefix as prefix_lem, size_number as size_number_lem, text_number as text_number_lem, value_number as value_number_lem};
+ghost use Rattle.ut_sort.specs.Prefixes.{AreBytes, IsKey, compared, directed_number as directed_number_def, first_byte, is_exact as is_exact_def, key_number, letters_number as letters_number_def, packed, prefix as prefix_def, size_number as size_number_def, text_number as text_number_def, value_number as value_number_def};
 
 use crate::keys::{key_in, letters_of};
 use crate::numbers::{ZERO, above_sign, below_sign, fraction_behind, split_digits};
@@ -34,14 +34,14 @@ pub(crate) fn number_of_key(separator: Option<u8>, key: &Key, line: &[u8]) -> u6
 
 /// A number, or where the order is reversed the one as far from the other end.
 pub(crate) fn directed_number(reverse: bool, number: u64) -> u64
-    ensures { result ≡ directed_number_lem reverse number }
+    ensures { result ≡ directed_number_def reverse number }
 {
     if reverse { u64::MAX - number } else { number }
 }
 
 /// The number of a key's text.
 pub(crate) fn letters_number(letters: Letters, text: &[u8]) -> u64
-    ensures number { result ≡ letters_number_lem letters text.now }
+    ensures number { result ≡ letters_number_def letters text.now }
     ensures bytes { AreBytes text.now }
 {
     if letters.numeric {
@@ -54,7 +54,7 @@ pub(crate) fn letters_number(letters: Letters, text: &[u8]) -> u64
 /// The number of a text that is compared byte by byte: its first seven bytes, and how many it has.
 #[tactic(auto, unfolding(crate::specs::Prefixes::prefix))]
 fn text_number(fold: bool, text: &[u8]) -> u64
-    ensures { result ≡ text_number_lem (compared fold text.now) }
+    ensures { result ≡ text_number_def (compared fold text.now) }
 {
     let size = text.len().min(8) as u64;
     let (first, text) = split_first(fold, text);
@@ -89,7 +89,7 @@ fn split_first(fold: bool, text: &[u8]) -> (u64, &[u8])
 
 /// The number of a text that is compared as a number.
 fn value_number(text: &[u8]) -> u64
-    ensures number { result ≡ value_number_lem text.now }
+    ensures number { result ≡ value_number_def text.now }
 {
     let text = behind_blanks(text);
     MIDDLE + size_number(above_sign(text)) - size_number(below_sign(text))
@@ -97,7 +97,7 @@ fn value_number(text: &[u8]) -> u64
 
 /// The number of a number without a sign.
 fn size_number(text: &[u8]) -> u64
-    ensures number { result ≡ size_number_lem text.now }
+    ensures number { result ≡ size_number_def text.now }
     ensures small { result ≤ TOO_LARGE }
 {
     let (digits, rest) = split_digits(text);
@@ -145,7 +145,7 @@ fn with_fraction(whole: u64, fraction: &[u8]) -> u64
 
 /// Whether a number says all of a key with these letters.
 pub(crate) fn is_exact(letters: Letters, number: u64) -> bool
-    ensures { result ≡ is_exact_lem letters number }
+    ensures { result ≡ is_exact_def letters number }
 {
     let number = directed_number(letters.reverse, number);
     if letters.numeric {

@@ -2,7 +2,7 @@
 ghost use Rattle.std.specs.Prelude.{◌≡◌, ◌≤◌, ◌<◌, ◌+◌, ◌^◌, ◌++◌, ◌==◌, ℕ, [], length, drop, nat_lt, false, true, IfOk, IfSome, IfNone, OnOk, if◌then◌else◌};
 ghost use Rattle.ps_lines.specs.Lines.{closing, has_newline};
 ghost use Rattle.ut_sort.specs.Choices.{EndsFirstLine};
-ghost use Rattle.ut_sort.specs.Sides.{first_waiting as first_waiting_lem, held, held_at, is_open_at, total_held, waits as waits_lem};
+ghost use Rattle.ut_sort.specs.Sides.{first_waiting as first_waiting_def, held, held_at, is_open_at, total_held, waits as waits_def};
 
 use crate::texts::Side;
 use ps_lines::{Memory, NEWLINE, cut_line, is_closed};
@@ -30,7 +30,7 @@ pub(crate) fn open_sides(alloc: Global, count: u32) -> Result<Vec<Side>, Memory>
 
 /// Whether a side waits for its text.
 fn waits(side: &Side) -> bool
-    ensures { result ≡ waits_lem side.now }
+    ensures { result ≡ waits_def side.now }
 {
     side.is_open && !has_line(&side.text[side.at..])
 }
@@ -48,7 +48,7 @@ fn has_line(text: &[u8]) -> bool
 /// The first side that waits for its text.
 pub(crate) fn first_waiting(sides: &[Side]) -> Option<u32>
     requires { length sides.now < 2 ^ 32 }
-    ensures { result ≡ first_waiting_lem 0 sides.now }
+    ensures { result ≡ first_waiting_def 0 sides.now }
 {
     let mut at = 0;
     let mut left = sides;

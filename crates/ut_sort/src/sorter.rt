@@ -1,7 +1,7 @@
 //! The stream of `sort`.
 ghost use Rattle.std.specs.Prelude.{◌≡◌, ◌++◌, ℕ, List, [], false, not, IfOk, OnOk};
 ghost use Rattle.std.specs.Result.{is_ok};
-ghost use Rattle.ps_lines.specs.Lines.{lines as lines_lem, text_of_lines};
+ghost use Rattle.ps_lines.specs.Lines.{lines as lines_def, text_of_lines};
 ghost use Rattle.ut_streams.specs.Streams.{Put};
 ghost use Rattle.ut_sort.specs.LineOrders.{sorted_by};
 ghost use Rattle.ut_sort.specs.Order.{sorted_text};
@@ -66,7 +66,7 @@ impl Sorter {
 }
 
 impl Stream for Sorter {
-    ghost due = { λ sorter more. text_of_lines (sorted_by sorter.order (lines_lem (sorter.text.items ++ more))) };
+    ghost due = { λ sorter more. text_of_lines (sorted_by sorter.order (lines_def (sorter.text.items ++ more))) };
 
     ghost selects = { λ _ _. false };
 
@@ -107,7 +107,7 @@ fn hold(held: &mut Vec<u8>, piece: &[u8]) -> Result<(), Memory>
 /// Appends the lines of a text in order.
 #[tactic(auto, using(crate::proofs::LineLemmas::line_puts))]
 fn put_sorted(order: &LineOrder, text: &[u8], out: &mut Vec<u8>) -> Result<(), Memory>
-    ensures { Put (text_of_lines (sorted_by order.now (lines_lem text.now))) out.old.items out.new.items (is_ok result) }
+    ensures { Put (text_of_lines (sorted_by order.now (lines_def text.now))) out.old.items out.new.items (is_ok result) }
 {
     match sorted_places(order, *out.allocator(), text) {
         Ok(places) => put_lines(text, places.as_slice(), out),

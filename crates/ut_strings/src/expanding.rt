@@ -1,6 +1,6 @@
 //! The bytes that strings stand for.
 ghost use Rattle.std.specs.Prelude.{◌≡◌, ◌∷◌, ◌++◌, ◌≤◌, [], if◌then◌else◌, replicate, true, false, Some, None, IfOk, OnOk};
-ghost use Rattle.ut_strings.specs.Strings.{add_bytes as add_bytes_lem, added, all_added, filled as filled_lem, first_of, is_other as is_other_lem, item_has as item_has_lem, no_sides, passing, second_of, sides_of as sides_of_lem};
+ghost use Rattle.ut_strings.specs.Strings.{add_bytes as add_bytes_def, added, all_added, filled as filled_def, first_of, is_other as is_other_def, item_has as item_has_def, no_sides, passing, second_of, sides_of as sides_of_def};
 
 use crate::items::{Item, item_at};
 use crate::marked::{Marked, marked_of};
@@ -59,7 +59,7 @@ pub fn expand_second(alloc: Global, text: &[u8], wanted: usize) -> Result<Option
 
 /// The bytes of an expansion, filled to so many.
 fn filled(expansion: Expansion, wanted: usize) -> Result<Vec<u8>, Memory>
-    ensures { IfOk result (λ bytes. bytes.items ≡ filled_lem expansion.fill expansion.front expansion.back wanted) }
+    ensures { IfOk result (λ bytes. bytes.items ≡ filled_def expansion.fill expansion.front expansion.back wanted) }
 {
     let Expansion {
         front: mut bytes,
@@ -79,7 +79,7 @@ fn filled(expansion: Expansion, wanted: usize) -> Result<Vec<u8>, Memory>
 
 /// The items of a string; None where it has a fault.
 fn sides_of(alloc: Global, second: bool, text: &[u8]) -> Result<Option<Expansion>, Memory>
-    ensures { IfOk result (λ sides. sides ≡ sides_of_lem second text.now) }
+    ensures { IfOk result (λ sides. sides ≡ sides_of_def second text.now) }
 {
     match marked_of(alloc, text)? {
         Some(marked) => add_all(alloc, second, marked.as_slice()),
@@ -144,8 +144,8 @@ fn add(alloc: Global, sides: &mut Expansion, item: Item) -> Result<bool, Memory>
 
 /// Adds bytes where the filling leaves off, if there is one; false where there are too many then.
 fn add_bytes(sides: &mut Expansion, bytes: &[u8]) -> Result<bool, Memory>
-    ensures fits { IfOk result (λ fits. fits ≡ true → add_bytes_lem sides.old bytes.now ≡ Some sides.new) }
-    ensures none { IfOk result (λ fits. fits ≡ false → add_bytes_lem sides.old bytes.now ≡ None) }
+    ensures fits { IfOk result (λ fits. fits ≡ true → add_bytes_def sides.old bytes.now ≡ Some sides.new) }
+    ensures none { IfOk result (λ fits. fits ≡ false → add_bytes_def sides.old bytes.now ≡ None) }
 {
     match sides.fill {
         None => sides.front.extend_from_slice(bytes)?,
@@ -167,7 +167,7 @@ fn push_times(bytes: &mut Vec<u8>, byte: u8, count: usize) -> Result<(), Memory>
 /// Appends the numbers below one that a range or a class has.
 fn push_members(bytes: &mut Vec<u8>, item: Item, below: u32) -> Result<(), Memory>
     requires { below ≤ 256 }
-    ensures { OnOk result (bytes.new.items ≡ bytes.old.items ++ passing (item_has_lem item) below) }
+    ensures { OnOk result (bytes.new.items ≡ bytes.old.items ++ passing (item_has_def item) below) }
 {
     for number in 0..below {
         let byte = number as u8;
@@ -188,7 +188,7 @@ fn push_if(bytes: &mut Vec<u8>, wanted: bool, byte: u8) -> Result<(), Memory>
 
 /// Whether a range or a class has the byte.
 fn item_has(item: Item, byte: u8) -> bool
-    ensures { result ≡ item_has_lem item byte }
+    ensures { result ≡ item_has_def item byte }
 {
     match item {
         Item::Range(from, to) => from <= byte && byte <= to,
@@ -200,7 +200,7 @@ fn item_has(item: Item, byte: u8) -> bool
 /// Appends the numbers below one that aren't among these.
 fn push_others(others: &mut Vec<u8>, bytes: &[u8], below: u32) -> Result<(), Memory>
     requires { below ≤ 256 }
-    ensures { OnOk result (others.new.items ≡ others.old.items ++ passing (is_other_lem bytes.now) below) }
+    ensures { OnOk result (others.new.items ≡ others.old.items ++ passing (is_other_def bytes.now) below) }
 {
     for number in 0..below {
         let byte = number as u8;
@@ -211,7 +211,7 @@ fn push_others(others: &mut Vec<u8>, bytes: &[u8], below: u32) -> Result<(), Mem
 
 /// Whether the byte isn't among these.
 fn is_other(bytes: &[u8], byte: u8) -> bool
-    ensures { result ≡ is_other_lem bytes.now byte }
+    ensures { result ≡ is_other_def bytes.now byte }
 {
     !bytes.contains(&byte)
 }

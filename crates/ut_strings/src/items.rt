@@ -2,8 +2,8 @@
 ghost use Rattle.std.specs.Prelude.{◌≡◌, ◌++◌, ◌≤◌, length, Some, None, IfOk, IfSome, IfNone, OnOk};
 ghost use Rattle.std.specs.List.{list_all};
 ghost use Rattle.ps_lines.specs.Classes.{class_named};
-ghost use Rattle.ut_strings.specs.Items.{behind_digits, begins_with as begins_with_lem, bracket_with as bracket_with_lem, bytes_of, class_item as class_item_lem, closes as closes_lem, count_before as count_before_lem, digit_onto as digit_onto_lem, digits_front, is_plain as is_plain_lem, is_plain_digit as is_plain_digit_lem, item_at as item_at_lem, number_onto as number_onto_lem, range_with as range_with_lem, repeated as repeated_lem, repetition_at as repetition_at_lem, times as times_lem};
-ghost use Rattle.ut_strings.specs.Marked.{is_octal as is_octal_lem};
+ghost use Rattle.ut_strings.specs.Items.{behind_digits, begins_with as begins_with_def, bracket_with as bracket_with_def, bytes_of, class_item as class_item_def, closes as closes_def, count_before as count_before_def, digit_onto as digit_onto_def, digits_front, is_plain as is_plain_def, is_plain_digit as is_plain_digit_def, item_at as item_at_def, number_onto as number_onto_def, range_with as range_with_def, repeated as repeated_def, repetition_at as repetition_at_def, times as times_def};
+ghost use Rattle.ut_strings.specs.Marked.{is_octal as is_octal_def};
 
 use crate::marked::{Marked, is_octal};
 use ps_lines::{Class, Memory};
@@ -40,7 +40,7 @@ pub(crate) fn item_at(
     one: Marked,
     rest: &[Marked],
 ) -> Result<Piece, Memory>
-    ensures { IfOk result (λ piece. piece ≡ item_at_lem second one rest.now) }
+    ensures { IfOk result (λ piece. piece ≡ item_at_def second one rest.now) }
 {
     if !is_plain(b'[', one) {
         return Ok(range_with(one.byte, rest));
@@ -55,14 +55,14 @@ pub(crate) fn item_at(
 
 /// Whether it is this byte, and no backslash stood before it.
 fn is_plain(byte: u8, one: Marked) -> bool
-    ensures { result ≡ is_plain_lem byte one }
+    ensures { result ≡ is_plain_def byte one }
 {
     !one.escaped && one.byte == byte
 }
 
 /// Whether the first of the marked bytes is plainly this one.
 fn begins_with(byte: u8, marked: &[Marked]) -> bool
-    ensures { result ≡ begins_with_lem byte marked.now }
+    ensures { result ≡ begins_with_def byte marked.now }
 {
     match marked {
         [] => false,
@@ -72,7 +72,7 @@ fn begins_with(byte: u8, marked: &[Marked]) -> bool
 
 /// A range from a byte before a hyphen to that behind it, or the byte alone.
 fn range_with(from: u8, rest: &[Marked]) -> Piece
-    ensures { result ≡ range_with_lem from rest.now }
+    ensures { result ≡ range_with_def from rest.now }
 {
     match rest {
         [hyphen, last, ..] => {
@@ -101,7 +101,7 @@ fn alone(item: Item) -> Piece
 
 /// What a plain `[` begins that begins no repetition.
 fn bracket_with(alloc: Global, rest: &[Marked]) -> Result<Piece, Memory>
-    ensures { IfOk result (λ piece. piece ≡ bracket_with_lem rest.now) }
+    ensures { IfOk result (λ piece. piece ≡ bracket_with_def rest.now) }
 {
     match rest {
         [] => Ok(range_with(b'[', rest)),
@@ -129,8 +129,8 @@ fn bracket_with(alloc: Global, rest: &[Marked]) -> Result<Piece, Memory>
 /// How many bytes stand before the first that is plainly this one with a `]` behind it.
 #[tactic(auto, using(crate::proofs::ItemLemmas::count_steps))]
 fn count_before(mark: u8, marked: &[Marked]) -> Option<usize>
-    ensures some { IfSome result (λ count. count_before_lem mark marked.now ≡ Some count) }
-    ensures none { IfNone result (count_before_lem mark marked.now ≡ None) }
+    ensures some { IfSome result (λ count. count_before_def mark marked.now ≡ Some count) }
+    ensures none { IfNone result (count_before_def mark marked.now ≡ None) }
     ensures within { IfSome result (λ count. count ≤ length marked.now) }
 {
     let mut count = 0;
@@ -148,14 +148,14 @@ fn count_before(mark: u8, marked: &[Marked]) -> Option<usize>
 /// Whether it is plainly this byte, with a `]` behind it.
 #[tactic(auto, unfolding(crate::specs::Items::closes))]
 fn closes(mark: u8, one: Marked, rest: &[Marked]) -> bool
-    ensures { result ≡ closes_lem mark one rest.now }
+    ensures { result ≡ closes_def mark one rest.now }
 {
     is_plain(mark, one) && begins_with(b']', rest)
 }
 
 /// The class of a name.
 fn class_item(alloc: Global, name: &[Marked]) -> Result<Item, Memory>
-    ensures { IfOk result (λ item. item ≡ class_item_lem (class_named (bytes_of name.now))) }
+    ensures { IfOk result (λ item. item ≡ class_item_def (class_named (bytes_of name.now))) }
 {
     let mut bytes = Vec::new(alloc);
     let mut left = name;
@@ -171,7 +171,7 @@ fn class_item(alloc: Global, name: &[Marked]) -> Result<Item, Memory>
 
 /// A repetition `[byte*digits]`, by what stands behind its `[`.
 fn repetition_at(alloc: Global, rest: &[Marked]) -> Result<Option<Piece>, Memory>
-    ensures { IfOk result (λ piece. piece ≡ repetition_at_lem rest.now) }
+    ensures { IfOk result (λ piece. piece ≡ repetition_at_def rest.now) }
 {
     match rest {
         [one, star, behind @ ..] => {
@@ -210,14 +210,14 @@ fn read_digits<'m>(digits: &mut Vec<u8>, marked: &'m [Marked]) -> Result<&'m [Ma
 
 /// Whether it is a digit, and no backslash stood before it.
 fn is_plain_digit(one: Marked) -> bool
-    ensures { result ≡ is_plain_digit_lem one }
+    ensures { result ≡ is_plain_digit_def one }
 {
     !one.escaped && one.byte.is_ascii_digit()
 }
 
 /// A byte as often as digits say: none and 0 fill, and a first 0 means an octal number.
 fn repeated(byte: u8, digits: &[u8]) -> Item
-    ensures { result ≡ repeated_lem byte digits.now }
+    ensures { result ≡ repeated_def byte digits.now }
 {
     match digits {
         [] => Item::Fill(byte),
@@ -235,7 +235,7 @@ fn repeated(byte: u8, digits: &[u8]) -> Item
 
 /// So many times a byte.
 fn times(byte: u8, number: u32) -> Item
-    ensures { result ≡ times_lem byte number }
+    ensures { result ≡ times_def byte number }
 {
     if number == 0 {
         return Item::Fill(byte);
@@ -248,7 +248,7 @@ fn times(byte: u8, number: u32) -> Item
 
 /// Whether each byte is an octal digit.
 fn are_octal(digits: &[u8]) -> bool
-    ensures { result ≡ list_all is_octal_lem digits.now }
+    ensures { result ≡ list_all is_octal_def digits.now }
 {
     let mut left = digits;
     while let [digit, rest @ ..] = left {
@@ -263,7 +263,7 @@ fn are_octal(digits: &[u8]) -> bool
 /// The number of digits in a base of at most 10; 65,537 where it is above 65,536.
 fn number_of(base: u32, digits: &[u8]) -> u32
     requires { base ≤ 10 }
-    ensures { result ≡ number_onto_lem base 0 digits.now }
+    ensures { result ≡ number_onto_def base 0 digits.now }
 {
     let mut number = 0;
     let mut left = digits;
@@ -278,7 +278,7 @@ fn number_of(base: u32, digits: &[u8]) -> u32
 fn digit_onto(base: u32, number: u32, digit: u8) -> u32
     requires base { base ≤ 10 }
     requires number { number ≤ 65537 }
-    ensures value { result ≡ digit_onto_lem base number digit }
+    ensures value { result ≡ digit_onto_def base number digit }
     ensures most { result ≤ 65537 }
 {
     let more = number * base + u32::from(digit.saturating_sub(b'0'));

@@ -1,6 +1,6 @@
 //! The bytes of a string, each with whether a backslash stood before it.
 ghost use Rattle.std.specs.Prelude.{◌≡◌, ◌++◌, nat_le, Some, None, IfOk, IfSome, OnOk, if◌then◌else◌};
-ghost use Rattle.ut_strings.specs.Marked.{byte_given, byte_state, end_given, escaped, is_octal as is_octal_lem, letter_of as letter_of_lem, marked_of as marked_of_lem, number_of_one as number_of_one_lem, number_of_three, number_of_two as number_of_two_lem, plain_given, plain_state};
+ghost use Rattle.ut_strings.specs.Marked.{byte_given, byte_state, end_given, escaped, is_octal as is_octal_def, letter_of as letter_of_def, marked_of as marked_of_def, number_of_one as number_of_one_def, number_of_three, number_of_two as number_of_two_def, plain_given, plain_state};
 
 use ps_lines::Memory;
 use std::alloc::Global;
@@ -72,7 +72,7 @@ pub(crate) enum State {
 
 /// The bytes of a string; None where an octal number is above 255.
 pub(crate) fn marked_of(alloc: Global, text: &[u8]) -> Result<Option<MarkedBytes>, Memory>
-    ensures { IfOk result (λ read. read ≡ marked_of_lem text.now) }
+    ensures { IfOk result (λ read. read ≡ marked_of_def text.now) }
 {
     let mut bytes = MarkedBytes::new(alloc);
     let mut state = State::Plain;
@@ -169,21 +169,21 @@ fn end(bytes: &mut MarkedBytes, state: State) -> Result<(), Memory>
 
 /// The number of one octal digit.
 fn number_of_one(first: u8) -> u8
-    ensures { result ≡ number_of_one_lem first }
+    ensures { result ≡ number_of_one_def first }
 {
     first % 8
 }
 
 /// The number of two octal digits.
 fn number_of_two(first: u8, second: u8) -> u8
-    ensures { result ≡ number_of_two_lem first second }
+    ensures { result ≡ number_of_two_def first second }
 {
     first % 8 * 8 + second % 8
 }
 
 /// The byte that an escape of one letter stands for.
 fn letter_of(byte: u8) -> u8
-    ensures { result ≡ letter_of_lem byte }
+    ensures { result ≡ letter_of_def byte }
 {
     match byte {
         b'a' => 7,
@@ -199,7 +199,7 @@ fn letter_of(byte: u8) -> u8
 
 /// Whether the byte is an octal digit.
 pub(crate) fn is_octal(byte: u8) -> bool
-    ensures { result ≡ is_octal_lem byte }
+    ensures { result ≡ is_octal_def byte }
 {
     b'0' <= byte && byte <= b'7'
 }

@@ -3,7 +3,7 @@
 ghost use Rattle.std.specs.Prelude.{◌≡◌, ◌≤◌, ◌++◌, ◌∷◌, [], ℕ, length, IfOk, OnOk};
 ghost use Rattle.ps_lines.specs.ByteSet.{has_byte};
 ghost use Rattle.ps_lines.specs.Texts.{texts_of};
-ghost use Rattle.ut_test.specs.Fields.{before_white, field_of, fields_by as fields_by_lem, fields_read, from_end, is_in, is_white as is_white_lem, past_ender, past_white};
+ghost use Rattle.ut_test.specs.Fields.{before_white, field_of, fields_by as fields_by_def, fields_read, from_end, is_in, is_white as is_white_def, past_ender, past_white};
 
 use ps_lines::{ByteSet, Memory, is_white_space};
 use std::alloc::Global;
@@ -46,7 +46,7 @@ fn fields_by(
     names: u32,
 ) -> Result<Vec<Vec<u8>>, Memory>
     requires { 1 ≤ names }
-    ensures { IfOk result (λ fields. texts_of fields.items ≡ fields_by_lem (has_byte separators.now) line.now names) }
+    ensures { IfOk result (λ fields. texts_of fields.items ≡ fields_by_def (has_byte separators.now) line.now names) }
 {
     let mut fields = Vec::with_capacity(alloc, names as usize)?;
     let mut left = past_white(line, separators);
@@ -135,7 +135,7 @@ fn before_white<'a>(text: &'a [u8], separators: &ByteSet) -> &'a [u8]
 
 /// Whether the byte is white space of IFS.
 fn is_white(byte: u8, separators: &ByteSet) -> bool
-    ensures { result ≡ is_white_lem (has_byte separators.now) byte }
+    ensures { result ≡ is_white_def (has_byte separators.now) byte }
 {
     separators.has(byte) && is_white_space(byte)
 }

@@ -36,8 +36,8 @@ use Rattle.pash.specs.declared.starts.Setup.{Setup}
 use Rattle.pash.specs.declared.starts.Start.{Start as ReadStart}
 use Rattle.pash.specs.declared.starts.Start.TheVariants as read
 use Rattle.pash.specs.declared.answers.Outcome.{Outcome}
-use Rattle.pash.specs.declared.answers.Stop.{Stop}
-use Rattle.pash.specs.declared.answers.Stop.TheVariants as stop
+use Rattle.pash.specs.declared.answers.RunFault.{RunFault}
+use Rattle.pash.specs.declared.answers.RunFault.TheVariants as stop
 use Rattle.pash.specs.declared.answers.Why.{Why}
 use Rattle.pash.specs.declared.answers.Why.TheVariants as why
 
@@ -129,7 +129,7 @@ module _ (old new : Point) (status width : ℕ) (own : Shell) (same : status ≡
   stops-so how.TreeFault cause = record { ok = tt; read = λ is. cc; write = λ is. cc; tree = λ is. cause }
   stops-so how.Memory cause = record { ok = tt; read = λ is. cc; write = λ is. cc; tree = λ is. cc }
 
-  pub run-script : (start : ReadStart) (script : Script) (setup : Setup) → start ≡ read.Script script setup → setup.width ≡ width → (came : How) (result : Result Outcome Stop)
+  pub run-script : (start : ReadStart) (script : Script) (setup : Setup) → start ≡ read.Script script setup → setup.width ≡ width → (came : How) (result : Result Outcome RunFault)
       → result ≡ came_of came status
       → ((expansions : Expansions) → AreExpansions expansions → IfSome old.tree.held (λ files. IfSome old.seen.drawn.left (λ text.
       scripts.Leaves (ran_at width old.seen.drawn.used) old.seen came own new.tree new.seen (script_means expansions pages (script_tree script) (begun setup.shell old.tree.home files text)))))
@@ -139,7 +139,7 @@ module _ (old new : Point) (status width : ℕ) (own : Shell) (same : status ≡
       → RunsAs (λ reads. run_of (as_start start)) old result new
   run-script start script setup start_is spread came result is meaning kept whole cause lent =
       subst (λ (it : ReadStart). RunsAs (λ reads. run_of (as_start it)) old result new) (sym start_is)
-      (subst (λ (it : Result Outcome Stop). RunsAs (λ reads. run_of (runs (script_tree script) setup)) old it new) (sym is) (record {
+      (subst (λ (it : Result Outcome RunFault). RunsAs (λ reads. run_of (runs (script_tree script) setup)) old it new) (sym is) (record {
         comes = λ reads are expansions exps.
             where_told (λ files text. scripts.Leaves (ran_at width old.seen.drawn.used) old.seen came own new.tree new.seen
             (script_means expansions pages (script_tree script) (begun setup.shell old.tree.home files text)))
@@ -158,14 +158,14 @@ module _ (old new : Point) (status width : ℕ) (own : Shell) (same : status ≡
 
 -- A TEXT IS WRITTEN, and nothing else happens
 module _ (tree : TreeState) (drawn : Drawn) (taken errors taken' : Option (List ℕ)) (input output said tree_faults output' : ℕ) (text : List ℕ) where
-  comes-written : (files : Files) (left : List ℕ) (result : Result Outcome Stop) → tree.held ≡ Some files → drawn.left ≡ Some left
+  comes-written : (files : Files) (left : List ℕ) (result : Result Outcome RunFault) → tree.held ≡ Some files → drawn.left ≡ Some left
       → IfOk result (λ outcome. outcome ≡ finished 0) → OnOk result (taken' ≡ then_bytes taken text) → OnErr result (GrewByPrefix taken taken' text)
       → Comes (written text (outside_of tree.home files left)) result tree.held (seen_of drawn taken errors) (seen_of drawn taken' errors)
   comes-written files left (Ok outcome) held left_is is grew part =
       record { outcome_is = is; output = grew; errors = sym (then_bytes-nil errors); files = held; input = left_is; used = ran-none drawn.used }
   comes-written files left (Err stopped) held left_is is grew part = record { output = part; errors = grew_by_nothing errors [] }
 
-  stops-written : (result : Result Outcome Stop) → Stops (faults_of 0 output 0 0) (faults_of 0 output' 0 0) result
+  stops-written : (result : Result Outcome RunFault) → Stops (faults_of 0 output 0 0) (faults_of 0 output' 0 0) result
       → Stops (faults_of input output said tree_faults) (faults_of input output' said tree_faults) result
   stops-written (Ok outcome) them =
       record {
@@ -182,11 +182,11 @@ module _ (tree : TreeState) (drawn : Drawn) (taken errors taken' : Option (List 
         tree = λ is. (let never = them.tree is in omega arith);
       }
 
-  whole-written : (result : Result Outcome Stop) → IfSome tree.held NoWriterOut → OnOk result (IfSome tree.held NoWriterOut)
+  whole-written : (result : Result Outcome RunFault) → IfSome tree.held NoWriterOut → OnOk result (IfSome tree.held NoWriterOut)
   whole-written (Ok outcome) whole = whole
   whole-written (Err stopped) whole = tt
 
-  pub run-written : (start : ReadStart) (sample : Sample) → start ≡ read.Text sample → text ≡ text_of sample → (result : Result Outcome Stop)
+  pub run-written : (start : ReadStart) (sample : Sample) → start ≡ read.Text sample → text ≡ text_of sample → (result : Result Outcome RunFault)
       → IfSome tree.held NoWriterOut → IfOk result (λ outcome. outcome ≡ finished 0) → OnOk result (taken' ≡ then_bytes taken text)
       → OnErr result (GrewByPrefix taken taken' text) → Stops (faults_of 0 output 0 0) (faults_of 0 output' 0 0) result
       → RunsAs (λ reads. run_of (as_start start)) (point_of tree (seen_of drawn taken errors) (faults_of input output said tree_faults)) result
@@ -207,12 +207,12 @@ module _ (tree : TreeState) (drawn : Drawn) (taken errors taken' : Option (List 
       }))
 
 -- what begins a command reads no input
-pub no-read : {Began : Type 0} (output errors tree output' errors' tree' : ℕ) (stopped : Stop) (result : Result Began Stop) → result ≡ Err stopped
-    → Stops (faults_of 0 output errors tree) (faults_of 0 output' errors' tree') result → (came : Result Outcome Stop) → came ≡ Err stopped
+pub no-read : {Began : Type 0} (output errors tree output' errors' tree' : ℕ) (stopped : RunFault) (result : Result Began RunFault) → result ≡ Err stopped
+    → Stops (faults_of 0 output errors tree) (faults_of 0 output' errors' tree') result → (came : Result Outcome RunFault) → came ≡ Err stopped
     → IsErrOf came stop.Read → ⊥
 no-read output errors tree output' errors' tree' stopped result result_is stops came came_is is =
     let same : stopped ≡ stop.Read = cc in
-    let never = stops.read (result_is ∙ ap (λ (one : Stop). Err one) same) in
+    let never = stops.read (result_is ∙ ap (λ (one : RunFault). Err one) same) in
     omega arith
 
 -- memory was wanted before anything was done
@@ -243,7 +243,7 @@ over_own First Next (Some files) own (Some input) text own_is step is =
     step files input refl (subst (λ (it : Option (List ℕ)). IfSome it (λ text. First files text)) own_is is)
 
 -- a text of its own doesn't fail
-pub never-read : (output said tree output' said' tree' status : ℕ) (came : How) (result : Result Outcome Stop) → result ≡ came_of came status
+pub never-read : (output said tree output' said' tree' status : ℕ) (came : How) (result : Result Outcome RunFault) → result ≡ came_of came status
     → HasCause came (faults_of 0 output said tree) (faults_of 0 output' said' tree') → IsErrOf result stop.Read → ⊥
 never-read output said tree output' said' tree' status (how.Gone flow) result result_is cause is = cc
 never-read output said tree output' said' tree' status how.ReadFault result result_is cause is = omega arith
@@ -305,7 +305,7 @@ module _ (old new : TreeState) (used used' : Option Log) (taken errors taken' er
   stops-tried faults how.Memory cause = record { ok = tt; read = λ is. cc; write = λ is. cc; tree = λ is. cc }
 
   pub run-tried : (script : ScriptTree) (setup : Setup) (text : List ℕ) (source source' : Option (List ℕ)) → source ≡ Some text → setup.width ≡ width
-      → (came : How) (result : Result Outcome Stop) → result ≡ came_of came status
+      → (came : How) (result : Result Outcome RunFault) → result ≡ came_of came status
       → ((expansions : Expansions) → AreExpansions expansions → IfSome old.held (λ files. IfSome source (λ text.
       scripts.Leaves (ran_at width used) (seen_of (drawn_of source used) taken errors) came own new (seen_of (drawn_of source' used') taken' errors')
       (script_means expansions pages script (begun setup.shell old.home files text)))))
@@ -316,7 +316,7 @@ module _ (old new : TreeState) (used used' : Option Log) (taken errors taken' er
       → RunsAs (λ reads. run_of (tries script setup text)) (point_of old (seen_of (drawn_of left used) taken errors) (faults_of faults output said tree_faults))
       result (point_of new (seen_of (drawn_of left used') taken' errors') (faults_of faults output' said' tree_faults'))
   run-tried script setup text source source' source_is spread came result is meaning kept whole cause lent left faults =
-      subst (λ (it : Result Outcome Stop). RunsAs (λ reads. run_of (tries script setup text))
+      subst (λ (it : Result Outcome RunFault). RunsAs (λ reads. run_of (tries script setup text))
       (point_of old (seen_of (drawn_of left used) taken errors) (faults_of faults output said tree_faults)) it
       (point_of new (seen_of (drawn_of left used') taken' errors') (faults_of faults output' said' tree_faults'))) (sym is) (record {
         comes = λ reads are expansions exps.
@@ -340,13 +340,13 @@ module _ (old new : TreeState) (used used' : Option Log) (taken errors taken' er
       })
 
 -- and so does one over the text that a seed gives
-pub run-over : (old new : Point) (script : ScriptTree) (setup : Setup) (text other : List ℕ) → text ≡ other → (result : Result Outcome Stop)
+pub run-over : (old new : Point) (script : ScriptTree) (setup : Setup) (text other : List ℕ) → text ≡ other → (result : Result Outcome RunFault)
     → RunsAs (λ reads. run_of (tries script setup text)) old result new → RunsAs (λ reads. run_of (tries script setup other)) old result new
 run-over old new script setup text other same result ran =
     subst (λ (it : List ℕ). RunsAs (λ reads. run_of (tries script setup it)) old result new) same ran
 
 pub run-of-trial : (old new : Point) (start : ReadStart) (script : Script) (setup : Setup) (sample : Sample) → start ≡ read.Trial script setup sample
-    → (result : Result Outcome Stop) → RunsAs (λ reads. run_of (tries (script_tree script) setup (text_of sample))) old result new
+    → (result : Result Outcome RunFault) → RunsAs (λ reads. run_of (tries (script_tree script) setup (text_of sample))) old result new
     → RunsAs (λ reads. run_of (as_start start)) old result new
 run-of-trial old new start script setup sample start_is result ran =
     subst (λ (it : ReadStart). RunsAs (λ reads. run_of (as_start it)) old result new) (sym start_is) ran
@@ -377,19 +377,19 @@ module _ (means : Means) (old : Point) (outcome : Outcome) (tree : TreeState) (d
             (subst (λ (one : Outcome). GrewByPrefix errors errors' (line_of one.why)) left.outcome_is grew);
       }
 
-  comes-told : (meaning : Meaning) (result : Result Outcome Stop) → IfOk result (λ other. other ≡ outcome)
+  comes-told : (meaning : Meaning) (result : Result Outcome RunFault) → IfOk result (λ other. other ≡ outcome)
       → OnOk result (errors' ≡ then_bytes errors (line_of outcome.why)) → OnErr result (GrewByPrefix errors errors' (line_of outcome.why))
       → Leaves meaning outcome tree.held old.seen (seen_of drawn taken errors) → Comes (told meaning) result tree.held old.seen (seen_of drawn taken' errors')
   comes-told meaning (Ok other) is grew part left = leaves-told meaning other is grew left
   comes-told meaning (Err stopped) is grew part left = stopped-telling meaning part left
 
   module _ (input tree_faults output said output' said' : ℕ) where
-    stops-told : (result : Result Outcome Stop) → faults_of input output said tree_faults ≡ old.faults
+    stops-told : (result : Result Outcome RunFault) → faults_of input output said tree_faults ≡ old.faults
         → Stops (faults_of 0 output said 0) (faults_of 0 output' said' 0) result → Stops old.faults (faults_of input output' said' tree_faults) result
     stops-told result calm stops =
         subst (λ (it : Faults). Stops it (faults_of input output' said' tree_faults) result) calm (by_result result stops)
       where
-        by_result : (it : Result Outcome Stop) → Stops (faults_of 0 output said 0) (faults_of 0 output' said' 0) it
+        by_result : (it : Result Outcome RunFault) → Stops (faults_of 0 output said 0) (faults_of 0 output' said' 0) it
             → Stops (faults_of input output said tree_faults) (faults_of input output' said' tree_faults) it
         by_result (Ok other) them =
             record {
@@ -406,7 +406,7 @@ module _ (means : Means) (old : Point) (outcome : Outcome) (tree : TreeState) (d
               tree = λ is. (let never = them.tree is in omega arith);
             }
 
-    pub run-told : (came result : Result Outcome Stop) → came ≡ Ok outcome
+    pub run-told : (came result : Result Outcome RunFault) → came ≡ Ok outcome
         → RunsAs means old came (point_of tree (seen_of drawn taken errors) (faults_of input output said tree_faults))
         → IfOk result (λ other. other ≡ outcome) → OnOk result (errors' ≡ then_bytes errors (line_of outcome.why))
         → OnErr result (GrewByPrefix errors errors' (line_of outcome.why)) → Stops (faults_of 0 output said 0) (faults_of 0 output' said' 0) result
@@ -414,7 +414,7 @@ module _ (means : Means) (old : Point) (outcome : Outcome) (tree : TreeState) (d
         (point_of tree (seen_of drawn taken' errors') (faults_of input output' said' tree_faults))
     run-told came result came_is came_so is grew part stops =
         let ran : RunsAs means old (Ok outcome) (point_of tree (seen_of drawn taken errors) (faults_of input output said tree_faults)) =
-        subst (λ (it : Result Outcome Stop). RunsAs means old it
+        subst (λ (it : Result Outcome RunFault). RunsAs means old it
         (point_of tree (seen_of drawn taken errors) (faults_of input output said tree_faults))) came_is came_so in
         record {
           comes = λ reads are expansions exps.
@@ -431,15 +431,15 @@ module _ (means : Means) (old : Point) (outcome : Outcome) (tree : TreeState) (d
           lent = ran.lent;
         }
       where
-        whole-told : (it : Result Outcome Stop) → IfSome tree.held NoWriterOut → OnOk it (IfSome tree.held NoWriterOut)
+        whole-told : (it : Result Outcome RunFault) → IfSome tree.held NoWriterOut → OnOk it (IfSome tree.held NoWriterOut)
         whole-told (Ok other) whole = whole
         whole-told (Err stopped) whole = tt
 
 -- a run that has stopped tells no line
-pub run-untold : (means : Means) (old new : Point) (stopped : Stop) (came : Result Outcome Stop) → came ≡ Err stopped → RunsAs means old came new
+pub run-untold : (means : Means) (old new : Point) (stopped : RunFault) (came : Result Outcome RunFault) → came ≡ Err stopped → RunsAs means old came new
     → RunsAs (λ reads expansions outside. told (means reads expansions outside)) old (Err stopped) new
 run-untold means old new stopped came came_is came_so =
-    let ran : RunsAs means old (Err stopped) new = subst (λ (it : Result Outcome Stop). RunsAs means old it new) came_is came_so in
+    let ran : RunsAs means old (Err stopped) new = subst (λ (it : Result Outcome RunFault). RunsAs means old it new) came_is came_so in
     record {
       comes = λ reads are expansions exps.
           where_told (λ files text. Stopped old.seen new.seen (means reads expansions (outside_of old.tree.home files text)).world)
@@ -457,7 +457,7 @@ run-untold means old new stopped came came_is came_so =
 
 -- A COMMAND BEGINS: why its beginning stopped, or that no count rose
 module _ {Began : Type 0} (input output errors before now : ℕ) where
-  stops-tree : (result : Result Began Stop) → Stops (faults_of 0 0 0 before) (faults_of 0 0 0 now) result → Stops (faults_of input output errors before)
+  stops-tree : (result : Result Began RunFault) → Stops (faults_of 0 0 0 before) (faults_of 0 0 0 now) result → Stops (faults_of input output errors before)
       (faults_of input output errors now) result
   stops-tree (Ok start) stops =
       record {
@@ -484,7 +484,7 @@ module _ (start_by : Readings → Files → Components → Start) (start : Start
   with-start Holds reads home (Some files) None is holds = tt
   with-start Holds reads home (Some files) (Some text) is holds = subst (λ (it : Start). Holds it files text) is holds
 
-  comes-begun : (reads : Readings) (expansions : Expansions) (result : Result Outcome Stop) (new : Point)
+  comes-begun : (reads : Readings) (expansions : Expansions) (result : Result Outcome RunFault) (new : Point)
       → IfSome old.held (λ files. start ≡ start_by reads files old.home)
       → IfSome tree.held (λ files. IfSome seen.drawn.left (λ text.
       Comes (told (run_of start expansions (outside_of tree.home files text))) result new.tree.held seen new.seen))
@@ -511,7 +511,7 @@ module _ (start_by : Readings → Files → Components → Start) (start : Start
       (subst (λ (held : Option Files). IfSome held (λ files. IfSome seen.drawn.left (λ text.
       ChangesOnly (run_of start expansions (outside_of tree.home files text)).world.written held new))) lent.held ran))
 
-  pub run-begun : (input output errors before now : ℕ) (result : Result Outcome Stop) (new : Point)
+  pub run-begun : (input output errors before now : ℕ) (result : Result Outcome RunFault) (new : Point)
       → faults_of 0 0 0 now ≡ faults_of 0 0 0 before
       → ((reads : Readings) → AreOutcomes reads → IfSome old.held (λ files. start ≡ start_by reads files old.home))
       → RunsAs (λ reads expansions outside. told (run_of start expansions outside)) (point_of tree seen (faults_of input output errors now)) result new
@@ -527,8 +527,8 @@ module _ (start_by : Readings → Files → Components → Start) (start : Start
       }
 
 -- nothing was run where the beginning stopped
-pub run-unbegun : (means : Means) (old tree : TreeState) (seen : Seen) (input output errors before now : ℕ) (stopped : Stop) → OnlyLent old tree
-    → {Began : Type 0} (result : Result Began Stop) → result ≡ Err stopped → Stops (faults_of 0 0 0 before) (faults_of 0 0 0 now) result
+pub run-unbegun : (means : Means) (old tree : TreeState) (seen : Seen) (input output errors before now : ℕ) (stopped : RunFault) → OnlyLent old tree
+    → {Began : Type 0} (result : Result Began RunFault) → result ≡ Err stopped → Stops (faults_of 0 0 0 before) (faults_of 0 0 0 now) result
     → RunsAs means (point_of old seen (faults_of input output errors before)) (Err stopped) (point_of tree seen (faults_of input output errors now))
 run-unbegun means old tree seen input output errors before now stopped lent {Began} result is stops =
     let all : Stops (faults_of input output errors before)
@@ -546,9 +546,9 @@ run-unbegun means old tree seen input output errors before now stopped lent {Beg
       whole = tt;
       cause = record {
         ok = tt;
-        read = λ it. all.read (is ∙ (let same : stopped ≡ stop.Read = cc in ap (λ (one : Stop). Err one) same));
-        write = λ it. all.write (is ∙ (let same : stopped ≡ stop.Write = cc in ap (λ (one : Stop). Err one) same));
-        tree = λ it. all.tree (is ∙ (let same : stopped ≡ stop.Tree = cc in ap (λ (one : Stop). Err one) same));
+        read = λ it. all.read (is ∙ (let same : stopped ≡ stop.Read = cc in ap (λ (one : RunFault). Err one) same));
+        write = λ it. all.write (is ∙ (let same : stopped ≡ stop.Write = cc in ap (λ (one : RunFault). Err one) same));
+        tree = λ it. all.tree (is ∙ (let same : stopped ≡ stop.Tree = cc in ap (λ (one : RunFault). Err one) same));
       };
       lent = balanced-only_lent old tree lent;
     }
@@ -568,7 +568,7 @@ module _ (Same : Type 0) (old tree new : TreeState) (lent : OnlyLent old tree) (
   no-script why.TreeFault run without = run
   no-script why.Memory run without = run
 
-  pub without-script : (start : ReadStart) (result : Result Outcome Stop) → IfOk result (λ outcome. EndsWith start outcome.why)
+  pub without-script : (start : ReadStart) (result : Result Outcome RunFault) → IfOk result (λ outcome. EndsWith start outcome.why)
       → IfAnswered start (λ answer. Same × (new ≡ tree) × TellsOnly answer result was now)
       → IfOk result (λ outcome. IsWithoutScript outcome.why → Same × OnlyLent old new × OnlyTold outcome.why outcome.status was now)
   without-script (read.Answered answer) (Ok outcome) ends told_so =
@@ -578,11 +578,11 @@ module _ (Same : Type 0) (old tree new : TreeState) (lent : OnlyLent old tree) (
   without-script (read.Trial script setup sample) (Ok outcome) ends told_so = λ without. absurd (no-script outcome.why ends without)
   without-script start (Err stopped) ends told_so = tt
 
-  draws-nothing : (answer : Why) (result : Result Outcome Stop) → TellsOnly answer result was now → DrawsNothing was now
+  draws-nothing : (answer : Why) (result : Result Outcome RunFault) → TellsOnly answer result was now → DrawsNothing was now
   draws-nothing answer (Ok outcome) only = record { drawn = only.drawn; output = only.output }
   draws-nothing answer (Err stopped) only = record { drawn = only.drawn; output = only.output }
 
-  answered-alone : (start : ReadStart) (result : Result Outcome Stop) → IsAnswered (as_start start)
+  answered-alone : (start : ReadStart) (result : Result Outcome RunFault) → IsAnswered (as_start start)
       → IfAnswered start (λ answer. Same × (new ≡ tree) × TellsOnly answer result was now) → Same × OnlyLent old new × DrawsNothing was now
   answered-alone (read.Answered answer) result is told_so = (told_so.0, stays told_so.1, draws-nothing answer result told_so.2)
   answered-alone (read.Script script setup) result is told_so = absurd is
@@ -597,7 +597,7 @@ module _ (Same : Type 0) (old tree new : TreeState) (lent : OnlyLent old tree) (
   is-answered reads start (Some command) None usage is nothing = absurd nothing
   is-answered reads start (Some command) (Some files) usage is nothing = subst IsAnswered (sym is) nothing
 
-  pub nothing-run : (start : ReadStart) (result : Result Outcome Stop) (command : Option Command)
+  pub nothing-run : (start : ReadStart) (result : Result Outcome RunFault) (command : Option Command)
       → MatchOption command (start ≡ read.Answered why.Usage) (λ _. IsOfCommand start)
       → ((reads : Readings) → AreOutcomes reads → IfSome old.held (λ files. as_start start ≡ start_of reads files old.home command))
       → IfAnswered start (λ answer. Same × (new ≡ tree) × TellsOnly answer result was now)
@@ -617,7 +617,7 @@ of_run why.TreeFault run = run
 of_run why.Memory run = run
 
 -- a start of no command is that of usage, and so is its answer
-pub answer-of : (start : ReadStart) (command : Option Command) (result : Result Outcome Stop) → IfOk result (λ outcome. EndsWith start outcome.why)
+pub answer-of : (start : ReadStart) (command : Option Command) (result : Result Outcome RunFault) → IfOk result (λ outcome. EndsWith start outcome.why)
     → MatchOption command (start ≡ read.Answered why.Usage) (λ _. IsOfCommand start)
     → IfOk result (λ outcome. MatchOption command (outcome.why ≡ why.Usage) (λ _. IsOfScript outcome.why))
 answer-of start None (Ok outcome) ends usage = subst (λ (it : ReadStart). EndsWith it outcome.why) usage ends

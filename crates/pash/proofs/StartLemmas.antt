@@ -16,7 +16,7 @@ use Rattle.pash.specs.Readings.{AreReadAlike, IsUnread}
 use Rattle.pash.specs.Starts.{Start, as_start, over_text, start_of, start_of_outcome, start_of_run, start_of_trial}
 use Rattle.pash.specs.Words.{Command, RunCommand, run, trial}
 use Rattle.pash.specs.declared.command.Sample.{Sample}
-use Rattle.pash.specs.declared.answers.Stop.{Stop}
+use Rattle.pash.specs.declared.answers.RunFault.{RunFault}
 use Rattle.pash.specs.declared.starts.Setup.{Setup}
 use Rattle.pash.specs.declared.starts.Start.{Start as ReadStart}
 
@@ -58,14 +58,14 @@ pub started-as : (text : List ℕ) (read : Outcome) (setup : Setup) (start : Sta
     → (reads : Readings) → AreOutcomes reads → start ≡ start_of_outcome setup (reads text)
 started-as text read setup start has is reads are = is ∙ ap (start_of_outcome setup) (are.only text read has)
 
-pub started-so : (text : List ℕ) (read : Outcome) (setup : Setup) (result : Result ReadStart Stop) → HasOutcome text read
+pub started-so : (text : List ℕ) (read : Outcome) (setup : Setup) (result : Result ReadStart RunFault) → HasOutcome text read
     → IfOk result (λ start. as_start start ≡ start_of_outcome setup read)
     → IfOk result (λ start. (reads : Readings) → AreOutcomes reads → as_start start ≡ start_of_outcome setup (reads text))
 started-so text read setup (Ok start) has is = started-as text read setup (as_start start) has is
 started-so text read setup (Err stopped) has is = tt
 
 -- and so of a text that is read alike
-pub started-alike : (held : Option Files) (path : Components) (text : List ℕ) (setup : Setup) (result : Result ReadStart Stop)
+pub started-alike : (held : Option Files) (path : Components) (text : List ℕ) (setup : Setup) (result : Result ReadStart RunFault)
     → IfSome held (λ files. AreReadAlike text (bytes_at files path))
     → IfOk result (λ start. (reads : Readings) → AreOutcomes reads → as_start start ≡ start_of_outcome setup (reads text))
     → IfOk result (λ start. (reads : Readings) → AreOutcomes reads → IfSome held
@@ -81,7 +81,7 @@ pub started-over : (text script : List ℕ) (setup : Setup) (start made : ReadSt
 started-over text script setup start made is before reads are = is ∙ ap (over_text text) (before reads are)
 
 -- what a command to run a script comes to is what its words come to
-pub started-run : (held : Option Files) (home : Components) (asked : Option Command) (command : RunCommand) (result : Result ReadStart Stop)
+pub started-run : (held : Option Files) (home : Components) (asked : Option Command) (command : RunCommand) (result : Result ReadStart RunFault)
     → asked ≡ Some (run command)
     → IfOk result (λ start. (reads : Readings) → AreOutcomes reads → IfSome held (λ files. as_start start ≡ start_of_run reads files home command))
     → IfOk result (λ start. (reads : Readings) → AreOutcomes reads → IfSome held (λ files. as_start start ≡ start_of reads files home asked))
@@ -91,7 +91,7 @@ started-run (Some files) home asked command (Ok start) asked_is is =
 started-run held home asked command (Err stopped) asked_is is = tt
 
 -- and so does that of a trial, which hangs on no file
-pub started-told : (held : Option Files) (home : Components) (asked : Option Command) (sample : Sample) (command : RunCommand) (result : Result ReadStart Stop)
+pub started-told : (held : Option Files) (home : Components) (asked : Option Command) (sample : Sample) (command : RunCommand) (result : Result ReadStart RunFault)
     → asked ≡ Some (trial sample command)
     → IfOk result (λ start. (reads : Readings) → AreOutcomes reads → as_start start ≡ start_of_trial reads sample command)
     → IfOk result (λ start. (reads : Readings) → AreOutcomes reads → IfSome held (λ files. as_start start ≡ start_of reads files home asked))

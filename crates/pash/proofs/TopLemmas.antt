@@ -12,7 +12,7 @@ use Rattle.pash.specs.Meaning.{Meaning, outside_of}
 use Rattle.pash.specs.Runs.{Leaves, Means, Point, RunsAs}
 use Rattle.pash.specs.Words.{Command}
 use Rattle.pash.specs.declared.answers.Outcome.{Outcome}
-use Rattle.pash.specs.declared.answers.Stop.{Stop}
+use Rattle.pash.specs.declared.answers.RunFault.{RunFault}
 use Rattle.pash.specs.declared.answers.Why.{Why}
 use Rattle.pash.specs.declared.answers.Why.TheVariants as why
 use Rattle.pash.proofs.RunLemmas.{where_told}
@@ -27,7 +27,7 @@ left-stopped meaning outcome held old new left =
     }
 
 -- however a run came out, output and errors have grown by prefixes
-pub prefixes-so : (means : Means) (old new : Point) (result : Result Outcome Stop) → RunsAs means old result new
+pub prefixes-so : (means : Means) (old new : Point) (result : Result Outcome RunFault) → RunsAs means old result new
     → (reads : Readings) → AreOutcomes reads → (expansions : Expansions) → AreExpansions expansions → IfSome old.tree.held
     (λ files. IfSome old.seen.drawn.left (λ text.
     Stopped old.seen new.seen (means reads expansions (outside_of old.tree.home files text)).world))
@@ -40,12 +40,12 @@ prefixes-so means old new (Ok outcome) ran reads are expansions exps =
 prefixes-so means old new (Err stopped) ran reads are expansions exps = ran.comes reads are expansions exps
 
 -- a command that has come to an answer left its meaning
-pub meaning-so : (means : Means) (old new : Point) (result : Result Outcome Stop) (outcome : Outcome) → result ≡ Ok outcome → RunsAs means old result new
+pub meaning-so : (means : Means) (old new : Point) (result : Result Outcome RunFault) (outcome : Outcome) → result ≡ Ok outcome → RunsAs means old result new
     → (reads : Readings) → AreOutcomes reads → (expansions : Expansions) → AreExpansions expansions → IsAnswer outcome.why → IfSome old.tree.held
     (λ files. IfSome old.seen.drawn.left (λ text.
     Leaves (means reads expansions (outside_of old.tree.home files text)) outcome new.tree.held old.seen new.seen))
 meaning-so means old new result outcome is came reads are expansions exps answer =
-    (subst (λ (it : Result Outcome Stop). RunsAs means old it new) is came).comes reads are expansions exps
+    (subst (λ (it : Result Outcome RunFault). RunsAs means old it new) is came).comes reads are expansions exps
 
 -- the answers for a script and that of usage are no faults
 no-fault : (command : Option Command) (answer : Why) (status : ℕ) → MatchOption command (answer ≡ why.Usage) (λ _. IsOfScript answer)
@@ -60,8 +60,8 @@ no-fault (Some command) why.WriteFault status is = absurd is
 no-fault (Some command) why.TreeFault status is = absurd is
 no-fault (Some command) why.Memory status is = absurd is
 
-pub status-so : (command : Option Command) (result : Result Outcome Stop) (outcome : Outcome) → result ≡ Ok outcome
+pub status-so : (command : Option Command) (result : Result Outcome RunFault) (outcome : Outcome) → result ≡ Ok outcome
     → IfOk result (λ it. MatchOption command (it.why ≡ why.Usage) (λ _. IsOfScript it.why)) → HasFaultStatus outcome.why outcome.status
 status-so command result outcome is came =
     no-fault command outcome.why outcome.status
-    (subst (λ (one : Result Outcome Stop). IfOk one (λ it. MatchOption command (it.why ≡ why.Usage) (λ _. IsOfScript it.why))) is came)
+    (subst (λ (one : Result Outcome RunFault). IfOk one (λ it. MatchOption command (it.why ≡ why.Usage) (λ _. IsOfScript it.why))) is came)

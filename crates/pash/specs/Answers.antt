@@ -11,8 +11,8 @@ use Rattle.pash.specs.declared.answers.TheConstants.{REFUSED}
 use Rattle.pash.specs.declared.answers.Outcome.{Outcome}
 use Rattle.pash.specs.declared.answers.Why.{Why}
 use Rattle.pash.specs.declared.answers.Why.TheVariants as why
-use Rattle.pash.specs.declared.answers.Stop.{Stop}
-use Rattle.pash.specs.declared.answers.Stop.TheVariants as stop
+use Rattle.pash.specs.declared.answers.RunFault.{RunFault}
+use Rattle.pash.specs.declared.answers.RunFault.TheVariants as stop
 
 -- the text, a space, and a number
 abbrev pub with_number : List ℕ → ℕ → List ℕ
@@ -122,13 +122,13 @@ IsWithoutScript why.TreeFault = ⊥
 IsWithoutScript why.Memory = ⊥
 
 -- the answer of a run that stopped, and its status
-abbrev pub fault_of : Stop → Why
+abbrev pub fault_of : RunFault → Why
 fault_of stop.Read = why.ReadFault
 fault_of stop.Write = why.WriteFault
 fault_of stop.Tree = why.TreeFault
 fault_of stop.Memory = why.Memory
 
-abbrev pub fault_status : Stop → ℕ
+abbrev pub fault_status : RunFault → ℕ
 fault_status stop.Read = 120
 fault_status stop.Write = 121
 fault_status stop.Tree = 122

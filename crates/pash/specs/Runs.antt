@@ -19,21 +19,21 @@ use Rattle.pash.specs.Answers.{line_of, outcome_by}
 use Rattle.pash.specs.Meaning.{Meaning, Outside, outside_of}
 use Rattle.pash.specs.declared.answers.TheConstants.{REFUSED}
 use Rattle.pash.specs.declared.answers.Outcome.{Outcome}
-use Rattle.pash.specs.declared.answers.Stop.{Stop}
-use Rattle.pash.specs.declared.answers.Stop.TheVariants as stop
+use Rattle.pash.specs.declared.answers.RunFault.{RunFault}
+use Rattle.pash.specs.declared.answers.RunFault.TheVariants as stop
 use Rattle.pash.specs.declared.answers.Why.{Why}
 
 -- why a run stops at a failure of the tree, or of the output and errors
-abbrev pub stop_of_tree : WorldErr → Stop
+abbrev pub stop_of_tree : WorldErr → RunFault
 stop_of_tree world.Failed = stop.Tree
 stop_of_tree world.Memory = stop.Memory
 
-abbrev pub stop_of_sink : WorldErr → Stop
+abbrev pub stop_of_sink : WorldErr → RunFault
 stop_of_sink world.Failed = stop.Write
 stop_of_sink world.Memory = stop.Memory
 
 -- the answer of an evaluation that is over, or why it stopped
-abbrev pub came_of : How → ℕ → Result Outcome Stop
+abbrev pub came_of : How → ℕ → Result Outcome RunFault
 came_of (how.Gone flow) status = Ok (outcome_by flow status)
 came_of how.ReadFault status = Err stop.Read
 came_of how.WriteFault status = Err stop.Write
@@ -41,7 +41,7 @@ came_of how.TreeFault status = Err stop.Tree
 came_of how.Memory status = Err stop.Memory
 
 -- a call stops only where a count rose, or for want of memory; where it doesn't stop, none rose
-pub record Stops {T : Type 0} (old new : Faults) (result : Result T Stop) : Type 0 where
+pub record Stops {T : Type 0} (old new : Faults) (result : Result T RunFault) : Type 0 where
   pub ok : OnOk result (new ≡ old)
   pub read : IsErrOf result stop.Read → Rose old.input new.input
   pub write : IsErrOf result stop.Write → Rose old.output new.output ⊎ Rose old.errors new.errors
@@ -58,7 +58,7 @@ pub record Leaves (meaning : Meaning) (outcome : Outcome) (held : Option Files) 
   pub used : new.drawn.used ≡ option_map (with_words meaning.used) old.drawn.used
 
 -- or it stopped, and output and errors have grown by prefixes of the meaning's
-abbrev pub Comes : Meaning → Result Outcome Stop → Option Files → Seen → Seen → Type 0
+abbrev pub Comes : Meaning → Result Outcome RunFault → Option Files → Seen → Seen → Type 0
 Comes meaning (Ok outcome) held old new = Leaves meaning outcome held old new
 Comes meaning (Err stopped) held old new = Stopped old new meaning.world
 
@@ -76,7 +76,7 @@ abbrev pub Means : Type 0
 Means = Readings → Expansions → Outside → Meaning
 
 -- a command was run: it left its meaning, or stopped; and why
-pub record RunsAs (means : Means) (old : Point) (result : Result Outcome Stop) (new : Point) : Type 0 where
+pub record RunsAs (means : Means) (old : Point) (result : Result Outcome RunFault) (new : Point) : Type 0 where
   pub comes : (reads : Readings) → AreOutcomes reads → (expansions : Expansions) → AreExpansions expansions → IfSome old.tree.held
       (λ files. IfSome old.seen.drawn.left (λ input.
       Comes (means reads expansions (outside_of old.tree.home files input)) result new.tree.held old.seen new.seen))
@@ -103,7 +103,7 @@ pub record CutShort (answer : Why) (old new : Seen) : Type 0 where
   pub output : new.taken ≡ old.taken
   pub errors : GrewByPrefix old.errors new.errors (line_of answer)
 
-abbrev pub TellsOnly : Why → Result Outcome Stop → Seen → Seen → Type 0
+abbrev pub TellsOnly : Why → Result Outcome RunFault → Seen → Seen → Type 0
 TellsOnly answer (Ok outcome) old new = OnlyTold answer outcome.status old new
 TellsOnly answer (Err stopped) old new = CutShort answer old new
 

@@ -89,7 +89,7 @@ pub fn ended(flow: Flow, status: u8) -> Outcome
 
 /// Why a run stops before its end.
 #[derive(Clone, Copy, Debug, PartialEq, Eq)]
-pub enum Stop {
+pub enum RunFault {
     /// The input failed.
     Read,
     /// The output or the errors failed.
@@ -100,7 +100,7 @@ pub enum Stop {
     Memory,
 }
 
-impl Stop {
+impl RunFault {
     ghost use Rattle.std.specs.Prelude.{◌≡◌};
     ghost use Rattle.pash.specs.Answers.{fault_of, fault_status};
 
@@ -109,10 +109,10 @@ impl Stop {
         ensures { result ≡ fault_of self }
     {
         match self {
-            Stop::Read => Why::ReadFault,
-            Stop::Write => Why::WriteFault,
-            Stop::Tree => Why::TreeFault,
-            Stop::Memory => Why::Memory,
+            RunFault::Read => Why::ReadFault,
+            RunFault::Write => Why::WriteFault,
+            RunFault::Tree => Why::TreeFault,
+            RunFault::Memory => Why::Memory,
         }
     }
 
@@ -121,30 +121,30 @@ impl Stop {
         ensures { result ≡ fault_status self }
     {
         match self {
-            Stop::Read => 120,
-            Stop::Write => 121,
-            Stop::Tree => 122,
-            Stop::Memory => 123,
+            RunFault::Read => 120,
+            RunFault::Write => 121,
+            RunFault::Tree => 122,
+            RunFault::Memory => 123,
         }
     }
 }
 
 /// Why a run stops where the tree, or a reader of it, gave this error.
-pub fn of_tree(error: WorldErr) -> Stop
+pub fn of_tree(error: WorldErr) -> RunFault
     ensures { result ≡ stop_of_tree error }
 {
     match error {
-        WorldErr::Failed => Stop::Tree,
-        WorldErr::Memory => Stop::Memory,
+        WorldErr::Failed => RunFault::Tree,
+        WorldErr::Memory => RunFault::Memory,
     }
 }
 
 /// Why a run stops where the output or the errors gave this error.
-pub fn of_sink(error: WorldErr) -> Stop
+pub fn of_sink(error: WorldErr) -> RunFault
     ensures { result ≡ stop_of_sink error }
 {
     match error {
-        WorldErr::Failed => Stop::Write,
-        WorldErr::Memory => Stop::Memory,
+        WorldErr::Failed => RunFault::Write,
+        WorldErr::Memory => RunFault::Memory,
     }
 }

@@ -12,7 +12,7 @@ ghost use Rattle.pash.specs.Runs.{DrawsNothing, OnlyTold, RunsAs, Stops, TellsOn
 ghost use Rattle.pash.specs.Starts.{EndsWith, IfAnswered, RunsNothing, as_start, draws, text_of, tries, uses_tree};
 ghost use Rattle.pash.specs.Words.{command_of, reads_input, texts, uses_files};
 
-use crate::answers::{Outcome, Stop, Why, answered, ended, of_sink};
+use crate::answers::{Outcome, RunFault, Why, answered, ended, of_sink};
 use crate::command::Sample;
 use crate::lines::answer_line;
 use crate::samples::sample_text;
@@ -26,7 +26,7 @@ use std::alloc::Global;
 
 /// How a run came out, with the input and the output that it was handed.
 pub struct Ran<I, O> {
-    pub outcome: Result<Outcome, Stop>,
+    pub outcome: Result<Outcome, RunFault>,
     pub input: I,
     pub out: O,
 }
@@ -60,8 +60,8 @@ pub fn run_words<T: Tree, I: Source + Send, O: Sink + Send, E: Sink, G: Gate, X:
         (result.input ≡ input) × OnlyLent (T.state tree.old) (T.state tree.new) × DrawsNothing
         (seen_of (drawn_of (I.left input) (X.used engine.old)) (O.taken out) (E.taken err.old))
         (seen_of (drawn_of (I.left result.input) (X.used engine.new)) (O.taken result.out) (E.taken err.new)) }
-    ensures unread { reads_input (command_of (texts words.now)) ≡ false → (result.input ≡ input) × (IsErrOf result.outcome Stop.Read → ⊥) }
-    ensures unused { uses_files (command_of (texts words.now)) ≡ false → (tree.new ≡ tree.old) × (IsErrOf result.outcome Stop.Tree → ⊥) }
+    ensures unread { reads_input (command_of (texts words.now)) ≡ false → (result.input ≡ input) × (IsErrOf result.outcome RunFault.Read → ⊥) }
+    ensures unused { uses_files (command_of (texts words.now)) ≡ false → (tree.new ≡ tree.old) × (IsErrOf result.outcome RunFault.Tree → ⊥) }
 {
     match begin(alloc, tree, words) {
         Ok(start) => run_and_tell(alloc, start, tree, input, out, err, gate, engine),
@@ -96,8 +96,8 @@ fn run_and_tell<T: Tree, I: Source + Send, O: Sink + Send, E: Sink, G: Gate, X: 
     ensures answered { IfAnswered start (λ answer. (result.input ≡ input) × (T.state tree.new ≡ T.state tree.old) × TellsOnly answer result.outcome
         (seen_of (drawn_of (I.left input) (X.used engine.old)) (O.taken out) (E.taken err.old))
         (seen_of (drawn_of (I.left result.input) (X.used engine.new)) (O.taken result.out) (E.taken err.new))) }
-    ensures unread { draws start ≡ false → (result.input ≡ input) × (IsErrOf result.outcome Stop.Read → ⊥) }
-    ensures unused { uses_tree start ≡ false → (tree.new ≡ tree.old) × (IsErrOf result.outcome Stop.Tree → ⊥) }
+    ensures unread { draws start ≡ false → (result.input ≡ input) × (IsErrOf result.outcome RunFault.Read → ⊥) }
+    ensures unused { uses_tree start ≡ false → (tree.new ≡ tree.old) × (IsErrOf result.outcome RunFault.Tree → ⊥) }
 {
     let Ran {
         outcome,
@@ -144,8 +144,8 @@ fn run_start<T: Tree, I: Source + Send, O: Sink + Send, E: Sink, G: Gate, X: Eng
     ensures answered { IfAnswered start (λ answer. (result.input ≡ input) × (T.state tree.new ≡ T.state tree.old) × (result.outcome ≡ Ok (refusing answer))
         × (seen_of (drawn_of (I.left result.input) (X.used engine.new)) (O.taken result.out) (E.taken err.new)
         ≡ seen_of (drawn_of (I.left input) (X.used engine.old)) (O.taken out) (E.taken err.old))) }
-    ensures unread { draws start ≡ false → (result.input ≡ input) × (IsErrOf result.outcome Stop.Read → ⊥) }
-    ensures unused { uses_tree start ≡ false → (tree.new ≡ tree.old) × (IsErrOf result.outcome Stop.Tree → ⊥) }
+    ensures unread { draws start ≡ false → (result.input ≡ input) × (IsErrOf result.outcome RunFault.Read → ⊥) }
+    ensures unused { uses_tree start ≡ false → (tree.new ≡ tree.old) × (IsErrOf result.outcome RunFault.Tree → ⊥) }
 {
     match start {
         Start::Answered(why) => Ran {
@@ -189,16 +189,16 @@ fn run_start<T: Tree, I: Source + Send, O: Sink + Send, E: Sink, G: Gate, X: Eng
 
 /// Writes the text that a seed gives.
 #[tactic(auto, using(ps_world::proofs::ToldLemmas::grew_by_nothing))]
-fn write_sample<O: Sink>(alloc: Global, sample: Sample, out: &mut O) -> Result<Outcome, Stop>
+fn write_sample<O: Sink>(alloc: Global, sample: Sample, out: &mut O) -> Result<Outcome, RunFault>
     ensures outcome { IfOk result (λ outcome. outcome ≡ finished 0) }
     ensures ok { OnOk result (O.taken out.new ≡ then_bytes (O.taken out.old) (text_of sample)) }
     ensures part { OnErr result (GrewByPrefix (O.taken out.old) (O.taken out.new) (text_of sample)) }
-    ensures own { (IsErrOf result Stop.Read → ⊥) × (IsErrOf result Stop.Tree → ⊥) }
+    ensures own { (IsErrOf result RunFault.Read → ⊥) × (IsErrOf result RunFault.Tree → ⊥) }
     ensures cause { Stops (faults_of 0 (O.faults out.old) 0 0) (faults_of 0 (O.faults out.new) 0 0) result }
 {
     let text = match sample_text(alloc, sample.seed, sample.lines) {
         Ok(text) => text,
-        Err(_refused) => return Err(Stop::Memory),
+        Err(_refused) => return Err(RunFault::Memory),
     };
     match write_all(out, text.as_slice()) {
         Ok(()) => Ok(Outcome {
@@ -211,7 +211,7 @@ fn write_sample<O: Sink>(alloc: Global, sample: Sample, out: &mut O) -> Result<O
 
 /// How a trial came out, with the output that it was handed.
 struct Tried<O> {
-    outcome: Result<Outcome, Stop>,
+    outcome: Result<Outcome, RunFault>,
     out: O,
 }
 
@@ -235,12 +235,12 @@ fn run_trial<T: Tree, O: Sink + Send, E: Sink, G: Gate, X: Engine>(
         (point_of (T.state tree.new) (seen_of (drawn_of left (X.used engine.new)) (O.taken result.out) (E.taken err.new))
         (faults_of faults (O.faults result.out) (E.faults err.new) (T.faults tree.new))) }
     ensures ends { IfOk result.outcome (λ outcome. IsOfRun outcome.why) }
-    ensures input { IsErrOf result.outcome Stop.Read → ⊥ }
+    ensures input { IsErrOf result.outcome RunFault.Read → ⊥ }
 {
     match sample_text(alloc, sample.seed, sample.lines) {
         Ok(text) => run_over(alloc, script, setup, text, tree, out, err, gate, engine),
         Err(_refused) => Tried {
-            outcome: Err(Stop::Memory),
+            outcome: Err(RunFault::Memory),
             out,
         },
     }
@@ -267,7 +267,7 @@ fn run_over<T: Tree, O: Sink + Send, E: Sink, G: Gate, X: Engine>(
         (point_of (T.state tree.new) (seen_of (drawn_of left (X.used engine.new)) (O.taken result.out) (E.taken err.new))
         (faults_of faults (O.faults result.out) (E.faults err.new) (T.faults tree.new))) }
     ensures ends { IfOk result.outcome (λ outcome. IsOfRun outcome.why) }
-    ensures input { IsErrOf result.outcome Stop.Read → ⊥ }
+    ensures input { IsErrOf result.outcome RunFault.Read → ⊥ }
 {
     let source = NoFailSource::new(text);
     let Setup { shell, width } = setup;
@@ -281,15 +281,15 @@ fn run_over<T: Tree, O: Sink + Send, E: Sink, G: Gate, X: Engine>(
 }
 
 /// The answer of an evaluation that is over, where `status` is `$?`; or why it stopped.
-fn came_of(how: How, status: u8) -> Result<Outcome, Stop>
+fn came_of(how: How, status: u8) -> Result<Outcome, RunFault>
     ensures { result ≡ came_of_def how status }
 {
     match how {
         How::Gone(flow) => Ok(ended(flow, status)),
-        How::ReadFault => Err(Stop::Read),
-        How::WriteFault => Err(Stop::Write),
-        How::TreeFault => Err(Stop::Tree),
-        How::Memory => Err(Stop::Memory),
+        How::ReadFault => Err(RunFault::Read),
+        How::WriteFault => Err(RunFault::Write),
+        How::TreeFault => Err(RunFault::Tree),
+        How::Memory => Err(RunFault::Memory),
     }
 }
 
@@ -300,13 +300,13 @@ fn tell<O: Sink, E: Sink>(
     outcome: Outcome,
     out: &mut O,
     err: &mut E,
-) -> Result<Outcome, Stop>
+) -> Result<Outcome, RunFault>
     ensures outcome { IfOk result (λ same. same ≡ outcome) }
     ensures out { O.taken out.new ≡ O.taken out.old }
     ensures ok { OnOk result (E.taken err.new ≡ then_bytes (E.taken err.old) (line_of outcome.why)) }
     ensures part { OnErr result (GrewByPrefix (E.taken err.old) (E.taken err.new) (line_of outcome.why)) }
     ensures sent { OnOk result ((O.sent out.new ≡ O.taken out.new) × (E.sent err.new ≡ E.taken err.new)) }
-    ensures own { (IsErrOf result Stop.Read → ⊥) × (IsErrOf result Stop.Tree → ⊥) }
+    ensures own { (IsErrOf result RunFault.Read → ⊥) × (IsErrOf result RunFault.Tree → ⊥) }
     ensures cause { Stops (faults_of 0 (O.faults out.old) (E.faults err.old) 0) (faults_of 0 (O.faults out.new) (E.faults err.new) 0) result }
 {
     match answer_line(alloc, &outcome.why) {
@@ -314,18 +314,18 @@ fn tell<O: Sink, E: Sink>(
             Ok(()) => Ok(outcome),
             Err(stop) => Err(stop),
         },
-        Err(_refused) => Err(Stop::Memory),
+        Err(_refused) => Err(RunFault::Memory),
     }
 }
 
 /// Writes a line to the errors, and sends on all that was written.
 #[tactic(auto, using(ps_world::proofs::ToldLemmas::grew_by_whole))]
-fn send<O: Sink, E: Sink>(line: &[u8], out: &mut O, err: &mut E) -> Result<(), Stop>
+fn send<O: Sink, E: Sink>(line: &[u8], out: &mut O, err: &mut E) -> Result<(), RunFault>
     ensures out { O.taken out.new ≡ O.taken out.old }
     ensures ok { OnOk result (E.taken err.new ≡ then_bytes (E.taken err.old) line.now) }
     ensures part { OnErr result (GrewByPrefix (E.taken err.old) (E.taken err.new) line.now) }
     ensures sent { OnOk result ((O.sent out.new ≡ O.taken out.new) × (E.sent err.new ≡ E.taken err.new)) }
-    ensures own { (IsErrOf result Stop.Read → ⊥) × (IsErrOf result Stop.Tree → ⊥) }
+    ensures own { (IsErrOf result RunFault.Read → ⊥) × (IsErrOf result RunFault.Tree → ⊥) }
     ensures cause { Stops (faults_of 0 (O.faults out.old) (E.faults err.old) 0) (faults_of 0 (O.faults out.new) (E.faults err.new) 0) result }
 {
     match write_all(err, line) {
@@ -335,10 +335,10 @@ fn send<O: Sink, E: Sink>(line: &[u8], out: &mut O, err: &mut E) -> Result<(), S
 }
 
 /// Sends on all that was written.
-fn flush<O: Sink, E: Sink>(out: &mut O, err: &mut E) -> Result<(), Stop>
+fn flush<O: Sink, E: Sink>(out: &mut O, err: &mut E) -> Result<(), RunFault>
     ensures taken { (O.taken out.new ≡ O.taken out.old) × (E.taken err.new ≡ E.taken err.old) }
     ensures sent { OnOk result ((O.sent out.new ≡ O.taken out.new) × (E.sent err.new ≡ E.taken err.new)) }
-    ensures own { (IsErrOf result Stop.Read → ⊥) × (IsErrOf result Stop.Tree → ⊥) }
+    ensures own { (IsErrOf result RunFault.Read → ⊥) × (IsErrOf result RunFault.Tree → ⊥) }
     ensures cause { Stops (faults_of 0 (O.faults out.old) (E.faults err.old) 0) (faults_of 0 (O.faults out.new) (E.faults err.new) 0) result }
 {
     if let Err(error) = out.flush() {

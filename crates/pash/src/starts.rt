@@ -11,7 +11,7 @@ ghost use Rattle.pash.specs.Runs.{Stops};
 ghost use Rattle.pash.specs.Starts.{IsOfCommand, as_start, draws, file_of, over_text, runs, setup_of, shell_of, start_of, start_of_file, start_of_outcome, start_of_run, start_of_trial, text_of, uses_tree};
 ghost use Rattle.pash.specs.Words.{as_run, command_of, reads_input, texts, uses_files};
 
-use crate::answers::{Stop, Why, of_tree, refusal_of};
+use crate::answers::{RunFault, Why, of_tree, refusal_of};
 use crate::command::{Command, RunCommand, Sample};
 use crate::reading::read_script;
 use crate::words::read_command;
@@ -50,7 +50,7 @@ pub struct Setup {
 }
 
 /// Finds out what the words ask for: whether they are a command, and whether SCRIPT is a file, and its text a script.
-pub fn begin<T: Tree>(alloc: Global, tree: &mut T, words: &[String]) -> Result<Start, Stop>
+pub fn begin<T: Tree>(alloc: Global, tree: &mut T, words: &[String]) -> Result<Start, RunFault>
     requires whole { IfSome (T.state tree.old).held NoWriterOut }
     ensures start { IfOk result (λ start. (reads : Readings) → AreOutcomes reads → IfSome (T.state tree.old).held (λ files.
         as_start start ≡ start_of reads files (T.state tree.old).home (command_of (texts words.now)))) }
@@ -69,11 +69,11 @@ pub fn begin<T: Tree>(alloc: Global, tree: &mut T, words: &[String]) -> Result<S
 }
 
 /// Makes what a trial begins with.
-fn begin_trial(alloc: Global, sample: Sample, command: &RunCommand<'_>) -> Result<Start, Stop>
+fn begin_trial(alloc: Global, sample: Sample, command: &RunCommand<'_>) -> Result<Start, RunFault>
     ensures start { IfOk result (λ start. (reads : Readings) → AreOutcomes reads → as_start start ≡ start_of_trial reads sample (as_run command.now)) }
     ensures command { IfOk result IsOfCommand }
     ensures unread { IfOk result (λ start. draws start ≡ false) }
-    ensures memory { IfErr result (λ stop. stop ≡ Stop.Memory) }
+    ensures memory { IfErr result (λ stop. stop ≡ RunFault.Memory) }
 {
     match begin_text(alloc, command, TRIAL_SCRIPT) {
         Ok(start) => Ok(over_sample(start, sample)),
@@ -96,7 +96,11 @@ fn over_sample(start: Start, sample: Sample) -> Start
 }
 
 /// Looks up the script of a command.
-fn begin_run<T: Tree>(alloc: Global, tree: &mut T, command: &RunCommand<'_>) -> Result<Start, Stop>
+fn begin_run<T: Tree>(
+    alloc: Global,
+    tree: &mut T,
+    command: &RunCommand<'_>,
+) -> Result<Start, RunFault>
     requires whole { IfSome (T.state tree.old).held NoWriterOut }
     ensures start { IfOk result (λ start. (reads : Readings) → AreOutcomes reads → IfSome (T.state tree.old).held (λ files.
         as_start start ≡ start_of_run reads files (T.state tree.old).home (as_run command.now))) }
@@ -116,7 +120,7 @@ fn begin_at<T: Tree>(
     tree: &mut T,
     command: &RunCommand<'_>,
     place: Place,
-) -> Result<Start, Stop>
+) -> Result<Start, RunFault>
     requires whole { IfSome (T.state tree.old).held NoWriterOut }
     requires file { IfSome (T.state tree.old).held (λ files. StandsIn files place) }
     ensures start { IfOk result (λ start. (reads : Readings) → AreOutcomes reads → IfSome (T.state tree.old).held (λ files.
@@ -142,13 +146,13 @@ fn script_path(place: Place) -> Option<Path>
 }
 
 /// The answer where the script's path names no file.
-fn no_script(alloc: Global, command: &RunCommand<'_>) -> Result<Start, Stop>
+fn no_script(alloc: Global, command: &RunCommand<'_>) -> Result<Start, RunFault>
     ensures start { IfOk result (λ start. start ≡ Start.Answered (Why.NoScript command.now.script.now)) }
-    ensures memory { IfErr result (λ stop. stop ≡ Stop.Memory) }
+    ensures memory { IfErr result (λ stop. stop ≡ RunFault.Memory) }
 {
     match Text::copy_of(alloc, command.script) {
         Ok(path) => Ok(Start::Answered(Why::NoScript(path))),
-        Err(_refused) => Err(Stop::Memory),
+        Err(_refused) => Err(RunFault::Memory),
     }
 }
 
@@ -158,7 +162,7 @@ fn begin_file<T: Tree>(
     tree: &mut T,
     command: &RunCommand<'_>,
     path: &Path,
-) -> Result<Start, Stop>
+) -> Result<Start, RunFault>
     requires whole { IfSome (T.state tree.old).held NoWriterOut }
     requires file { IfSome (T.state tree.old).held (λ files. IsFileAt files path.now) }
     ensures start { IfOk result (λ start. (reads : Readings) → AreOutcomes reads → IfSome (T.state tree.old).held (λ files.
@@ -174,7 +178,7 @@ fn begin_file<T: Tree>(
 }
 
 /// Reads a script, as far as a script goes; answers its text, or the front of one that is too long.
-fn load_script<T: Tree>(alloc: Global, tree: &mut T, path: &Path) -> Result<Vec<u8>, Stop>
+fn load_script<T: Tree>(alloc: Global, tree: &mut T, path: &Path) -> Result<Vec<u8>, RunFault>
     requires { IfSome (T.state tree.old).held (λ files. IsFileAt files path.now) }
     ensures text { IfOk result (λ text. IfSome (T.state tree.old).held (λ files.
         AreReadAlike text.items (bytes_at files path.now))) }
@@ -194,24 +198,24 @@ fn load_script<T: Tree>(alloc: Global, tree: &mut T, path: &Path) -> Result<Vec<
 }
 
 /// What the text of a command's script comes to.
-fn begin_text(alloc: Global, command: &RunCommand<'_>, text: &[u8]) -> Result<Start, Stop>
+fn begin_text(alloc: Global, command: &RunCommand<'_>, text: &[u8]) -> Result<Start, RunFault>
     ensures start { IfOk result (λ start. (reads : Readings) → AreOutcomes reads →
         as_start start ≡ start_of_outcome (setup_of (as_run command.now)) (reads text.now)) }
     ensures command { IfOk result IsOfCommand }
-    ensures memory { IfErr result (λ stop. stop ≡ Stop.Memory) }
+    ensures memory { IfErr result (λ stop. stop ≡ RunFault.Memory) }
 {
     match read_script(alloc, text) {
         Ok(script) => begin_script(alloc, command, script),
         Err(ParseRefusal::Refused(cause)) => Ok(Start::Answered(Why::Refused(refusal_of(cause)))),
-        Err(ParseRefusal::Memory) => Err(Stop::Memory),
+        Err(ParseRefusal::Memory) => Err(RunFault::Memory),
     }
 }
 
 /// Makes what a command's script begins with.
-fn begin_script(alloc: Global, command: &RunCommand<'_>, script: Script) -> Result<Start, Stop>
+fn begin_script(alloc: Global, command: &RunCommand<'_>, script: Script) -> Result<Start, RunFault>
     ensures start { IfOk result (λ start. as_start start ≡ runs (script_tree script) (setup_of (as_run command.now))) }
     ensures command { IfOk result IsOfCommand }
-    ensures memory { IfErr result (λ stop. stop ≡ Stop.Memory) }
+    ensures memory { IfErr result (λ stop. stop ≡ RunFault.Memory) }
 {
     match new_shell(alloc, command) {
         Ok(shell) => Ok(Start::Script(
@@ -221,7 +225,7 @@ fn begin_script(alloc: Global, command: &RunCommand<'_>, script: Script) -> Resu
                 width: command.width,
             },
         )),
-        Err(_refused) => Err(Stop::Memory),
+        Err(_refused) => Err(RunFault::Memory),
     }
 }
 

@@ -15,8 +15,8 @@ use Rattle.sh_eval.specs.declared.outcomes.How.TheVariants as how
 use Rattle.sh_eval.specs.declared.refusals.Refusal.TheVariants as refusal
 use Rattle.sh_eval.specs.declared.session.Session.{Session}
 use Rattle.sh_eval.specs.declared.shell.Shell.{Shell}
-use Rattle.sh_eval.specs.declared.stops.Stop.{Stop}
-use Rattle.sh_eval.specs.declared.stops.Stop.TheVariants as stop
+use Rattle.sh_eval.specs.declared.stops.RedirectionError.{RedirectionError}
+use Rattle.sh_eval.specs.declared.stops.RedirectionError.TheVariants as stop
 use Rattle.sh_eval.specs.declared.streams.Held.{Held}
 use Rattle.sh_eval.specs.States.{State, Means, in_session, in_streams}
 use Rattle.sh_eval.specs.Targets.{Target}
@@ -179,7 +179,7 @@ opens-led way [] old mid first before some begun kept reaches = absurd (omega (a
 opens-led way (target ∷ targets) old mid first before some begun kept reaches = λ next came last session found back.
     around way target targets next old mid last came first before session begun kept reaches found back
 
-pub shuts-led : (why : Stop) (way : Flow) (targets : List Target) (old mid last : Point) (came : How) (first before : Before) (session : Session) → 0 < length targets → first ≡ before_in old.session.streams
+pub shuts-led : (why : RedirectionError) (way : Flow) (targets : List Target) (old mid last : Point) (came : How) (first before : Before) (session : Session) → 0 < length targets → first ≡ before_in old.session.streams
     → RemembersSome targets old.session.streams.from mid.session.streams.from first before → DoesAll targets old mid (Err why) → Skips why way mid came last
     → last.session.streams ≡ mid.session.streams → session ≡ in_streams (put_back before) last.session
     → Shuts (λ expansions. in_redirections way targets) old came (point_of last.shell session last.tree last.seen last.faults)
@@ -188,7 +188,7 @@ shuts-led why way (target ∷ targets) old mid last came first before session so
     around-stopped why way target targets next old mid last came first before session adds begun kept does skips streams back
 
 -- a line can be told where one stopped
-pub can-skip : (why : Stop) (targets : List Target) (old new : Point) → DoesAll targets old new (Err why) → IsSound old.session old.tree → CanSkip why new.session new.tree
+pub can-skip : (why : RedirectionError) (targets : List Target) (old new : Point) → DoesAll targets old new (Err why) → IsSound old.session old.tree → CanSkip why new.session new.tree
 can-skip (stop.Line line) targets old new does sound = does.leaves_on.sound sound
 can-skip stop.Tree targets old new does sound = tt
 can-skip stop.Memory targets old new does sound = tt

@@ -10,8 +10,8 @@ use Rattle.fl_commands.specs.Writers.{ChangesOnly}
 use Rattle.fl_commands.proofs.WriterLemmas.{only-within}
 use Rattle.sh_eval.specs.declared.flows.Flow.{Flow}
 use Rattle.sh_eval.specs.declared.flows.Flow.TheVariants as flow
-use Rattle.sh_eval.specs.declared.stops.Stop.{Stop}
-use Rattle.sh_eval.specs.declared.stops.Stop.TheVariants as stop
+use Rattle.sh_eval.specs.declared.stops.RedirectionError.{RedirectionError}
+use Rattle.sh_eval.specs.declared.stops.RedirectionError.TheVariants as stop
 use Rattle.sh_eval.specs.declared.streams.From.{From}
 use Rattle.sh_eval.specs.declared.streams.Streams.{Streams}
 use Rattle.sh_eval.specs.declared.session.Session.{Session}
@@ -94,7 +94,7 @@ breaks-more targets rest target old mid new seen reaches breaks =
     }
 
 -- all of them, where one stops
-pub all-stopped : (targets rest : List Target) (target : Target) (old mid new : Point) (why : Stop) → mid.seen ≡ old.seen → Reaches (λ way. redirecting way targets) (λ way. redirecting way (target ∷ rest)) old mid
+pub all-stopped : (targets rest : List Target) (target : Target) (old mid new : Point) (why : RedirectionError) → mid.seen ≡ old.seen → Reaches (λ way. redirecting way targets) (λ way. redirecting way (target ∷ rest)) old mid
     → Does (by_target target) mid new (Err why) → DoesAll targets old new (Err why)
 all-stopped targets rest target old mid new (stop.Line line) seen reaches does = reaches-line (λ way. redirecting way targets) target rest line old mid new reaches does
 all-stopped targets rest target old mid new stop.Tree seen reaches does =
@@ -182,7 +182,7 @@ all-led targets place one old mid new here below reaches led =
     reaches-led (λ way. redirecting way targets) one (drop (place + 1) targets) old mid new
     (subst (λ (it : List Target). Reaches (λ way. redirecting way targets) (λ way. redirecting way it) old mid) (cut targets place one here below) reaches) led
 
-pub all-stopped-at : (targets : List Target) (place : ℕ) (one : Target) (old mid new : Point) (why : Stop) → one ≡ get_or targets place one → place < length targets → mid.seen ≡ old.seen
+pub all-stopped-at : (targets : List Target) (place : ℕ) (one : Target) (old mid new : Point) (why : RedirectionError) → one ≡ get_or targets place one → place < length targets → mid.seen ≡ old.seen
     → Reaches (λ way. redirecting way targets) (λ way. redirecting way (drop place targets)) old mid → Does (by_target one) mid new (Err why) → DoesAll targets old new (Err why)
 all-stopped-at targets place one old mid new why here below seen reaches does =
     all-stopped targets (drop (place + 1) targets) one old mid new why seen

@@ -15,8 +15,8 @@ use Rattle.ps_world.proofs.TreeStateLemmas.{balanced-none, balanced-only_lent}
 use Rattle.ps_world.proofs.WritingLemmas.{no_writer_out-filled, set_at}
 use Rattle.sh_eval.specs.declared.session.Session.{Session}
 use Rattle.sh_eval.specs.declared.shell.Shell.{Shell}
-use Rattle.sh_eval.specs.declared.stops.Stop.{Stop}
-use Rattle.sh_eval.specs.declared.stops.Stop.TheVariants as stop
+use Rattle.sh_eval.specs.declared.stops.RedirectionError.{RedirectionError}
+use Rattle.sh_eval.specs.declared.stops.RedirectionError.TheVariants as stop
 use Rattle.sh_eval.specs.declared.streams.From.{From}
 use Rattle.sh_eval.specs.declared.streams.From.TheVariants as from
 use Rattle.sh_eval.specs.declared.streams.Streams.{Streams}
@@ -220,7 +220,7 @@ writes-more anew number text state = wrote-more (writing_at anew number text (na
 more-stopped : (does : State → Redirected) (wanted : List ℕ) → ((state : State) → does state ≡ stopped wanted) → WritesMore does
 more-stopped does wanted same state path one = subst (λ (it : Redirected). IsOneOf (left_off it state).world.written path) (sym (same state)) one
 
-pub stops-line : (does : State → Redirected) (why : Stop) (wanted : List ℕ) (old : Point) → TellsLine why wanted → ((state : State) → does state ≡ stopped wanted) → Does does old old (Err why)
+pub stops-line : (does : State → Redirected) (why : RedirectionError) (wanted : List ℕ) (old : Point) → TellsLine why wanted → ((state : State) → does state ≡ stopped wanted) → Does does old old (Err why)
 stops-line does (stop.Line line) wanted old told same = record { at = λ base state has. same state ∙ ap stopped (sym told); same = refl }
 stops-line does stop.Tree wanted old told same = absurd told
 stops-line does stop.Memory wanted old told same = breaks-none does old (more-stopped does wanted same)
@@ -229,15 +229,15 @@ stops-by : (does : State → Redirected) (old new : Point) (why : WorldErr) → 
 stops-by does old new error.Failed breaks failed = (breaks, failed refl)
 stops-by does old new error.Memory breaks failed = breaks
 
-pub stops-tree : (does : State → Redirected) (old new : Point) (why : WorldErr) (told : Stop) → told ≡ of_tree why → Breaks (wrote_by does) old new → (why ≡ error.Failed → Rose old.faults.tree new.faults.tree)
+pub stops-tree : (does : State → Redirected) (old new : Point) (why : WorldErr) (told : RedirectionError) → told ≡ of_tree why → Breaks (wrote_by does) old new → (why ≡ error.Failed → Rose old.faults.tree new.faults.tree)
     → Does does old new (Err told)
-stops-tree does old new why told is breaks failed = subst (λ (it : Stop). Does does old new (Err it)) (sym is) (stops-by does old new why breaks failed)
+stops-tree does old new why told is breaks failed = subst (λ (it : RedirectionError). Does does old new (Err it)) (sym is) (stops-by does old new why breaks failed)
 
 -- what stands at a place is this
-pub at-place : (by : Place → State → Redirected) (here found : Place) (old new : Point) (result : Result (Option From) Stop) → here ≡ found → Does (by found) old new result → Does (by here) old new result
+pub at-place : (by : Place → State → Redirected) (here found : Place) (old new : Point) (result : Result (Option From) RedirectionError) → here ≡ found → Does (by found) old new result → Does (by here) old new result
 at-place by here found old new result is done = subst (λ (it : Place). Does (by it) old new result) (sym is) done
 
-pub line-at : (by : Place → State → Redirected) (here found : Place) (why : Stop) (wanted : List ℕ) (old : Point) → here ≡ found → TellsLine why wanted → ((state : State) → by found state ≡ stopped wanted) → Does (by here) old old (Err why)
+pub line-at : (by : Place → State → Redirected) (here found : Place) (why : RedirectionError) (wanted : List ℕ) (old : Point) → here ≡ found → TellsLine why wanted → ((state : State) → by found state ≡ stopped wanted) → Does (by here) old old (Err why)
 line-at by here found why wanted old is told same = at-place by here found old old (Err why) is (stops-line (by found) why wanted old told same)
 
 -- what is the same redirection writes the same
@@ -255,7 +255,7 @@ how-so : (target : Target) (here : How) (does : State → Redirected) → target
     → (state : State) → redirected target target.how (named_by state target.text) state ≡ does state
 how-so target here does is same state = ap (λ (it : How). redirected target it (named_by state target.text) state) is ∙ sym (same state)
 
-pub at-how : (target : Target) (here : How) (does : State → Redirected) (old new : Point) (result : Result (Option From) Stop) → target.how ≡ here → ((state : State) → does state ≡ redirected target here (named_by state target.text) state)
+pub at-how : (target : Target) (here : How) (does : State → Redirected) (old new : Point) (result : Result (Option From) RedirectionError) → target.how ≡ here → ((state : State) → does state ≡ redirected target here (named_by state target.text) state)
     → Does does old new result → Does (λ state. redirected target target.how (named_by state target.text) state) old new result
 at-how target here does old new (Ok value) is same done =
     record {
@@ -295,7 +295,7 @@ named-so text found old base state is has =
     let here : found ≡ resolve state.world.files old.tree.home text = subst (λ (it : Option Files). IfSome it (λ files. found ≡ resolve files old.tree.home text)) has.held is in
     here ∙ ap (λ (it : Components). resolve state.world.files it text) has.home
 
-does-named : (by : Place → State → Redirected) (text : List ℕ) (found : Place) (old new : Point) (result : Result (Option From) Stop) → IfSome old.tree.held (λ files. found ≡ resolve files old.tree.home text) → Does (by found) old new result
+does-named : (by : Place → State → Redirected) (text : List ℕ) (found : Place) (old new : Point) (result : Result (Option From) RedirectionError) → IfSome old.tree.held (λ files. found ≡ resolve files old.tree.home text) → Does (by found) old new result
     → Does (λ state. by (named_by state text) state) old new result
 does-named by text found old new (Ok value) is done =
     record {
@@ -311,7 +311,7 @@ does-named by text found old new (Err stop.Tree) is done =
 does-named by text found old new (Err stop.Memory) is done =
     breaks-so (by found) (λ state. by (named_by state text) state) old new (λ base state has. ap (λ (it : Place). by it state) (sym (named-so text found old base state is has))) done
 
-pub does-looked : (by : Place → State → Redirected) (text : List ℕ) (found : Place) (shell : Shell) (session : Session) (tree mid : TreeState) (seen : Seen) (input output errors count count_mid : ℕ) (new : Point) (result : Result (Option From) Stop)
+pub does-looked : (by : Place → State → Redirected) (text : List ℕ) (found : Place) (shell : Shell) (session : Session) (tree mid : TreeState) (seen : Seen) (input output errors count count_mid : ℕ) (new : Point) (result : Result (Option From) RedirectionError)
     → IfSome tree.held (λ files. found ≡ resolve files tree.home text) → mid ≡ tree → count_mid ≡ count → Does (by found) (point_of shell session mid seen (faults_of input output errors count_mid)) new result
     → Does (λ state. by (named_by state text) state) (point_of shell session tree seen (faults_of input output errors count)) new result
 does-looked by text found shell session tree mid seen input output errors count count_mid new result is same counts done =

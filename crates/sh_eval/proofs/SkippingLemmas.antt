@@ -9,8 +9,8 @@ use Rattle.sh_eval.specs.declared.outcomes.How.{How}
 use Rattle.sh_eval.specs.declared.outcomes.How.TheVariants as how
 use Rattle.sh_eval.specs.declared.session.Session.{Session}
 use Rattle.sh_eval.specs.declared.shell.Shell.{Shell}
-use Rattle.sh_eval.specs.declared.stops.Stop.{Stop}
-use Rattle.sh_eval.specs.declared.stops.Stop.TheVariants as stop
+use Rattle.sh_eval.specs.declared.stops.RedirectionError.{RedirectionError}
+use Rattle.sh_eval.specs.declared.stops.RedirectionError.TheVariants as stop
 use Rattle.sh_eval.specs.declared.streams.From.{From}
 use Rattle.sh_eval.specs.declared.streams.Streams.{Streams}
 use Rattle.sh_eval.specs.declared.leading.Before.{Before}
@@ -28,19 +28,19 @@ use Rattle.sh_eval.proofs.EndingLemmas.{ended, blamed}
 use Rattle.sh_eval.proofs.Growing.{adds-in_redirections, written-on}
 use Rattle.sh_eval.proofs.RedirectionLoops.{around-back, put-back}
 
-pub skips-line : (why : Stop) (way : Flow) (line told : List ℕ) (shell shell' : Shell) (session session' : Session) (tree tree' : TreeState) (seen seen' : Seen) (faults faults' : Faults) (came came' : How) → why ≡ stop.Line line → told ≡ line
+pub skips-line : (why : RedirectionError) (way : Flow) (line told : List ℕ) (shell shell' : Shell) (session session' : Session) (tree tree' : TreeState) (seen seen' : Seen) (faults faults' : Faults) (came came' : How) → why ≡ stop.Line line → told ≡ line
     → shell' ≡ status_behind came 1 shell → came' ≡ how_behind came way → Evaluates (λ expansions state. on (tells told state)) (point_of shell session tree seen faults) came (point_of shell session' tree' seen' faults')
     → Skips why way (point_of shell session tree seen faults) came' (point_of shell' session' tree' seen' faults')
 skips-line why way line told shell shell' session session' tree tree' seen seen' faults faults' came came' is told_is shell_is came_is one =
-    subst (λ (it : Stop). Skips it way (point_of shell session tree seen faults) came' (point_of shell' session' tree' seen' faults')) (sym is)
+    subst (λ (it : RedirectionError). Skips it way (point_of shell session tree seen faults) came' (point_of shell' session' tree' seen' faults')) (sym is)
     (ended (λ expansions state. on (tells line state)) way 1 shell shell' session session' tree tree' seen seen' faults faults' came came' shell_is came_is
     (subst (λ (it : List ℕ). Evaluates (λ expansions state. on (tells it state)) (point_of shell session tree seen faults) came (point_of shell session' tree' seen' faults')) told_is one))
 
-pub skips-tree : (why : Stop) (way : Flow) (at : Point) → why ≡ stop.Tree → Skips why way at how.TreeFault at
-skips-tree why way at is = subst (λ (it : Stop). Skips it way at how.TreeFault at) (sym is) (refl, refl)
+pub skips-tree : (why : RedirectionError) (way : Flow) (at : Point) → why ≡ stop.Tree → Skips why way at how.TreeFault at
+skips-tree why way at is = subst (λ (it : RedirectionError). Skips it way at how.TreeFault at) (sym is) (refl, refl)
 
-pub skips-memory : (why : Stop) (way : Flow) (at : Point) → why ≡ stop.Memory → Skips why way at how.Memory at
-skips-memory why way at is = subst (λ (it : Stop). Skips it way at how.Memory at) (sym is) (refl, refl)
+pub skips-memory : (why : RedirectionError) (way : Flow) (at : Point) → why ≡ stop.Memory → Skips why way at how.Memory at
+skips-memory why way at is = subst (λ (it : RedirectionError). Skips it way at how.Memory at) (sym is) (refl, refl)
 
 -- the descriptors lead where they led, also where not all redirections were done
 streams-some : (reads has : Bool) (streams last : Streams) (before : Before) → (reads ≡ true → has ≡ true) → (reads ≡ false → last.from ≡ streams.from)
@@ -59,7 +59,7 @@ led-back-some targets streams now first before last session begun some still bac
     (streams-some some.reads_other (has_read targets) streams last.streams before some.of_them (λ off. still ∙ some.remembers.same off) is)
 
 -- the command in its redirections, where one of them stopped
-pub around-stopped : (why : Stop) (way : Flow) (target : Target) (targets : List Target) (next : Meaning) (old mid last : Point) (came : How) (first before : Before) (session : Session)
+pub around-stopped : (why : RedirectionError) (way : Flow) (target : Target) (targets : List Target) (next : Meaning) (old mid last : Point) (came : How) (first before : Before) (session : Session)
     → ((expansions : Expansions) → Adds (next expansions)) → first ≡ before_in old.session.streams
     → RemembersSome (target ∷ targets) old.session.streams.from mid.session.streams.from first before → DoesAll (target ∷ targets) old mid (Err why) → Skips why way mid came last
     → last.session.streams ≡ mid.session.streams → session ≡ in_streams (put_back before) last.session

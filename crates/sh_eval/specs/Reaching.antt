@@ -10,8 +10,8 @@ use Rattle.sh_eval.specs.declared.flows.Flow.{Flow}
 use Rattle.sh_eval.specs.declared.flows.Flow.TheVariants as flow
 use Rattle.sh_eval.specs.declared.outcomes.How.{How}
 use Rattle.sh_eval.specs.declared.outcomes.How.TheVariants as how
-use Rattle.sh_eval.specs.declared.stops.Stop.{Stop}
-use Rattle.sh_eval.specs.declared.stops.Stop.TheVariants as stop
+use Rattle.sh_eval.specs.declared.stops.RedirectionError.{RedirectionError}
+use Rattle.sh_eval.specs.declared.stops.RedirectionError.TheVariants as stop
 use Rattle.sh_eval.specs.Targets.{Target}
 use Rattle.sh_eval.specs.States.{State, Means, on}
 use Rattle.sh_eval.specs.Redirections.{redirecting, skipped, is_read}
@@ -35,7 +35,7 @@ abbrev pub written_by : List Target → State → List Components
 written_by targets state = (redirecting flow.On targets on state).state.world.written
 
 -- redirections are done, or the first that stops is told
-abbrev pub DoesAll : List Target → Point → Point → Result Unit Stop → Type 0
+abbrev pub DoesAll : List Target → Point → Point → Result Unit RedirectionError → Type 0
 DoesAll targets old new (Ok value) = Reaches (λ way. redirecting way targets) (λ way next. next) old new
 DoesAll targets old new (Err (stop.Line line)) = Reaches (λ way. redirecting way targets) (λ way next. skipped way line) old new
 DoesAll targets old new (Err stop.Tree) = Breaks (written_by targets) old new × Rose old.faults.tree new.faults.tree
@@ -57,13 +57,13 @@ pub record RemembersSome (targets : List Target) (from now : From) (first before
   pub remembers : Remembers reads_other from now first before
 
 -- a line can be told here, if there is one
-abbrev pub CanSkip : Stop → Session → TreeState → Type 0
+abbrev pub CanSkip : RedirectionError → Session → TreeState → Type 0
 CanSkip (stop.Line line) session tree = IsSound session tree
 CanSkip stop.Tree session tree = Unit {0}
 CanSkip stop.Memory session tree = Unit {0}
 
 -- a command is skipped where one of its redirections stopped
-abbrev pub Skips : Stop → Flow → Point → How → Point → Type 0
+abbrev pub Skips : RedirectionError → Flow → Point → How → Point → Type 0
 Skips (stop.Line line) way old came new = Evaluates (λ expansions. skipped way line) old came new
 Skips stop.Tree way old came new = (came ≡ how.TreeFault) × (new ≡ old)
 Skips stop.Memory way old came new = (came ≡ how.Memory) × (new ≡ old)

@@ -7,8 +7,8 @@ use Rattle.ps_world.specs.TreeState.{Balanced}
 use Rattle.ps_world.specs.Files.{NoWriterOut}
 use Rattle.ps_world.specs.Paths.{Components}
 use Rattle.fl_commands.specs.Writers.{ChangesOnly}
-use Rattle.sh_eval.specs.declared.stops.Stop.{Stop}
-use Rattle.sh_eval.specs.declared.stops.Stop.TheVariants as stop
+use Rattle.sh_eval.specs.declared.stops.RedirectionError.{RedirectionError}
+use Rattle.sh_eval.specs.declared.stops.RedirectionError.TheVariants as stop
 use Rattle.sh_eval.specs.declared.streams.From.{From}
 use Rattle.sh_eval.specs.States.{State}
 use Rattle.sh_eval.specs.Redirections.{Redirected, led, stopped}
@@ -57,19 +57,19 @@ pub record Breaks (wrote : State → List Components) (old new : Point) : Type 0
   pub lent : Balanced old.tree new.tree
 
 -- a redirection is done, or stops
-abbrev pub Does : (State → Redirected) → Point → Point → Result (Option From) Stop → Type 0
+abbrev pub Does : (State → Redirected) → Point → Point → Result (Option From) RedirectionError → Type 0
 Does does old new (Ok value) = Led does old new
 Does does old new (Err (stop.Line line)) = TellsWhy does line old new
 Does does old new (Err stop.Tree) = Breaks (wrote_by does) old new × Rose old.faults.tree new.faults.tree
 Does does old new (Err stop.Memory) = Breaks (wrote_by does) old new
 
 -- a line tells why, unless memory is wanted
-abbrev pub TellsLine : Stop → List ℕ → Type 0
+abbrev pub TellsLine : RedirectionError → List ℕ → Type 0
 TellsLine (stop.Line line) wanted = line ≡ wanted
 TellsLine stop.Tree wanted = ⊥
 TellsLine stop.Memory wanted = Unit {0}
 
 -- why a redirection isn't done where the tree failed
-abbrev pub of_tree : WorldErr → Stop
+abbrev pub of_tree : WorldErr → RedirectionError
 of_tree error.Failed = stop.Tree
 of_tree error.Memory = stop.Memory

@@ -16,7 +16,7 @@ use crate::leading::{Before, lead, led_to, read_instead};
 use crate::lines::{IS_A_DIRECTORY, NO_SUCH_FILE, diagnostic};
 use crate::rests::Rest;
 use crate::session::Session;
-use crate::stops::Stop;
+use crate::stops::RedirectionError;
 use crate::streams::{From, To};
 use crate::targets::Target;
 use ps_lines::Text;
@@ -31,7 +31,7 @@ pub(crate) fn redirect_all<T: Tree>(
     before: &mut Before,
     session: &mut Session,
     tree: &mut T,
-) -> Result<(), Stop>
+) -> Result<(), RedirectionError>
     requires whole { IfSome (T.state tree.old).held NoWriterOut }
     requires fresh { before.old.from ≡ None }
     ensures does { (shell : Shell) (seen : Seen) (input output errors : ℕ) → DoesAll targets.now
@@ -55,7 +55,7 @@ fn redirect<T: Tree>(
     target: &Target,
     session: &mut Session,
     tree: &mut T,
-) -> Result<Option<From>, Stop>
+) -> Result<Option<From>, RedirectionError>
     requires whole { IfSome (T.state tree.old).held NoWriterOut }
     ensures does { (shell : Shell) (seen : Seen) (input output errors : ℕ) → Does (λ state. redirected target.now target.now.how (named_by state target.now.text) state)
         (point_of shell session.old (T.state tree.old) seen (faults_of input output errors (T.faults tree.old)))
@@ -79,7 +79,7 @@ fn read_from<T: Tree>(
     text: &[u8],
     session: &mut Session,
     tree: &mut T,
-) -> Result<Option<From>, Stop>
+) -> Result<Option<From>, RedirectionError>
     requires whole { IfSome (T.state tree.old).held NoWriterOut }
     ensures does { (shell : Shell) (seen : Seen) (input output errors : ℕ) → Does (λ state. reading_at text.now (named_by state text.now) state)
         (point_of shell session.old (T.state tree.old) seen (faults_of input output errors (T.faults tree.old)))
@@ -100,7 +100,7 @@ fn read_at<T: Tree>(
     place: &Place,
     session: &mut Session,
     tree: &mut T,
-) -> Result<Option<From>, Stop>
+) -> Result<Option<From>, RedirectionError>
     requires whole { IfSome (T.state tree.old).held NoWriterOut }
     requires stands { IfSome (T.state tree.old).held (λ files. StandsIn files place.now) }
     ensures does { (shell : Shell) (seen : Seen) (input output errors : ℕ) → Does (reading_at text.now place.now)
@@ -129,7 +129,7 @@ fn write_to_file<T: Tree>(
     text: &[u8],
     session: &mut Session,
     tree: &mut T,
-) -> Result<Option<From>, Stop>
+) -> Result<Option<From>, RedirectionError>
     requires whole { IfSome (T.state tree.old).held NoWriterOut }
     ensures does { (shell : Shell) (seen : Seen) (input output errors : ℕ) → Does (λ state. writing_at anew number text.now (named_by state text.now) state)
         (point_of shell session.old (T.state tree.old) seen (faults_of input output errors (T.faults tree.old)))
@@ -153,7 +153,7 @@ fn write_at<T: Tree>(
     place: Place,
     session: &mut Session,
     tree: &mut T,
-) -> Result<Option<From>, Stop>
+) -> Result<Option<From>, RedirectionError>
     requires whole { IfSome (T.state tree.old).held NoWriterOut }
     requires stands { IfSome (T.state tree.old).held (λ files. StandsIn files place) }
     ensures does { (shell : Shell) (seen : Seen) (input output errors : ℕ) → Does (writing_at anew number text.now place)
@@ -182,7 +182,7 @@ fn lead_to_file<T: Tree>(
     path: Path,
     session: &mut Session,
     tree: &mut T,
-) -> Result<Option<From>, Stop>
+) -> Result<Option<From>, RedirectionError>
     requires made { IfSome (T.state tree.old).held (λ files. CanBeMade files path) }
     ensures does { (shell : Shell) (seen : Seen) (input output errors : ℕ) → Does (λ state. leading number (To.File path) (in_world (file_begun anew path) state))
         (point_of shell session.old (T.state tree.old) seen (faults_of input output errors (T.faults tree.old)))
@@ -201,7 +201,7 @@ fn lead_to_file<T: Tree>(
 }
 
 /// Has a descriptor lead where another leads.
-fn copy(number: u8, text: &[u8], session: &mut Session) -> Result<Option<From>, Stop>
+fn copy(number: u8, text: &[u8], session: &mut Session) -> Result<Option<From>, RedirectionError>
     ensures does { (shell : Shell) (tree : TreeState) (seen : Seen) (faults : Faults) → Does (λ state. leading number (led_to_def text.now state.session.streams) state)
         (point_of shell session.old tree seen faults) (point_of shell session.new tree seen faults) result }
     ensures from { IfOk result (λ read. read ≡ None) }
@@ -213,26 +213,26 @@ fn copy(number: u8, text: &[u8], session: &mut Session) -> Result<Option<From>, 
             lead(number, place, session);
             Ok(None)
         }
-        Err(_) => Err(Stop::Memory),
+        Err(_) => Err(RedirectionError::Memory),
     }
 }
 
 /// The line of why a path can't be read or written.
-fn line_of(alloc: Global, text: &[u8], reason: &[u8]) -> Stop
+fn line_of(alloc: Global, text: &[u8], reason: &[u8]) -> RedirectionError
     ensures { TellsLine result (diagnostic_def (codes "pash") text.now reason.now) }
 {
     match diagnostic(alloc, b"pash", text, reason) {
-        Ok(line) => Stop::Line(Text::from_vec(line)),
-        Err(_) => Stop::Memory,
+        Ok(line) => RedirectionError::Line(Text::from_vec(line)),
+        Err(_) => RedirectionError::Memory,
     }
 }
 
 /// Why a redirection isn't done where the tree failed.
-fn of_tree(error: WorldErr) -> Stop
+fn of_tree(error: WorldErr) -> RedirectionError
     ensures { result ≡ of_tree_def error }
 {
     match error {
-        WorldErr::Failed => Stop::Tree,
-        WorldErr::Memory => Stop::Memory,
+        WorldErr::Failed => RedirectionError::Tree,
+        WorldErr::Memory => RedirectionError::Memory,
     }
 }

@@ -8,7 +8,7 @@ use crate::flows::Flow;
 use crate::outcomes::How;
 use crate::session::Session;
 use crate::shell::Shell;
-use crate::stops::Stop;
+use crate::stops::RedirectionError;
 use crate::writing::tell;
 use ps_world::{Sink, Tree};
 
@@ -16,7 +16,7 @@ use ps_world::{Sink, Tree};
 ///
 /// Its descriptors still lead where they led up to that redirection.
 pub(crate) fn skip<T: Tree, O: Sink, E: Sink>(
-    stop: Stop,
+    stop: RedirectionError,
     way: Flow,
     shell: &mut Shell,
     session: &mut Session,
@@ -34,11 +34,11 @@ pub(crate) fn skip<T: Tree, O: Sink, E: Sink>(
         (faults_of input (O.faults out.new) (E.faults err.new) (T.faults tree.new))) }
 {
     match stop {
-        Stop::Line(line) => {
+        RedirectionError::Line(line) => {
             let how = tell(line.as_slice(), session, tree, out, err);
             leave(how, way, 1, shell)
         }
-        Stop::Tree => How::TreeFault,
-        Stop::Memory => How::Memory,
+        RedirectionError::Tree => How::TreeFault,
+        RedirectionError::Memory => How::Memory,
     }
 }

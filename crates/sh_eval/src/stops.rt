@@ -3,7 +3,7 @@ use ps_lines::Text;
 
 /// Why a redirection isn't done (XCU 2.8.1).
 #[derive(Debug, Drop)]
-pub enum Stop {
+pub enum RedirectionError {
     /// This line tells why.
     Line(Text),
     /// The tree failed.

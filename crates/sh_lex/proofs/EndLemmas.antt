@@ -25,9 +25,9 @@ use Rattle.sh_lex.proofs.Readings.{Reads-Leaves}
 use Rattle.sh_tree.specs.declared.words.Param.{Param}
 use Rattle.sh_lex.specs.declared.heads.Operator.{Operator}
 use Rattle.sh_lex.specs.declared.parts.Nest.{Nest}
-use Rattle.sh_lex.specs.declared.parts.Part.{Part}
+use Rattle.sh_lex.specs.declared.parts.Construct.{Construct}
 use Rattle.sh_lex.specs.declared.parts.Spot.{Spot}
-use Rattle.sh_lex.specs.declared.parts.Part.TheVariants as part
+use Rattle.sh_lex.specs.declared.parts.Construct.TheVariants as part
 use Rattle.sh_lex.specs.declared.parts.Spot.TheVariants as spot
 use Rattle.sh_lex.specs.declared.dollars.Introduced.{Introduced}
 use Rattle.sh_lex.specs.declared.dollars.Introduced.TheVariants as introduced
@@ -46,7 +46,7 @@ pub data OpenAlike : Option ℕ → Option ℕ → Type 0 where
   one_open : {left place : ℕ} → OpenAlike (Some left) (Some place)
 
 -- the same constructs but for where they opened, with no more levels open
-pub data PartsAlike : Part → Part → Type 0 where
+pub data PartsAlike : Construct → Construct → Type 0 where
   alike_commands : {nest inside : Nest} {opened place : Option ℕ} {at : Spot} → IsLower nest inside → OpenAlike opened place
       → PartsAlike (part.Commands nest opened at) (part.Commands inside place at)
   alike_name : PartsAlike part.Name part.Name
@@ -74,10 +74,10 @@ data FrontsAlike (behind other : List ℕ) : List (ℕ × List ℕ) → List (�
 
 -- acts of a construct that go on before the `)` are alike
 pub data ActsAlike (behind other : List ℕ) : Act → Act → Type 0 where
-  both_go : {next next_copy : Part} {rest copy : List ℕ} → PartsAlike next next_copy → Alike behind other rest copy
+  both_go : {next next_copy : Construct} {rest copy : List ℕ} → PartsAlike next next_copy → Alike behind other rest copy
       → ActsAlike behind other (goes next rest) (goes next_copy copy)
-  goes_past : {next : Part} {rest : List ℕ} {does : Act} → length rest ≤ length behind → ActsAlike behind other (goes next rest) does
-  both_enter : {inner outer inner_copy outer_copy : Part} {rest copy : List ℕ} → PartsAlike inner inner_copy
+  goes_past : {next : Construct} {rest : List ℕ} {does : Act} → length rest ≤ length behind → ActsAlike behind other (goes next rest) does
+  both_enter : {inner outer inner_copy outer_copy : Construct} {rest copy : List ℕ} → PartsAlike inner inner_copy
       → PartsAlike outer outer_copy → Alike behind other rest copy
       → ActsAlike behind other (enters inner outer rest) (enters inner_copy outer_copy copy)
   both_end : {rest copy : List ℕ} → Alike behind other rest copy → ActsAlike behind other (ends rest) (ends copy)
@@ -190,7 +190,7 @@ module _ (behind other : List ℕ) where
   act_first_if true a b = a
   act_first_if false a b = b
 
-  go_or : {next next_copy : Part} {rest copy : List ℕ} → PartsAlike next next_copy → Or rest copy
+  go_or : {next next_copy : Construct} {rest copy : List ℕ} → PartsAlike next next_copy → Or rest copy
       → ActsAlike behind other (goes next rest) (goes next_copy copy)
   go_or parts (inl h) = goes_past h
   go_or parts (inr a) = both_go parts a
@@ -279,7 +279,7 @@ module _ (behind other : List ℕ) where
   quote-alike (before byte {text = text} {copy = copy} a) =
       quote_if (byte == QUOTE) text copy (behind_quote text) (behind_quote copy) a (quote-alike a)
 
-  single-alike : (left place : ℕ) {next next_copy : Part} (found result : Option (List ℕ)) → PartsAlike next next_copy
+  single-alike : (left place : ℕ) {next next_copy : Construct} (found result : Option (List ℕ)) → PartsAlike next next_copy
       → QuoteAlike found result → ActsAlike behind other (single_quotes left next found) (single_quotes place next_copy result)
   single-alike left place None result parts q = refused_anyway
   single-alike left place (Some rest) result parts (inl h) = goes_past h
@@ -390,27 +390,27 @@ module _ (behind other : List ℕ) where
   close_introduces = refl
 
   module _ {nest inside : Nest} (lower : IsLower nest inside) (left place : ℕ) where
-    opening-alike : {inner outer inner_copy outer_copy : Part} {rest copy : List ℕ} → PartsAlike inner inner_copy
+    opening-alike : {inner outer inner_copy outer_copy : Construct} {rest copy : List ℕ} → PartsAlike inner inner_copy
         → PartsAlike outer outer_copy → Alike behind other rest copy
         → ActsAlike behind other (opening nest left inner outer rest) (opening inside place inner_copy outer_copy copy)
     opening-alike inner outer a =
         opening_by (nat_lt nest.levels MAX_LEVELS) (nat_lt inside.levels MAX_LEVELS) _ _ _ _
         (lower_levels nest.levels inside.levels MAX_LEVELS lower.fewer) (both_enter inner outer a)
 
-    substitution-alike : {outer outer_copy : Part} {rest copy : List ℕ} → PartsAlike outer outer_copy → Alike behind other rest copy
+    substitution-alike : {outer outer_copy : Construct} {rest copy : List ℕ} → PartsAlike outer outer_copy → Alike behind other rest copy
         → ActsAlike behind other (substitution nest left outer rest) (substitution inside place outer_copy copy)
     substitution-alike outer a =
         substitution_by nest.in_braces inside.in_braces _ _ _ _ lower.braces
         (opening-alike (alike_commands (deeper_lower lower) one_open) outer a)
 
-    parenthesis-alike : {outer outer_copy : Part} {inner inner_copy text copy : List ℕ} → PartsAlike outer outer_copy
+    parenthesis-alike : {outer outer_copy : Construct} {inner inner_copy text copy : List ℕ} → PartsAlike outer outer_copy
         → Alike behind other inner inner_copy → Alike behind other text copy
         → ActsAlike behind other (parenthesis nest left outer inner text) (parenthesis inside place outer_copy inner_copy copy)
     parenthesis-alike outer i at_end = substitution-alike outer i
     parenthesis-alike outer i (before byte a) =
         act_if (byte == OPEN) (opening-alike (alike_arithmetic (deeper_lower lower)) outer a) (substitution-alike outer i)
 
-    by-alike : (what : Introduced) (quoted : Bool) {outer outer_copy : Part} {text copy rest rest_copy : List ℕ} → PartsAlike outer outer_copy
+    by-alike : (what : Introduced) (quoted : Bool) {outer outer_copy : Construct} {text copy rest rest_copy : List ℕ} → PartsAlike outer outer_copy
         → Alike behind other text copy → Alike behind other rest rest_copy
         → ActsAlike behind other (dollar_by what nest quoted left outer text rest) (dollar_by what inside quoted place outer_copy copy rest_copy)
     by-alike (introduced.OutOfProfile spelling) quoted outer t a = refused_anyway
@@ -421,7 +421,7 @@ module _ (behind other : List ℕ) where
     by-alike introduced.Nothing quoted outer t a = both_go outer t
 
     -- nothing is introduced by the `)` itself
-    close-alike : (what : Introduced) → what ≡ introduced.Nothing → (quoted : Bool) {outer outer_copy : Part} {text copy : List ℕ}
+    close-alike : (what : Introduced) → what ≡ introduced.Nothing → (quoted : Bool) {outer outer_copy : Construct} {text copy : List ℕ}
         → PartsAlike outer outer_copy → Alike behind other text copy
         → ActsAlike behind other (dollar_by what nest quoted left outer text behind) (dollar_by what inside quoted place outer_copy copy other)
     close-alike what is quoted {outer = outer} {outer_copy = outer_copy} {text = text} {copy = copy} parts t =
@@ -429,13 +429,13 @@ module _ (behind other : List ℕ) where
         (λ it. ActsAlike behind other (dollar_by it nest quoted left outer text behind) (dollar_by it inside quoted place outer_copy copy other))
         (sym is) (both_go parts t)
 
-    dollar-alike : (quoted : Bool) {outer outer_copy : Part} {text copy front front_copy : List ℕ} → PartsAlike outer outer_copy
+    dollar-alike : (quoted : Bool) {outer outer_copy : Construct} {text copy front front_copy : List ℕ} → PartsAlike outer outer_copy
         → Alike behind other text copy → Alike behind other front front_copy
         → ActsAlike behind other (dollar_at nest quoted left outer text front) (dollar_at inside quoted place outer_copy copy front_copy)
     dollar-alike quoted outer t at_end = close-alike (introduced_by CLOSE) close_introduces quoted outer t
     dollar-alike quoted outer t (before byte a) = by-alike (introduced_by byte) quoted outer t a
 
-    after_dollar-alike : (quoted : Bool) {outer outer_copy : Part} {text copy : List ℕ} → PartsAlike outer outer_copy
+    after_dollar-alike : (quoted : Bool) {outer outer_copy : Construct} {text copy : List ℕ} → PartsAlike outer outer_copy
         → Alike behind other text copy
         → ActsAlike behind other (after_dollar nest quoted left outer text) (after_dollar inside quoted place outer_copy copy)
     after_dollar-alike quoted outer t = dollar-alike quoted outer t (unspliced-alike t)
@@ -489,7 +489,7 @@ module _ (behind other : List ℕ) where
     head-alike left place quoted t (alike_with_word {by = by} a) = braces_word-alike left place (quoted && not (trims by)) (unspliced-alike a)
     head-alike left place quoted t alike_no_form = braces-alike left place quoted (unspliced-alike t)
 
-    expression-alike : {self self_copy : Part} → PartsAlike self self_copy → (left place : ℕ) (byte : ℕ) {rest copy : List ℕ}
+    expression-alike : {self self_copy : Construct} → PartsAlike self self_copy → (left place : ℕ) (byte : ℕ) {rest copy : List ℕ}
         → Alike behind other rest copy
         → ActsAlike behind other (expression_at nest left self byte rest) (expression_at inside place self_copy byte copy)
     expression-alike selves left place byte {rest = rest} {copy = copy} a =
@@ -671,7 +671,7 @@ module _ (behind other : List ℕ) where
     commands-alike o spot.Value t = in_word-alike o spot.Value t (unspliced-alike t)
     commands-alike o spot.Elsewhere t = in_word-alike o spot.Elsewhere t (unspliced-alike t)
 
-  act-alike : {construct copy_construct : Part} {text copy : List ℕ} → PartsAlike construct copy_construct → Alike behind other text copy
+  act-alike : {construct copy_construct : Construct} {text copy : List ℕ} → PartsAlike construct copy_construct → Alike behind other text copy
       → ActsAlike behind other (act construct text) (act copy_construct copy)
   act-alike (alike_commands {at = at} lower o) t = commands-alike lower o at t
   act-alike alike_name t = name-alike t (unspliced-alike t)
@@ -683,21 +683,21 @@ module _ (behind other : List ℕ) where
   act-alike (alike_parentheses {left = left} {place = place} lower) t = parentheses-alike lower left place (unspliced-alike t)
 
   -- a construct that ends before the `)` ends there in the other text too
-  abbrev EndsAlike : Part → List ℕ → Outcome → Type 0
+  abbrev EndsAlike : Construct → List ℕ → Outcome → Type 0
   EndsAlike construct copy (past after) = Fits after ⊎ ((left : List ℕ) × Alike behind other after left × Reads construct copy (past left))
   EndsAlike construct copy (refused fault) = Unit {0}
 
-  abbrev Reading : Part → List ℕ → Outcome → Type 0
-  Reading construct text end = (part : Part) (copy : List ℕ) → PartsAlike construct part → Alike behind other text copy → EndsAlike part copy end
+  abbrev Reading : Construct → List ℕ → Outcome → Type 0
+  Reading construct text end = (part : Construct) (copy : List ℕ) → PartsAlike construct part → Alike behind other text copy → EndsAlike part copy end
 
-  go_ends : {next : Part} {rest : List ℕ} {does : Act} (part : Part) (copy : List ℕ) (end : Outcome) → act part copy ≡ does
+  go_ends : {next : Construct} {rest : List ℕ} {does : Act} (part : Construct) (copy : List ℕ) (end : Outcome) → act part copy ≡ does
       → Reads next rest end → ActsAlike behind other (goes next rest) does → Reading next rest end → EndsAlike part copy end
   go_ends part copy (refused fault) e reads acts more = tt
   go_ends part copy (past after) e reads (goes_past h) more = let less = Reads-Leaves reads in inl (omega (arith, h, less))
   go_ends part copy (past after) e reads (both_go {next_copy = next} {copy = rest} p a) more =
       elim (more next rest p a) [ inl h ↦ inl h | inr (left, b, r) ↦ inr (left, b, goes_on e r) ]
 
-  enter_ends : {inner outer : Part} {rest middle : List ℕ} {does : Act} (part : Part) (copy : List ℕ) (end : Outcome)
+  enter_ends : {inner outer : Construct} {rest middle : List ℕ} {does : Act} (part : Construct) (copy : List ℕ) (end : Outcome)
       → act part copy ≡ does → Reads outer middle end → ActsAlike behind other (enters inner outer rest) does
       → Reading inner rest (past middle) → Reading outer middle end → EndsAlike part copy end
   enter_ends part copy (refused fault) e reads acts inside outside = tt
@@ -707,17 +707,17 @@ module _ (behind other : List ℕ) where
         | inr (left, b, r) ↦ elim (outside outer left o b) [ inl h ↦ inl h | inr (last, c, q) ↦ inr (last, c, reads_inner e r q) ]
       ]
 
-  end_ends : {rest : List ℕ} {does : Act} (part : Part) (copy : List ℕ) → act part copy ≡ does → ActsAlike behind other (ends rest) does
+  end_ends : {rest : List ℕ} {does : Act} (part : Construct) (copy : List ℕ) → act part copy ≡ does → ActsAlike behind other (ends rest) does
       → EndsAlike part copy (past rest)
   end_ends part copy e (both_end {copy = left} a) = inr (left, a, has_ended e)
   end_ends part copy e (end_at_end k m) = let same = ap length k in inl (omega (arith, same))
   end_ends part copy e (ends_past h) = inl (omega (arith, h))
 
-  acts_by : {construct part : Part} {text copy : List ℕ} {does : Act} → act construct text ≡ does → PartsAlike construct part
+  acts_by : {construct part : Construct} {text copy : List ℕ} {does : Act} → act construct text ≡ does → PartsAlike construct part
       → Alike behind other text copy → ActsAlike behind other does (act part copy)
   acts_by {part = part} {copy = copy} e p a = subst (λ does. ActsAlike behind other does (act part copy)) e (act-alike p a)
 
-  Reads-alike : {construct : Part} {text : List ℕ} {end : Outcome} → Reads construct text end → Reading construct text end
+  Reads-alike : {construct : Construct} {text : List ℕ} {end : Outcome} → Reads construct text end → Reading construct text end
   Reads-alike (goes_on {end = end} e reads) part copy p a = go_ends part copy end refl reads (acts_by e p a) (Reads-alike reads)
   Reads-alike (reads_inner {end = end} e inside outside) part copy p a =
       enter_ends part copy end refl outside (acts_by e p a) (Reads-alike inside) (Reads-alike outside)
@@ -726,7 +726,7 @@ module _ (behind other : List ℕ) where
   Reads-alike (offended e) part copy p a = tt
 
 -- the tokens of a `$( )`, or a word among them
-abbrev pub IsOpen : Part → Type 0
+abbrev pub IsOpen : Construct → Type 0
 IsOpen (part.Commands nest (Some left) at) = Unit {0}
 IsOpen _ = ⊥
 
@@ -742,8 +742,8 @@ module _ (text : List ℕ) where
   does_if true one other a b = a
   does_if false one other a b = b
 
-  module _ (nest : Nest) (left : ℕ) (outer : Part) (is : IsOpen outer) where
-    opening-does : (inner : Part) (rest : List ℕ) → OpenDoes text (opening nest left inner outer rest)
+  module _ (nest : Nest) (left : ℕ) (outer : Construct) (is : IsOpen outer) where
+    opening-does : (inner : Construct) (rest : List ℕ) → OpenDoes text (opening nest left inner outer rest)
     opening-does inner rest = does_if (nat_lt nest.levels MAX_LEVELS) _ _ is tt
 
     substitution-does : (rest : List ℕ) → OpenDoes text (substitution nest left outer rest)
@@ -765,7 +765,7 @@ module _ (text : List ℕ) where
     dollar-does quoted all [] = is
     dollar-does quoted all (byte ∷ rest) = by-does (introduced_by byte) quoted all rest
 
-  single-does : (left : ℕ) (next : Part) (found : Option (List ℕ)) → IsOpen next → OpenDoes text (single_quotes left next found)
+  single-does : (left : ℕ) (next : Construct) (found : Option (List ℕ)) → IsOpen next → OpenDoes text (single_quotes left next found)
   single-does left next None is = tt
   single-does left next (Some rest) is = is
 
@@ -802,7 +802,7 @@ module _ (text : List ℕ) where
     commands-does spot.Value = in_word-does spot.Value (unspliced text)
     commands-does spot.Elsewhere = in_word-does spot.Elsewhere (unspliced text)
 
-open-does : (construct : Part) (text : List ℕ) → IsOpen construct → OpenDoes text (act construct text)
+open-does : (construct : Construct) (text : List ℕ) → IsOpen construct → OpenDoes text (act construct text)
 open-does (part.Commands nest (Some left) at) text is = commands-does text nest left at
 open-does (part.Commands nest None at) text is = absurd is
 open-does part.Name text is = absurd is
@@ -812,7 +812,7 @@ open-does (part.Braces nest left quoted) text is = absurd is
 open-does (part.Arithmetic nest left) text is = absurd is
 open-does (part.Parentheses nest left) text is = absurd is
 
-open_by : (construct : Part) (text : List ℕ) (does : Act) → act construct text ≡ does → IsOpen construct → OpenDoes text does
+open_by : (construct : Construct) (text : List ℕ) (does : Act) → act construct text ≡ does → IsOpen construct → OpenDoes text does
 open_by construct text does e is = subst (OpenDoes text) e (open-does construct text is)
 
 -- the `)` of a token
@@ -823,10 +823,10 @@ closes text rest e =
 
 -- what holds of a text and of what is left behind its first byte, holds of the `)` of a `$( )` and what is left there
 module _ (P : List ℕ → Type 0) (kept : IsKept P) where
-  act_by : (construct : Part) (text : List ℕ) (does : Act) → act construct text ≡ does → P text → Keeps P does
+  act_by : (construct : Construct) (text : List ℕ) (does : Act) → act construct text ≡ does → P text → Keeps P does
   act_by construct text does e h = subst (Keeps P) e (act-kept P kept construct text h)
 
-  pub close-kept : {construct : Part} {text after : List ℕ} → IsOpen construct → P text → Reads construct text (past after)
+  pub close-kept : {construct : Construct} {text after : List ℕ} → IsOpen construct → P text → Reads construct text (past after)
       → P (CLOSE ∷ after)
   close-kept is h (goes_on {construct = construct} {next = next} {text = text} {rest = rest} e reads) =
       close-kept (open_by construct text (goes next rest) e is) (act_by construct text (goes next rest) e h) reads
@@ -837,22 +837,22 @@ module _ (P : List ℕ → Type 0) (kept : IsKept P) where
       subst P (closes text rest (open_by construct text (ends rest) e is)) (unspliced-kept P kept text h)
 
 -- so it leaves less
-open-shorter : {construct : Part} {text after : List ℕ} → IsOpen construct → Reads construct text (past after) → length after < length text
+open-shorter : {construct : Construct} {text after : List ℕ} → IsOpen construct → Reads construct text (past after) → length after < length text
 open-shorter {text = text} {after = after} is reads =
     let within : length (CLOSE ∷ after) ≤ length text
     = close-kept (λ rest. length rest ≤ length text) (λ byte rest h. omega (arith, h)) is (omega arith) reads in omega (arith, within)
 
 -- and what stands before the `)` is the same whatever stands behind it
 module _ (behind other : List ℕ) where
-  abbrev Copies : Part → List ℕ → Type 0
-  Copies construct text = (part : Part) (copy : List ℕ) → PartsAlike construct part → Alike behind other text copy → Reads part copy (past other)
+  abbrev Copies : Construct → List ℕ → Type 0
+  Copies construct text = (part : Construct) (copy : List ℕ) → PartsAlike construct part → Alike behind other text copy → Reads part copy (past other)
 
-  go_copied : {next : Part} {rest : List ℕ} {does : Act} (part : Part) (copy : List ℕ) → act part copy ≡ does → IsOpen next
+  go_copied : {next : Construct} {rest : List ℕ} {does : Act} (part : Construct) (copy : List ℕ) → act part copy ≡ does → IsOpen next
       → Reads next rest (past behind) → ActsAlike behind other (goes next rest) does → Copies next rest → Reads part copy (past other)
   go_copied part copy e is reads (goes_past h) more = let less = open-shorter is reads in absurd (omega (arith, h, less))
   go_copied part copy e is reads (both_go {next_copy = next} {copy = rest} p a) more = goes_on e (more next rest p a)
 
-  enter_copied : {inner outer : Part} {rest middle : List ℕ} {does : Act} (part : Part) (copy : List ℕ) → act part copy ≡ does
+  enter_copied : {inner outer : Construct} {rest middle : List ℕ} {does : Act} (part : Construct) (copy : List ℕ) → act part copy ≡ does
       → IsOpen outer → Reads inner rest (past middle) → Reads outer middle (past behind)
       → ActsAlike behind other (enters inner outer rest) does → Copies outer middle → Reads part copy (past other)
   enter_copied part copy e is inside outside (both_enter {inner_copy = inner} {outer_copy = outer} {copy = rest} i o a) more =
@@ -861,14 +861,14 @@ module _ (behind other : List ℕ) where
         | inr (left, b, r) ↦ reads_inner e r (more outer left o b)
       ]
 
-  end_copied : {rest : List ℕ} {does : Act} (part : Part) (copy : List ℕ) → act part copy ≡ does → rest ≡ behind
+  end_copied : {rest : List ℕ} {does : Act} (part : Construct) (copy : List ℕ) → act part copy ≡ does → rest ≡ behind
       → ActsAlike behind other (ends rest) does → Reads part copy (past other)
   end_copied part copy e same (both_end a) =
       let more = longer behind other a in let as_long = ap length same in absurd (omega (arith, more, as_long))
   end_copied part copy e same (end_at_end k m) = subst (λ left. Reads part copy (past left)) m (has_ended e)
   end_copied part copy e same (ends_past h) = let as_long = ap length same in absurd (omega (arith, h, as_long))
 
-  copied : {construct : Part} {text after : List ℕ} → after ≡ behind → IsOpen construct → Reads construct text (past after) → Copies construct text
+  copied : {construct : Construct} {text after : List ℕ} → after ≡ behind → IsOpen construct → Reads construct text (past after) → Copies construct text
   copied same is (goes_on {construct = construct} {next = next} {text = text} {rest = rest} e reads) part copy p a =
       let open_next = open_by construct text (goes next rest) e is in
       go_copied part copy refl open_next (subst (λ x. Reads next rest (past x)) same reads) (acts_by behind other e p a)

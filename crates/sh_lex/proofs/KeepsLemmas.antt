@@ -16,9 +16,9 @@ use Rattle.sh_lex.specs.Reads.{act, Outcome, past, refused, Reads, goes_on, read
 use Rattle.ps_lines.specs.Bytes.{is_name_byte}
 use Rattle.sh_tree.specs.declared.words.Param.{Param}
 use Rattle.sh_lex.specs.declared.parts.Nest.{Nest}
-use Rattle.sh_lex.specs.declared.parts.Part.{Part}
+use Rattle.sh_lex.specs.declared.parts.Construct.{Construct}
 use Rattle.sh_lex.specs.declared.parts.Spot.{Spot}
-use Rattle.sh_lex.specs.declared.parts.Part.TheVariants as part
+use Rattle.sh_lex.specs.declared.parts.Construct.TheVariants as part
 use Rattle.sh_lex.specs.declared.parts.Spot.TheVariants as spot
 use Rattle.sh_lex.specs.declared.dollars.Introduced.{Introduced}
 use Rattle.sh_lex.specs.declared.dollars.Introduced.TheVariants as introduced
@@ -205,20 +205,20 @@ module _ (P : List ℕ → Type 0) (kept : IsKept P) where
 
   -- the constructs
   module _ (nest : Nest) (left : ℕ) where
-    opening-kept : (inner outer : Part) (rest : List ℕ) → P rest → Keeps P (opening nest left inner outer rest)
+    opening-kept : (inner outer : Construct) (rest : List ℕ) → P rest → Keeps P (opening nest left inner outer rest)
     opening-kept inner outer rest h = search (Keeps-if, h, rules)
 
-    substitution-kept : (outer : Part) (rest : List ℕ) → P rest → Keeps P (substitution nest left outer rest)
+    substitution-kept : (outer : Construct) (rest : List ℕ) → P rest → Keeps P (substitution nest left outer rest)
     substitution-kept outer rest h = search (Keeps-if, h, rules)
 
-    parenthesis-kept : (outer : Part) (inner text : List ℕ) → P inner → P text → Keeps P (parenthesis nest left outer inner text)
+    parenthesis-kept : (outer : Construct) (inner text : List ℕ) → P inner → P text → Keeps P (parenthesis nest left outer inner text)
     parenthesis-kept outer inner [] h k = substitution-kept outer inner h
     parenthesis-kept outer inner (byte ∷ rest) h k =
         let inside : P rest = kept byte rest k in
         let sub : Keeps P (substitution nest left outer inner) = substitution-kept outer inner h in
         search (Keeps-if, sub, opening-kept, inside, rules)
 
-    dollar_by-kept : (what : Introduced) (quoted : Bool) (outer : Part) (text rest : List ℕ) → P text → P rest
+    dollar_by-kept : (what : Introduced) (quoted : Bool) (outer : Construct) (text rest : List ℕ) → P text → P rest
         → Keeps P (dollar_by what nest quoted left outer text rest)
     dollar_by-kept (introduced.OutOfProfile spelling) quoted outer text rest h k = tt
     dollar_by-kept introduced.Braces quoted outer text rest h k = opening-kept _ outer rest k
@@ -228,12 +228,12 @@ module _ (P : List ℕ → Type 0) (kept : IsKept P) where
     dollar_by-kept introduced.Special quoted outer text rest h k = k
     dollar_by-kept introduced.Nothing quoted outer text rest h k = h
 
-    dollar_at-kept : (quoted : Bool) (outer : Part) (text front : List ℕ) → P text → P front
+    dollar_at-kept : (quoted : Bool) (outer : Construct) (text front : List ℕ) → P text → P front
         → Keeps P (dollar_at nest quoted left outer text front)
     dollar_at-kept quoted outer text [] h k = h
     dollar_at-kept quoted outer text (byte ∷ rest) h k = dollar_by-kept (introduced_by byte) quoted outer text rest h (kept byte rest k)
 
-    pub after_dollar-kept : (quoted : Bool) (outer : Part) (text : List ℕ) → P text → Keeps P (after_dollar nest quoted left outer text)
+    pub after_dollar-kept : (quoted : Bool) (outer : Construct) (text : List ℕ) → P text → Keeps P (after_dollar nest quoted left outer text)
     after_dollar-kept quoted outer text h = dollar_at-kept quoted outer text (unspliced text) h (unspliced-kept P kept text h)
 
   double_quotes-kept : (nest : Nest) (left : ℕ) (text : List ℕ) → P text → Keeps P (double_quotes_at nest left text)
@@ -247,12 +247,12 @@ module _ (P : List ℕ → Type 0) (kept : IsKept P) where
   name-kept text [] h k = h
   name-kept text (byte ∷ rest) h k = let inside : P rest = kept byte rest k in search (Keeps-if, inside, h, rules)
 
-  single_found : (left : ℕ) (next : Part) (text : List ℕ) (found : Option (List ℕ)) → behind_quote text ≡ found → P text
+  single_found : (left : ℕ) (next : Construct) (text : List ℕ) (found : Option (List ℕ)) → behind_quote text ≡ found → P text
       → Keeps P (single_quotes left next found)
   single_found left next text None e h = tt
   single_found left next text (Some after) e h = behind_quote-kept P kept text after h e
 
-  single_quotes-kept : (left : ℕ) (next : Part) (text : List ℕ) → P text → Keeps P (single_quotes left next (behind_quote text))
+  single_quotes-kept : (left : ℕ) (next : Construct) (text : List ℕ) → P text → Keeps P (single_quotes left next (behind_quote text))
   single_quotes-kept left next text h = single_found left next text (behind_quote text) refl h
 
   module _ (nest : Nest) (left : ℕ) where
@@ -280,7 +280,7 @@ module _ (P : List ℕ → Type 0) (kept : IsKept P) where
         braces_word-kept (quoted && not (trims by)) (unspliced rest) (unspliced-kept P kept rest k)
     head-kept quoted text no_form h k = braces-kept quoted (unspliced text) (unspliced-kept P kept text h)
 
-    expression-kept : (self : Part) (byte : ℕ) (rest : List ℕ) → P rest → Keeps P (expression_at nest left self byte rest)
+    expression-kept : (self : Construct) (byte : ℕ) (rest : List ℕ) → P rest → Keeps P (expression_at nest left self byte rest)
     expression-kept self byte rest h =
         let behind : P (behind_backslash false rest) = behind_backslash-kept P kept false rest h in
         search (Keeps-if, after_dollar-kept, behind, h, rules) depth 12
@@ -390,7 +390,7 @@ module _ (P : List ℕ → Type 0) (kept : IsKept P) where
     commands-kept opened spot.Value text h = in_word-kept opened spot.Value text (unspliced text) h (unspliced-kept P kept text h)
     commands-kept opened spot.Elsewhere text h = in_word-kept opened spot.Elsewhere text (unspliced text) h (unspliced-kept P kept text h)
 
-  pub act-kept : (construct : Part) (text : List ℕ) → P text → Keeps P (act construct text)
+  pub act-kept : (construct : Construct) (text : List ℕ) → P text → Keeps P (act construct text)
   act-kept (part.Commands nest opened at) text h = commands-kept nest opened at text h
   act-kept part.Name text h = name-kept text (unspliced text) h (unspliced-kept P kept text h)
   act-kept (part.DoubleQuotes nest left) text h = double_quotes-kept nest left (unspliced text) (unspliced-kept P kept text h)
@@ -399,7 +399,7 @@ module _ (P : List ℕ → Type 0) (kept : IsKept P) where
   act-kept (part.Arithmetic nest left) text h = arithmetic-kept nest left (unspliced text) (unspliced-kept P kept text h)
   act-kept (part.Parentheses nest left) text h = parentheses-kept nest left (unspliced text) (unspliced-kept P kept text h)
 
-  kept_by : (construct : Part) (text : List ℕ) (does : Act) → act construct text ≡ does → P text → Keeps P does
+  kept_by : (construct : Construct) (text : List ℕ) (does : Act) → act construct text ≡ does → P text → Keeps P does
   kept_by construct text does e h = subst (Keeps P) e (act-kept construct text h)
 
   abbrev pub KeepsEnd : Outcome → Type 0
@@ -407,7 +407,7 @@ module _ (P : List ℕ → Type 0) (kept : IsKept P) where
   KeepsEnd (refused fault) = Unit {0}
 
   -- a construct that is read
-  pub Reads-kept : {construct : Part} {text : List ℕ} {end : Outcome} → P text → Reads construct text end → KeepsEnd end
+  pub Reads-kept : {construct : Construct} {text : List ℕ} {end : Outcome} → P text → Reads construct text end → KeepsEnd end
   Reads-kept h (goes_on {construct = construct} {next = next} {text = text} {rest = rest} e reads) =
       Reads-kept (kept_by construct text (goes next rest) e h) reads
   Reads-kept h (reads_inner {construct = construct} {inner = inner} {outer = outer} {text = text} {rest = rest} e inside outside) =

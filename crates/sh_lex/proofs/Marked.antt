@@ -11,20 +11,20 @@ use Rattle.sh_lex.specs.Inner.Marking.{word_marks, LeadsTo}
 use Rattle.sh_lex.proofs.Scripts.{less_at, has_tokens}
 use Rattle.sh_lex.proofs.Readings.{word-shorter}
 use Rattle.sh_lex.specs.Inner.Lexing.{StopsAt}
-use Rattle.sh_lex.specs.declared.reading.Stop.{Stop}
-use Rattle.sh_lex.specs.declared.reading.Stop.TheVariants as stop
+use Rattle.sh_lex.specs.declared.reading.ScanStop.{ScanStop}
+use Rattle.sh_lex.specs.declared.reading.ScanStop.TheVariants as stop
 use Rattle.sh_lex.specs.declared.lexing.TheConstants.{MAX_SCRIPT}
 use Rattle.sh_lex.specs.declared.lexing.marks.Mark.{Mark}
 use Rattle.sh_lex.specs.declared.lexing.marks.Mark.TheVariants as mark
 use Rattle.sh_lex.specs.declared.parts.Fault.{Fault}
-use Rattle.sh_lex.specs.declared.parts.Part.{Part}
+use Rattle.sh_lex.specs.declared.parts.Construct.{Construct}
 use Rattle.sh_lex.specs.declared.tokens.Token.{Token}
 use Rattle.sh_lex.specs.declared.tokens.TokenKind.{TokenKind}
 use Rattle.sh_lex.specs.declared.tokens.TokenKind.TheVariants as kind
 use Rattle.sh_lex.specs.declared.tokens.Op.TheVariants as op
 
 -- what a construct does next
-abbrev Follows : ℕ → Part → List ℕ → Act → List Mark → List ℕ → Type 0
+abbrev Follows : ℕ → Construct → List ℕ → Act → List Mark → List ℕ → Type 0
 Follows total construct text (goes next rest) found left = (more : List Mark) × (Marked total next rest more left × (found ≡ seen total construct text ++ more))
 Follows total construct text (enters inner outer rest) found left = (after : List ℕ) × ((one : List Mark) × ((two : List Mark)
     × (Marked total inner rest one after × (Marked total outer after two left × (found ≡ seen total construct text
@@ -53,7 +53,7 @@ placed total text rest inside more =
 
 module _ {total : ℕ} where
   -- a construct with marks is read
-  pub marked_reads : {construct : Part} {text left : List ℕ} {found : List Mark} → Marked total construct text found left
+  pub marked_reads : {construct : Construct} {text left : List ℕ} {found : List Mark} → Marked total construct text found left
       → Reads construct text (past left)
   marked_reads (marks_on e more) = goes_on e (marked_reads more)
   marked_reads (marks_inner e inside outside) = reads_inner e (marked_reads inside) (marked_reads outside)
@@ -71,7 +71,7 @@ module _ {total : ℕ} where
   marks_tokens (takes_word {text = text} {rest = left} e inside more) =
       let rest = marks_tokens more in (token_between total kind.Word text left ∷ rest.0, l.takes_word e (marked_reads inside) rest.1)
 
-  follows : {construct : Part} {text left : List ℕ} {found : List Mark} → Marked total construct text found left
+  follows : {construct : Construct} {text left : List ℕ} {found : List Mark} → Marked total construct text found left
       → Follows total construct text (act construct text) found left
   follows {construct = construct} {text = text} {left = left} {found = all} (marks_on {found = found} e more) =
       subst (λ a. Follows total construct text a all left) (sym e) (found, (more, refl))
@@ -81,7 +81,7 @@ module _ {total : ℕ} where
       subst (λ a. Follows total construct text a all left) (sym e) (refl, refl)
 
   -- a construct has one list of marks, and leaves one text
-  pub marked_same : {construct : Part} {text left other_left : List ℕ} {found other : List Mark} → Marked total construct text found left
+  pub marked_same : {construct : Construct} {text left other_left : List ℕ} {found other : List Mark} → Marked total construct text found left
       → Marked total construct text other other_left → (other ≡ found) × (other_left ≡ left)
   marked_same {construct = construct} {text = text} {other_left = other_left} {other = other} (marks_on e more) second =
       let (next, (marked, is)) = subst (λ a. Follows total construct text a other other_left) e (follows second) in
@@ -175,7 +175,7 @@ module _ {total : ℕ} where
       subst (λ x. Marks total all x) (sym (append_assoc so_far found more) ∙ ap (λ x. x ++ more) (sym grown))
       (ahead (found ++ more) (leads.before more is_more))
 
-  pub stops_on : (all text : List ℕ) (stopped : Stop) → ((fault : Fault) → Tokens total text (Err fault) → Tokens total all (Err fault))
+  pub stops_on : (all text : List ℕ) (stopped : ScanStop) → ((fault : Fault) → Tokens total text (Err fault) → Tokens total all (Err fault))
       → StopsAt total text stopped → StopsAt total all stopped
   stops_on all text (stop.Refused fault) refused h = refused fault h
   stops_on all text stop.Memory refused h = tt

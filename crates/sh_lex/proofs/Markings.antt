@@ -4,22 +4,22 @@ use Rattle.std.proofs.lemmas.List.{append-nil, map-append}
 use Rattle.sh_lex.specs.Acts.{goes, enters, ends}
 use Rattle.sh_lex.specs.Reads.{act}
 use Rattle.sh_lex.specs.Marks.{Marked, marks_on, marks_inner, marks_end, seen, opening, closing, entry_of}
-use Rattle.sh_lex.specs.declared.parts.Part.{Part}
+use Rattle.sh_lex.specs.declared.parts.Construct.{Construct}
 use Rattle.sh_lex.specs.declared.lexing.marks.Mark.{Mark}
 use Rattle.sh_lex.specs.declared.lexing.marks.Entry.{Entry}
 
-abbrev pub outer_part : Entry × Part → Part
+abbrev pub outer_part : Entry × Construct → Construct
 outer_part opened = opened.1
 
 module _ (total : ℕ) where
   -- the marks of a construct behind one that stood in it, and of all that are open
-  abbrev pub AllMarked : List (Entry × Part) → List ℕ → List Mark → List ℕ → Type 0
+  abbrev pub AllMarked : List (Entry × Construct) → List ℕ → List Mark → List ℕ → Type 0
   AllMarked [] inner more end = (inner ≡ end) × (more ≡ [])
   AllMarked (first ∷ «open») inner more end = (middle : List ℕ) × ((inside : List Mark) × ((outside : List Mark)
       × (AllMarked «open» inner inside middle × (Marked total first.1 middle outside end × (more ≡ inside ++ (closing first.0 ++ outside))))))
 
   -- the innermost one goes on first
-  pub all_split : («open» : List (Entry × Part)) (last : Entry × Part) (inner end : List ℕ) (more : List Mark)
+  pub all_split : («open» : List (Entry × Construct)) (last : Entry × Construct) (inner end : List ℕ) (more : List Mark)
       → AllMarked («open» ++ last ∷ []) inner more end
       → (middle : List ℕ) × ((inside : List Mark) × ((outside : List Mark)
       × (Marked total last.1 inner inside middle × (AllMarked «open» middle outside end
@@ -60,7 +60,7 @@ module _ (total : ℕ) where
         ),
       )
 
-  pub all_join : («open» : List (Entry × Part)) (last : Entry × Part) (inner middle end : List ℕ) (inside outside : List Mark)
+  pub all_join : («open» : List (Entry × Construct)) (last : Entry × Construct) (inner middle end : List ℕ) (inside outside : List Mark)
       → Marked total last.1 inner inside middle → AllMarked «open» middle outside end
       → AllMarked («open» ++ last ∷ []) inner (closing last.0 ++ (inside ++ outside)) end
   all_join [] last inner middle end inside outside marked (same, none) = (
@@ -98,18 +98,18 @@ module _ (total : ℕ) where
     ),
   )
 
-  pub all_none : («open» : List (Entry × Part)) (end : List ℕ) → length «open» ≡ 0 → AllMarked «open» end [] end
+  pub all_none : («open» : List (Entry × Construct)) (end : List ℕ) → length «open» ≡ 0 → AllMarked «open» end [] end
   all_none [] end h = (refl, refl)
   all_none (first ∷ «open») end h = absurd (omega arith)
 
   -- the marks so far stand before those of what is open
-  abbrev pub Ahead : Part → List ℕ → List Mark → Part → List ℕ → List (Entry × Part) → Type 0
+  abbrev pub Ahead : Construct → List ℕ → List Mark → Construct → List ℕ → List (Entry × Construct) → Type 0
   Ahead construct text before part rest «open» =
       (found : List Mark) (inner : List ℕ) (more : List Mark) (end : List ℕ) → Marked total part rest found inner
       → AllMarked «open» inner more end → Marked total construct text (before ++ (found ++ more)) end
 
-  module _ (construct : Part) (text : List ℕ) (before : List Mark) (part : Part) (rest : List ℕ) («open» : List (Entry × Part)) where
-    pub ahead_on : (next : Part) (left : List ℕ) → Ahead construct text before part rest «open» → act part rest ≡ goes next left
+  module _ (construct : Construct) (text : List ℕ) (before : List Mark) (part : Construct) (rest : List ℕ) («open» : List (Entry × Construct)) where
+    pub ahead_on : (next : Construct) (left : List ℕ) → Ahead construct text before part rest «open» → act part rest ≡ goes next left
         → (after : List Mark) → after ≡ before ++ seen total part rest → Ahead construct text after next left «open»
     ahead_on next left ahead e after grown found inner more end marked all =
         subst (λ x. Marked total construct text x end)
@@ -117,11 +117,11 @@ module _ (total : ℕ) where
         ∙ sym (append_assoc before (seen total part rest) (found ++ more)) ∙ ap (λ x. x ++ (found ++ more)) (sym grown))
         (ahead (seen total part rest ++ found) inner more end (marks_on e marked) all)
 
-    pub ahead_inner : (inner outer : Part) (left : List ℕ) → Ahead construct text before part rest «open»
+    pub ahead_inner : (inner outer : Construct) (left : List ℕ) → Ahead construct text before part rest «open»
         → act part rest ≡ enters inner outer left
         → (after all_after : List Mark) → after ≡ before ++ seen total part rest
         → all_after ≡ after ++ opening total rest left (entry_of inner outer)
-        → (opened : List (Entry × Part)) → opened ≡ «open» ++ (entry_of inner outer, outer) ∷ []
+        → (opened : List (Entry × Construct)) → opened ≡ «open» ++ (entry_of inner outer, outer) ∷ []
         → Ahead construct text all_after inner left opened
     ahead_inner inner outer left ahead e after all_after grown more_grown opened pushed found middle more end marked all =
         let (next, (one, (two, (is_one, (others, same))))) =
@@ -142,9 +142,9 @@ module _ (total : ℕ) where
             ∙ sym (append_assoc before a (b ++ (c ++ (d ++ (e ++ f)))))
             ∙ sym (append_assoc (before ++ a) b (c ++ (d ++ (e ++ f))))
 
-    pub ahead_end : (outer : Part) (entry : Entry) (left : List ℕ) → Ahead construct text before part rest «open»
+    pub ahead_end : (outer : Construct) (entry : Entry) (left : List ℕ) → Ahead construct text before part rest «open»
         → act part rest ≡ ends left → (after all_after : List Mark) → after ≡ before ++ seen total part rest
-        → all_after ≡ after ++ closing entry → (popped : List (Entry × Part)) → «open» ≡ popped ++ (entry, outer) ∷ []
+        → all_after ≡ after ++ closing entry → (popped : List (Entry × Construct)) → «open» ≡ popped ++ (entry, outer) ∷ []
         → Ahead construct text all_after outer left popped
     ahead_end outer entry left ahead e after all_after grown more_grown popped same found inner more end marked all =
         subst (λ x. Marked total construct text x end)
@@ -162,16 +162,16 @@ module _ (total : ℕ) where
         (ap (λ x. before ++ x) (append-nil (seen total part rest)) ∙ sym grown)
         (ahead (seen total part rest) left [] left (marks_end e) (all_none «open» left none))
 
-  pub ahead_first : (construct : Part) (text : List ℕ) → Ahead construct text [] construct text []
+  pub ahead_first : (construct : Construct) (text : List ℕ) → Ahead construct text [] construct text []
   ahead_first construct text found inner more end marked (same, none) =
       subst (λ x. Marked total construct text (found ++ x) end) (sym none)
       (subst (λ x. Marked total construct text x end) (sym (append-nil found)) (subst (λ x. Marked total construct text found x) same marked))
 
 -- the outer parts of a stack that has grown
-pub outer_parts_last : (new «open» : List (Entry × Part)) (last : Entry × Part) → new ≡ «open» ++ last ∷ []
+pub outer_parts_last : (new «open» : List (Entry × Construct)) (last : Entry × Construct) → new ≡ «open» ++ last ∷ []
     → map outer_part new ≡ map outer_part «open» ++ last.1 ∷ []
 outer_parts_last new «open» last e = ap (map outer_part) e ∙ map-append outer_part «open» (last ∷ [])
 
-pub outer_parts_none : («open» : List (Entry × Part)) → length «open» ≡ 0 → length (map outer_part «open») ≡ 0
+pub outer_parts_none : («open» : List (Entry × Construct)) → length «open» ≡ 0 → length (map outer_part «open») ≡ 0
 outer_parts_none [] h = refl
 outer_parts_none (first ∷ rest) h = absurd (omega (arith, h))

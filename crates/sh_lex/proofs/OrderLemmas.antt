@@ -12,7 +12,7 @@ use Rattle.sh_lex.proofs.Readings.{word-shorter}
 use Rattle.sh_lex.proofs.Scripts.{less_at}
 use Rattle.sh_lex.specs.declared.bytes.TheConstants.{BACKSLASH, NEWLINE}
 use Rattle.sh_lex.specs.declared.parts.Fault.{Fault}
-use Rattle.sh_lex.specs.declared.parts.Part.{Part}
+use Rattle.sh_lex.specs.declared.parts.Construct.{Construct}
 use Rattle.sh_lex.specs.declared.tokens.Token.{Token}
 use Rattle.sh_lex.specs.declared.tokens.TokenKind.{TokenKind}
 use Rattle.sh_lex.specs.declared.tokens.TokenKind.TheVariants as kind
@@ -40,7 +40,7 @@ less_unspliced : (text : List ℕ) (found : Found) → lexeme text ≡ found →
 less_unspliced text found e = less_at (unspliced text) found (sym e ∙ sym (begins_same text))
 
 -- a construct is read by what its text does to it
-read_by : (construct : Part) (text other : List ℕ) (end : Outcome) → act construct text ≡ act construct other
+read_by : (construct : Construct) (text other : List ℕ) (end : Outcome) → act construct text ≡ act construct other
     → Reads construct text end → Reads construct other end
 read_by construct text other end same (goes_on e reads) = goes_on (sym same ∙ e) reads
 read_by construct text other end same (reads_inner e inside outside) = reads_inner (sym same ∙ e) inside outside

@@ -11,7 +11,7 @@ use Rattle.sh_lex.specs.Lexes.{one_word}
 use Rattle.sh_lex.proofs.Shorter.{act-Shrinks}
 use Rattle.sh_lex.proofs.Stacks.{GoesOn, goes-less, enters-less, ends-less}
 use Rattle.sh_lex.specs.declared.parts.Nest.{Nest}
-use Rattle.sh_lex.specs.declared.parts.Part.{Part}
+use Rattle.sh_lex.specs.declared.parts.Construct.{Construct}
 use Rattle.sh_lex.specs.declared.parts.Spot.{Spot}
 use Rattle.sh_lex.specs.declared.parts.Spot.TheVariants as spot
 use Rattle.sh_lex.specs.declared.dollars.Introduced.{Introduced}
@@ -27,7 +27,7 @@ Leaves-more few many (past rest) h less = omega arith
 Leaves-more few many (refused fault) h less = tt
 
 -- a construct leaves no more than it was given
-pub Reads-Leaves : {construct : Part} {text : List ℕ} {end : Outcome} → Reads construct text end → Leaves (length text) end
+pub Reads-Leaves : {construct : Construct} {text : List ℕ} {end : Outcome} → Reads construct text end → Leaves (length text) end
 Reads-Leaves (goes_on {construct = construct} {next = next} {text = text} {rest = rest} {end = end} e reads) =
     let less : length rest < length text = goes-less construct next text rest (sym e) in
     Leaves-more (length rest) (length text) end (omega arith) (Reads-Leaves reads)
@@ -46,7 +46,7 @@ Follows (enters inner outer rest) end = (middle : Outcome) × (Reads inner rest 
 Follows (ends rest) end = end ≡ past rest
 Follows (offends fault) end = end ≡ refused fault
 
-pub follows : {construct : Part} {text : List ℕ} {end : Outcome} → Reads construct text end → Follows (act construct text) end
+pub follows : {construct : Construct} {text : List ℕ} {end : Outcome} → Reads construct text end → Follows (act construct text) end
 follows (goes_on {end = end} e reads) = subst (λ a. Follows a end) (sym e) reads
 follows (reads_inner {after = after} {end = end} e inside outside) =
     subst (λ a. Follows a end) (sym e) (past after, (inside, outside))
@@ -56,7 +56,7 @@ follows (has_ended {rest = rest} e) = subst (λ a. Follows a (past rest)) (sym e
 follows (offended {fault = fault} e) = subst (λ a. Follows a (refused fault)) (sym e) refl
 
 -- a construct has one outcome
-pub Reads-same : {construct : Part} {text : List ℕ} {one other : Outcome} → Reads construct text one → Reads construct text other
+pub Reads-same : {construct : Construct} {text : List ℕ} {one other : Outcome} → Reads construct text one → Reads construct text other
     → one ≡ other
 Reads-same {other = other} (goes_on e reads) second = Reads-same reads (subst (λ a. Follows a other) e (follows second))
 Reads-same {other = other} (reads_inner {outer = outer} e inside outside) second =
@@ -71,8 +71,8 @@ Reads-same {other = other} (has_ended e) second = sym (subst (λ a. Follows a ot
 Reads-same {other = other} (offended e) second = sym (subst (λ a. Follows a other) e (follows second))
 
 -- and it has some outcome
-some_behind : (construct inner outer : Part) (text rest : List ℕ) (count : ℕ)
-    → ((part : Part) (left : List ℕ) → length left < count → (end : Outcome) × Reads part left end)
+some_behind : (construct inner outer : Construct) (text rest : List ℕ) (count : ℕ)
+    → ((part : Construct) (left : List ℕ) → length left < count → (end : Outcome) × Reads part left end)
     → act construct text ≡ enters inner outer rest → length rest < count
     → (middle : Outcome) → Reads inner rest middle → (end : Outcome) × Reads construct text end
 some_behind construct inner outer text rest count less e h (past after) inside =
@@ -80,8 +80,8 @@ some_behind construct inner outer text rest count less e h (past after) inside =
     let found = less outer after (omega arith) in (found.0, reads_inner e inside found.1)
 some_behind construct inner outer text rest count less e h (refused fault) inside = (refused fault, refused_inside e inside)
 
-some_at : (construct : Part) (text : List ℕ) (count : ℕ)
-    → ((part : Part) (left : List ℕ) → length left < count → (end : Outcome) × Reads part left end)
+some_at : (construct : Construct) (text : List ℕ) (count : ℕ)
+    → ((part : Construct) (left : List ℕ) → length left < count → (end : Outcome) × Reads part left end)
     → length text < suc count → (next : Act) → act construct text ≡ next → Shrinks (length text) next
     → (end : Outcome) × Reads construct text end
 some_at construct text count less h (goes next rest) e s =
@@ -92,12 +92,12 @@ some_at construct text count less h (enters inner outer rest) e s =
 some_at construct text count less h (ends rest) e s = (past rest, has_ended e)
 some_at construct text count less h (offends fault) e s = (refused fault, offended e)
 
-some_below : (count : ℕ) (construct : Part) (text : List ℕ) → length text < count → (end : Outcome) × Reads construct text end
+some_below : (count : ℕ) (construct : Construct) (text : List ℕ) → length text < count → (end : Outcome) × Reads construct text end
 some_below zero construct text h = absurd (omega arith)
 some_below (suc count) construct text h =
     some_at construct text count (some_below count) h (act construct text) refl (act-Shrinks construct text)
 
-pub Reads-some : (construct : Part) (text : List ℕ) → (end : Outcome) × Reads construct text end
+pub Reads-some : (construct : Construct) (text : List ℕ) → (end : Outcome) × Reads construct text end
 Reads-some construct text = some_below (suc (length text)) construct text (omega arith)
 
 -- a byte of a word doesn't end it
@@ -112,8 +112,8 @@ GoesFurther-if : (test : Bool) (left right : Act) → GoesFurther left → GoesF
 GoesFurther-if true left right l r = l
 GoesFurther-if false left right l r = r
 
-module _ (nest : Nest) (left : ℕ) (outer : Part) where
-  opening-further : (inner : Part) (rest : List ℕ) → GoesFurther (opening nest left inner outer rest)
+module _ (nest : Nest) (left : ℕ) (outer : Construct) where
+  opening-further : (inner : Construct) (rest : List ℕ) → GoesFurther (opening nest left inner outer rest)
   opening-further inner rest = search (GoesFurther-if, rules)
 
   substitution-further : (rest : List ℕ) → GoesFurther (substitution nest left outer rest)
@@ -135,7 +135,7 @@ module _ (nest : Nest) (left : ℕ) (outer : Part) where
   dollar_at-further quoted text [] = tt
   dollar_at-further quoted text (byte ∷ rest) = dollar_by-further (introduced_by byte) quoted text rest
 
-single_quotes-further : (left : ℕ) (next : Part) (found : Option (List ℕ)) → GoesFurther (single_quotes left next found)
+single_quotes-further : (left : ℕ) (next : Construct) (found : Option (List ℕ)) → GoesFurther (single_quotes left next found)
 single_quotes-further left next None = tt
 single_quotes-further left next (Some rest) = tt
 

@@ -6,8 +6,8 @@ use Rattle.sh_lex.proofs.Shrinking.{BeginsWord, LeavesLess}
 use Rattle.sh_lex.specs.Operators.{lexeme}
 use Rattle.sh_lex.specs.Reads.{Outcome, past, refused, Reads, StopsReading}
 use Rattle.sh_lex.specs.Inner.Lexing.{StopsAt}
-use Rattle.sh_lex.specs.declared.reading.Stop.{Stop}
-use Rattle.sh_lex.specs.declared.reading.Stop.TheVariants as stop
+use Rattle.sh_lex.specs.declared.reading.ScanStop.{ScanStop}
+use Rattle.sh_lex.specs.declared.reading.ScanStop.TheVariants as stop
 use Rattle.sh_lex.specs.Lexes.{Lexes, IsRefused, Offence, HasTokens, HasRefusal, HasOneReading, told, one_word, token_between, after_token, Tokens, no_token, skips, opens, closes, takes, takes_word, refused_word, refused_token}
 use Rattle.sh_lex.proofs.Shorter.{lexeme-LeavesLess}
 use Rattle.sh_lex.proofs.Readings.{Reads-same, Reads-some, word-shorter}
@@ -139,13 +139,13 @@ pub Tokens-some : (total : ℕ) (text : List ℕ) → (end : Result (List Token)
 Tokens-some total text = some_below total (suc (length text)) text (omega arith)
 
 -- the scan stops in a word
-pub stops_in_word : (text : List ℕ) (stopped : Stop) → lexeme text ≡ word → StopsReading one_word text stopped
+pub stops_in_word : (text : List ℕ) (stopped : ScanStop) → lexeme text ≡ word → StopsReading one_word text stopped
     → (total : ℕ) → StopsAt total text stopped
 stops_in_word text (stop.Refused fault) e reads total = refused_word e reads
 stops_in_word text stop.Memory e reads total = tt
 
 -- the scan stops behind some tokens
-pub stops_behind : (total : ℕ) (text rest : List ℕ) (first : List Token) (stopped : Stop)
+pub stops_behind : (total : ℕ) (text rest : List ℕ) (first : List Token) (stopped : ScanStop)
     → ((end : Result (List Token) Fault) → Tokens total rest end → Tokens total text (after_tokens first end))
     → StopsAt total rest stopped → StopsAt total text stopped
 stops_behind total text rest first (stop.Refused fault) behind met = behind (Err fault) met

@@ -17,9 +17,9 @@ use Rattle.sh_lex.proofs.Shrinking.{Shrinks, BeginsWord, LeavesLess}
 use Rattle.sh_lex.proofs.Fronts.{length-unspliced, length-behind_run}
 use Rattle.sh_lex.proofs.HeadLemmas.{Stays, stays_whole, stays_word, stays_none, brace_head-Stays}
 use Rattle.sh_lex.specs.declared.parts.Nest.{Nest}
-use Rattle.sh_lex.specs.declared.parts.Part.{Part}
+use Rattle.sh_lex.specs.declared.parts.Construct.{Construct}
 use Rattle.sh_lex.specs.declared.parts.Spot.{Spot}
-use Rattle.sh_lex.specs.declared.parts.Part.TheVariants as part
+use Rattle.sh_lex.specs.declared.parts.Construct.TheVariants as part
 use Rattle.sh_lex.specs.declared.parts.Spot.TheVariants as spot
 use Rattle.sh_lex.specs.declared.dollars.Introduced.{Introduced}
 use Rattle.sh_lex.specs.declared.dollars.Introduced.TheVariants as introduced
@@ -49,19 +49,19 @@ length-behind_backslash braces [] = omega arith
 length-behind_backslash braces (byte ∷ rest) = grind arith
 
 module _ (nest : Nest) (left : ℕ) (count : ℕ) where
-  opening-Shrinks : (inner outer : Part) (rest : List ℕ) → length rest < count → Shrinks count (opening nest left inner outer rest)
+  opening-Shrinks : (inner outer : Construct) (rest : List ℕ) → length rest < count → Shrinks count (opening nest left inner outer rest)
   opening-Shrinks inner outer rest h = search (Shrinks-if, rules)
 
-  substitution-Shrinks : (outer : Part) (rest : List ℕ) → length rest < count → Shrinks count (substitution nest left outer rest)
+  substitution-Shrinks : (outer : Construct) (rest : List ℕ) → length rest < count → Shrinks count (substitution nest left outer rest)
   substitution-Shrinks outer rest h = search (Shrinks-if, rules)
 
-  parenthesis-Shrinks : (outer : Part) (inner text : List ℕ) → length inner < count → length text < count
+  parenthesis-Shrinks : (outer : Construct) (inner text : List ℕ) → length inner < count → length text < count
       → Shrinks count (parenthesis nest left outer inner text)
   parenthesis-Shrinks outer inner [] h k = substitution-Shrinks outer inner h
   parenthesis-Shrinks outer inner (byte ∷ rest) h k =
       let shorter : length rest < count = omega arith in search (Shrinks-if, substitution-Shrinks, opening-Shrinks, rules)
 
-  dollar_by-Shrinks : (what : Introduced) (quoted : Bool) (outer : Part) (text rest : List ℕ) → length text < count → length rest < count
+  dollar_by-Shrinks : (what : Introduced) (quoted : Bool) (outer : Construct) (text rest : List ℕ) → length text < count → length rest < count
       → Shrinks count (dollar_by what nest quoted left outer text rest)
   dollar_by-Shrinks (introduced.OutOfProfile spelling) quoted outer text rest h k = tt
   dollar_by-Shrinks introduced.Braces quoted outer text rest h k = opening-Shrinks _ outer rest k
@@ -71,14 +71,14 @@ module _ (nest : Nest) (left : ℕ) (count : ℕ) where
   dollar_by-Shrinks introduced.Special quoted outer text rest h k = k
   dollar_by-Shrinks introduced.Nothing quoted outer text rest h k = h
 
-  dollar_at-Shrinks : (quoted : Bool) (outer : Part) (text front : List ℕ) → length text < count → length front < count
+  dollar_at-Shrinks : (quoted : Bool) (outer : Construct) (text front : List ℕ) → length text < count → length front < count
       → Shrinks count (dollar_at nest quoted left outer text front)
   dollar_at-Shrinks quoted outer text [] h k = h
   dollar_at-Shrinks quoted outer text (byte ∷ rest) h k =
       dollar_by-Shrinks (introduced_by byte) quoted outer text rest h (omega arith)
 
   -- an expansion takes what is behind the `$`
-  pub after_dollar-Shrinks : (quoted : Bool) (outer : Part) (text : List ℕ) → length text < count
+  pub after_dollar-Shrinks : (quoted : Bool) (outer : Construct) (text : List ℕ) → length text < count
       → Shrinks count (after_dollar nest quoted left outer text)
   after_dollar-Shrinks quoted outer text h = dollar_at-Shrinks quoted outer text (unspliced text) h (omega (arith, length-unspliced text))
 
@@ -108,12 +108,12 @@ length-behind_quote [] after h = cc
 length-behind_quote (byte ∷ rest) after h =
     behind_quote_if (byte == 39) rest (byte ∷ rest) after (λ e. omega (arith, length-behind_quote rest after e)) (omega arith) h
 
-single_found : (left : ℕ) (next : Part) (count : ℕ) (text : List ℕ) (found : Option (List ℕ)) → behind_quote text ≡ found
+single_found : (left : ℕ) (next : Construct) (count : ℕ) (text : List ℕ) (found : Option (List ℕ)) → behind_quote text ≡ found
     → length text < count → Shrinks count (single_quotes left next found)
 single_found left next count text None e h = tt
 single_found left next count text (Some after) e h = omega (arith, length-behind_quote text after e)
 
-single_quotes-Shrinks : (left : ℕ) (next : Part) (count : ℕ) (text : List ℕ) → length text < count
+single_quotes-Shrinks : (left : ℕ) (next : Construct) (count : ℕ) (text : List ℕ) → length text < count
     → Shrinks count (single_quotes left next (behind_quote text))
 single_quotes-Shrinks left next count text h = single_found left next count text (behind_quote text) refl h
 
@@ -147,7 +147,7 @@ module _ (nest : Nest) (left : ℕ) (count : ℕ) where
       braces_word-Shrinks (quoted && not (trims by)) (unspliced rest) (omega (arith, length-unspliced rest))
   head-Shrinks quoted text no_form h stays_none = braces-Shrinks quoted (unspliced text) (omega (arith, length-unspliced text))
 
-  expression-Shrinks : (self : Part) (byte : ℕ) (rest : List ℕ) → length rest < count
+  expression-Shrinks : (self : Construct) (byte : ℕ) (rest : List ℕ) → length rest < count
       → Shrinks count (expression_at nest left self byte rest)
   expression-Shrinks self byte rest h =
       let behind : length (behind_backslash false rest) < count = omega (arith, length-behind_backslash false rest) in
@@ -299,7 +299,7 @@ module _ (nest : Nest) (count : ℕ) where
       in_word-Shrinks opened spot.Elsewhere text (unspliced text) h (omega (arith, length-unspliced text))
 
 -- a step of a construct leaves less of the text, or as much where the construct has ended
-pub act-Shrinks : (construct : Part) (text : List ℕ) → Shrinks (length text) (act construct text)
+pub act-Shrinks : (construct : Construct) (text : List ℕ) → Shrinks (length text) (act construct text)
 act-Shrinks (part.Commands nest opened at) text = commands-Shrinks nest (length text) opened at text (omega arith)
 act-Shrinks part.Name text = name-Shrinks (length text) text (unspliced text) (omega arith) (length-unspliced text)
 act-Shrinks (part.DoubleQuotes nest left) text =

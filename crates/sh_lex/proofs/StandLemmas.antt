@@ -19,9 +19,9 @@ use Rattle.sh_lex.proofs.KeepsLemmas.{IsKept, KeepsBehind, lexeme-kept, Reads-ke
 use Rattle.sh_lex.specs.declared.bytes.TheConstants.{BACKSLASH, NEWLINE, HASH, DASH, AND, PIPE, SEMI, OPEN, CLOSE, LESS, GREAT}
 use Rattle.sh_lex.specs.declared.parts.Fault.{Fault}
 use Rattle.sh_lex.specs.declared.parts.Nest.{Nest}
-use Rattle.sh_lex.specs.declared.parts.Part.{Part}
+use Rattle.sh_lex.specs.declared.parts.Construct.{Construct}
 use Rattle.sh_lex.specs.declared.parts.Spot.{Spot}
-use Rattle.sh_lex.specs.declared.parts.Part.TheVariants as part
+use Rattle.sh_lex.specs.declared.parts.Construct.TheVariants as part
 use Rattle.sh_lex.specs.declared.parts.Spot.TheVariants as spot
 use Rattle.sh_lex.specs.declared.dollars.Introduced.{Introduced}
 use Rattle.sh_lex.specs.declared.dollars.Introduced.TheVariants as introduced
@@ -234,7 +234,7 @@ module _ (byte : ℕ) (rest : List ℕ) (begins : unspliced (byte ∷ rest) ≡ 
       (λ n. simp (k, m))))
 
 -- the word of a token
-abbrev IsWordPart : Part → Type 0
+abbrev IsWordPart : Construct → Type 0
 IsWordPart (part.Commands nest None spot.Begin) = Unit {0}
 IsWordPart (part.Commands nest None spot.Name) = Unit {0}
 IsWordPart (part.Commands nest None spot.ValueBegin) = Unit {0}
@@ -274,8 +274,8 @@ behind_part nest spot.ValueBegin byte = search (IsWordPart-if, rules)
 behind_part nest spot.Value byte = search (IsWordPart-if, rules)
 behind_part nest spot.Elsewhere byte = tt
 
-module _ (nest : Nest) (left : ℕ) (outer : Part) (is_word : IsWordPart outer) where
-  opening_word : (inner : Part) (rest : List ℕ) → EndsWord (opening nest left inner outer rest)
+module _ (nest : Nest) (left : ℕ) (outer : Construct) (is_word : IsWordPart outer) where
+  opening_word : (inner : Construct) (rest : List ℕ) → EndsWord (opening nest left inner outer rest)
   opening_word inner rest = search (EndsWord-if, is_word, rules)
 
   substitution_word : (rest : List ℕ) → EndsWord (substitution nest left outer rest)
@@ -297,7 +297,7 @@ module _ (nest : Nest) (left : ℕ) (outer : Part) (is_word : IsWordPart outer) 
   dollar_word quoted text [] = is_word
   dollar_word quoted text (byte ∷ rest) = by_word (introduced_by byte) quoted text rest
 
-single_word : (left : ℕ) (next : Part) (found : Option (List ℕ)) → IsWordPart next → EndsWord (single_quotes left next found)
+single_word : (left : ℕ) (next : Construct) (found : Option (List ℕ)) → IsWordPart next → EndsWord (single_quotes left next found)
 single_word left next None h = tt
 single_word left next (Some rest) h = h
 
@@ -318,7 +318,7 @@ in_word_ends nest at text (byte ∷ rest) e = by_test (ends_word byte) refl
     by_test true h = ap has_no_word e ∙ h
     by_test false h = at_word nest at byte rest
 
-word_acts : (construct : Part) (text : List ℕ) → IsWordPart construct → EndsWord (act construct text)
+word_acts : (construct : Construct) (text : List ℕ) → IsWordPart construct → EndsWord (act construct text)
 word_acts (part.Commands nest None spot.Between) text h = absurd h
 word_acts (part.Commands nest None spot.Begin) text h = in_word_ends nest spot.Begin text (unspliced text) refl
 word_acts (part.Commands nest None spot.Name) text h = in_word_ends nest spot.Name text (unspliced text) refl
@@ -333,10 +333,10 @@ word_acts (part.Braces nest left quoted) text h = absurd h
 word_acts (part.Arithmetic nest left) text h = absurd h
 word_acts (part.Parentheses nest left) text h = absurd h
 
-word_does : (construct : Part) (text : List ℕ) (does : Act) → act construct text ≡ does → IsWordPart construct → EndsWord does
+word_does : (construct : Construct) (text : List ℕ) (does : Act) → act construct text ≡ does → IsWordPart construct → EndsWord does
 word_does construct text does e h = subst EndsWord e (word_acts construct text h)
 
-word_ends : {construct : Part} {text rest : List ℕ} → IsWordPart construct → Reads construct text (past rest)
+word_ends : {construct : Construct} {text rest : List ℕ} → IsWordPart construct → Reads construct text (past rest)
     → has_no_word (unspliced rest) ≡ true
 word_ends h (goes_on {construct = construct} {next = next} {text = text} {rest = rest} e reads) =
     word_ends (word_does construct text (goes next rest) e h) reads

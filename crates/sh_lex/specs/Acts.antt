@@ -1,7 +1,7 @@
 -- One step of a construct, and what begins where a token may begin. A list is what is left of the text behind it.
 -- The code has the same over slices.
 use Rattle.std.specs.Prelude.{ℕ, List}
-use Rattle.sh_lex.specs.declared.parts.Part.{Part}
+use Rattle.sh_lex.specs.declared.parts.Construct.{Construct}
 use Rattle.sh_lex.specs.declared.parts.Fault.{Fault}
 use Rattle.sh_lex.specs.declared.tokens.TokenKind.{TokenKind}
 use Rattle.sh_lex.specs.declared.acts.Step.{Step}
@@ -9,9 +9,9 @@ use Rattle.sh_lex.specs.declared.acts.Step.TheVariants as step
 
 pub data Act : Type 0 where
   -- the construct goes on as this part
-  goes : Part → List ℕ → Act
+  goes : Construct → List ℕ → Act
   -- the first part opens in the construct, which goes on as the second one
-  enters : Part → Part → List ℕ → Act
+  enters : Construct → Construct → List ℕ → Act
   -- the construct has ended
   ends : List ℕ → Act
   -- the text is refused

@@ -6,13 +6,13 @@ use Rattle.sh_lex.specs.Acts.{Act, goes, enters, ends, offends}
 use Rattle.sh_lex.specs.Dollars.{after_dollar}
 use Rattle.sh_lex.specs.declared.bytes.TheConstants.{OPEN, CLOSE, BACKQUOTE, DOLLAR, BACKSLASH}
 use Rattle.sh_lex.specs.declared.parts.Nest.{Nest}
-use Rattle.sh_lex.specs.declared.parts.Part.{Part}
-use Rattle.sh_lex.specs.declared.parts.Part.TheVariants as part
+use Rattle.sh_lex.specs.declared.parts.Construct.{Construct}
+use Rattle.sh_lex.specs.declared.parts.Construct.TheVariants as part
 use Rattle.sh_lex.specs.declared.parts.Fault.TheVariants as fault
 use Rattle.sh_lex.specs.declared.parts.Spelling.TheVariants as spelling
 
 -- a byte other than `)`; `self` is the construct itself
-abbrev pub expression_at : Nest → ℕ → Part → ℕ → List ℕ → Act
+abbrev pub expression_at : Nest → ℕ → Construct → ℕ → List ℕ → Act
 expression_at nest left self byte rest =
     if byte == OPEN then enters (part.Parentheses nest left) self rest
     else if byte == BACKQUOTE then offends (fault.Spelled spelling.Backquote (length rest + 1))

@@ -11,13 +11,13 @@ use Rattle.sh_lex.specs.Dollars.{after_dollar}
 use Rattle.sh_lex.specs.Heads.{Head, whole, with_word, no_form, trims, brace_head}
 use Rattle.sh_lex.specs.declared.bytes.TheConstants.{DOUBLE_QUOTE, BACKQUOTE, DOLLAR, BACKSLASH, QUOTE, CLOSE_BRACE, TILDE}
 use Rattle.sh_lex.specs.declared.parts.Nest.{Nest}
-use Rattle.sh_lex.specs.declared.parts.Part.{Part}
-use Rattle.sh_lex.specs.declared.parts.Part.TheVariants as part
+use Rattle.sh_lex.specs.declared.parts.Construct.{Construct}
+use Rattle.sh_lex.specs.declared.parts.Construct.TheVariants as part
 use Rattle.sh_lex.specs.declared.parts.Fault.TheVariants as fault
 use Rattle.sh_lex.specs.declared.parts.Spelling.TheVariants as spelling
 
 -- single quotes that opened where `left` bytes were left (XCU 2.2.2): they keep every byte, and then `next` goes on
-abbrev pub single_quotes : ℕ → Part → Option (List ℕ) → Act
+abbrev pub single_quotes : ℕ → Construct → Option (List ℕ) → Act
 single_quotes left next None = offends (fault.UnclosedQuote left)
 single_quotes left next (Some rest) = goes next rest
 

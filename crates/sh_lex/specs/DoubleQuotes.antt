@@ -5,7 +5,7 @@ use Rattle.sh_lex.specs.Acts.{Act, goes, ends, offends}
 use Rattle.sh_lex.specs.Dollars.{after_dollar}
 use Rattle.sh_lex.specs.declared.bytes.TheConstants.{DOUBLE_QUOTE, BACKQUOTE, DOLLAR, BACKSLASH}
 use Rattle.sh_lex.specs.declared.parts.Nest.{Nest}
-use Rattle.sh_lex.specs.declared.parts.Part.TheVariants as part
+use Rattle.sh_lex.specs.declared.parts.Construct.TheVariants as part
 use Rattle.sh_lex.specs.declared.parts.Fault.TheVariants as fault
 use Rattle.sh_lex.specs.declared.parts.Spelling.TheVariants as spelling
 

@@ -10,7 +10,7 @@ use Rattle.sh_lex.specs.Reads.{past, Reads}
 use Rattle.sh_lex.specs.Lexes.{Lexes}
 use Rattle.sh_lex.specs.declared.bytes.TheConstants.{BACKSLASH, NEWLINE, HASH, AND, PIPE, SEMI, OPEN, CLOSE, LESS, GREAT}
 use Rattle.sh_lex.specs.declared.parts.Nest.{Nest}
-use Rattle.sh_lex.specs.declared.parts.Part.TheVariants as part
+use Rattle.sh_lex.specs.declared.parts.Construct.TheVariants as part
 use Rattle.sh_lex.specs.declared.parts.Spot.TheVariants as spot
 use Rattle.sh_lex.specs.declared.tokens.Op.{Op}
 use Rattle.sh_lex.specs.declared.tokens.Op.TheVariants as op

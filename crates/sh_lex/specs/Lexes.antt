@@ -17,8 +17,8 @@ use Rattle.sh_lex.specs.declared.refusals.Static.{Static}
 use Rattle.sh_lex.specs.declared.refusals.LexRefusal.{LexRefusal}
 use Rattle.sh_lex.specs.declared.refusals.LexRefusal.TheVariants as lex
 use Rattle.sh_lex.specs.declared.refusals.Static.TheVariants as static
-use Rattle.sh_lex.specs.declared.parts.Part.{Part}
-use Rattle.sh_lex.specs.declared.parts.Part.TheVariants as part
+use Rattle.sh_lex.specs.declared.parts.Construct.{Construct}
+use Rattle.sh_lex.specs.declared.parts.Construct.TheVariants as part
 use Rattle.sh_lex.specs.declared.parts.Spot.TheVariants as spot
 use Rattle.sh_lex.specs.declared.parts.Fault.{Fault}
 use Rattle.sh_lex.specs.declared.parts.Fault.TheVariants as fault
@@ -26,7 +26,7 @@ use Rattle.sh_lex.specs.declared.parts.Spelling.{Spelling}
 use Rattle.sh_lex.specs.declared.parts.Spelling.TheVariants as spelling
 
 -- the word of one token, where no level is open
-abbrev pub one_word : Part
+abbrev pub one_word : Construct
 one_word = part.Commands (record { levels = 0; in_braces = false }) None spot.Begin
 
 -- the token from the first byte of `before`, backslash-newlines left out, up to `behind`, in a text of `total` bytes

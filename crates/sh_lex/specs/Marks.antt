@@ -12,8 +12,8 @@ use Rattle.sh_lex.specs.declared.tokens.Token.{Token}
 use Rattle.sh_lex.specs.declared.tokens.TokenKind.{TokenKind}
 use Rattle.sh_lex.specs.declared.tokens.TokenKind.TheVariants as kind
 use Rattle.sh_lex.specs.declared.tokens.Op.TheVariants as op
-use Rattle.sh_lex.specs.declared.parts.Part.{Part}
-use Rattle.sh_lex.specs.declared.parts.Part.TheVariants as part
+use Rattle.sh_lex.specs.declared.parts.Construct.{Construct}
+use Rattle.sh_lex.specs.declared.parts.Construct.TheVariants as part
 use Rattle.sh_lex.specs.declared.parts.Spot.{Spot}
 use Rattle.sh_lex.specs.declared.parts.Spot.TheVariants as spot
 use Rattle.sh_lex.specs.declared.lexing.marks.Mark.{Mark}
@@ -22,11 +22,11 @@ use Rattle.sh_lex.specs.declared.lexing.marks.Entry.{Entry}
 use Rattle.sh_lex.specs.declared.lexing.marks.Entry.TheVariants as entry
 
 -- how a construct opens in another: a subshell's parenthesis among the tokens of a `$( )`, a `$( )`, or anything else
-abbrev pub entry_in : ℕ → Part → Entry
+abbrev pub entry_in : ℕ → Construct → Entry
 entry_in left (part.Commands _ _ spot.Between) = entry.Parenthesis
 entry_in left _ = entry.Substitution left
 
-abbrev pub entry_of : Part → Part → Entry
+abbrev pub entry_of : Construct → Construct → Entry
 entry_of (part.Commands _ (Some left) _) outer = entry_in left outer
 entry_of _ outer = entry.Other
 
@@ -62,21 +62,21 @@ seen_at total spot.Value text = behind_word total text (unspliced text)
 seen_at total spot.Elsewhere text = behind_word total text (unspliced text)
 
 -- the marks at one step of a construct
-abbrev pub seen : ℕ → Part → List ℕ → List Mark
+abbrev pub seen : ℕ → Construct → List ℕ → List Mark
 seen total (part.Commands _ (Some _) at) text = seen_at total at text
 seen total _ text = []
 
 -- the marks in a construct that is read, and what is left behind it
-pub data Marked (total : ℕ) : Part → List ℕ → List Mark → List ℕ → Type 0 where
-  marks_on : {construct next : Part} {text rest left : List ℕ} {found : List Mark}
+pub data Marked (total : ℕ) : Construct → List ℕ → List Mark → List ℕ → Type 0 where
+  marks_on : {construct next : Construct} {text rest left : List ℕ} {found : List Mark}
       → act construct text ≡ goes next rest → Marked total next rest found left
       → Marked total construct text (seen total construct text ++ found) left
-  marks_inner : {construct inner outer : Part} {text rest after left : List ℕ} {inside outside : List Mark}
+  marks_inner : {construct inner outer : Construct} {text rest after left : List ℕ} {inside outside : List Mark}
       → act construct text ≡ enters inner outer rest → Marked total inner rest inside after → Marked total outer after outside left
       → Marked total construct text
       (seen total construct text ++ (opening total text rest (entry_of inner outer)
       ++ (inside ++ (closing (entry_of inner outer) ++ outside)))) left
-  marks_end : {construct : Part} {text rest : List ℕ}
+  marks_end : {construct : Construct} {text rest : List ℕ}
       → act construct text ≡ ends rest → Marked total construct text (seen total construct text) rest
 
 -- the marks of what is left of a text of `total` bytes

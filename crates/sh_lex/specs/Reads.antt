@@ -8,13 +8,13 @@ use Rattle.sh_lex.specs.Braces.{in_brace_head, in_braces}
 use Rattle.sh_lex.specs.Arithmetic.{in_arithmetic, in_parentheses}
 use Rattle.sh_lex.specs.Commands.{in_commands}
 use Rattle.sh_lex.specs.declared.parts.Fault.{Fault}
-use Rattle.sh_lex.specs.declared.parts.Part.{Part}
-use Rattle.sh_lex.specs.declared.reading.Stop.{Stop}
-use Rattle.sh_lex.specs.declared.reading.Stop.TheVariants as stop
-use Rattle.sh_lex.specs.declared.parts.Part.TheVariants as part
+use Rattle.sh_lex.specs.declared.parts.Construct.{Construct}
+use Rattle.sh_lex.specs.declared.reading.ScanStop.{ScanStop}
+use Rattle.sh_lex.specs.declared.reading.ScanStop.TheVariants as stop
+use Rattle.sh_lex.specs.declared.parts.Construct.TheVariants as part
 
 -- what the text does to the construct that is open there
-abbrev pub act : Part → List ℕ → Act
+abbrev pub act : Construct → List ℕ → Act
 act (part.Commands nest opened at) text = in_commands nest opened at text
 act part.Name text = in_name text
 act (part.DoubleQuotes nest left) text = in_double_quotes nest left text
@@ -28,19 +28,19 @@ pub data Outcome : Type 0 where
   past : List ℕ → Outcome
   refused : Fault → Outcome
 
-pub data Reads : Part → List ℕ → Outcome → Type 0 where
-  goes_on : {construct next : Part} {text rest : List ℕ} {end : Outcome}
+pub data Reads : Construct → List ℕ → Outcome → Type 0 where
+  goes_on : {construct next : Construct} {text rest : List ℕ} {end : Outcome}
       → act construct text ≡ goes next rest → Reads next rest end → Reads construct text end
-  reads_inner : {construct inner outer : Part} {text rest after : List ℕ} {end : Outcome}
+  reads_inner : {construct inner outer : Construct} {text rest after : List ℕ} {end : Outcome}
       → act construct text ≡ enters inner outer rest → Reads inner rest (past after) → Reads outer after end
       → Reads construct text end
-  refused_inside : {construct inner outer : Part} {text rest : List ℕ} {fault : Fault}
+  refused_inside : {construct inner outer : Construct} {text rest : List ℕ} {fault : Fault}
       → act construct text ≡ enters inner outer rest → Reads inner rest (refused fault) → Reads construct text (refused fault)
-  has_ended : {construct : Part} {text rest : List ℕ} → act construct text ≡ ends rest → Reads construct text (past rest)
-  offended : {construct : Part} {text : List ℕ} {fault : Fault}
+  has_ended : {construct : Construct} {text rest : List ℕ} → act construct text ≡ ends rest → Reads construct text (past rest)
+  offended : {construct : Construct} {text : List ℕ} {fault : Fault}
       → act construct text ≡ offends fault → Reads construct text (refused fault)
 
 -- why the code stopped in a construct: for want of memory, which is free, or for this refusal
-abbrev pub StopsReading : Part → List ℕ → Stop → Type 0
+abbrev pub StopsReading : Construct → List ℕ → ScanStop → Type 0
 StopsReading construct text (stop.Refused fault) = Reads construct text (refused fault)
 StopsReading construct text stop.Memory = Unit {0}

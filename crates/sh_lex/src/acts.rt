@@ -1,14 +1,14 @@
 //! What the text at a place does to the construct that is open there.
-use crate::parts::{Fault, Part};
+use crate::parts::{Construct, Fault};
 use crate::tokens::TokenKind;
 
 /// One step of a construct. The slice is what is left of the text behind it.
 #[derive(Clone, Copy, Debug)]
 pub enum Step<'a> {
     /// The construct goes on as this part.
-    Goes(Part, &'a [u8]),
+    Goes(Construct, &'a [u8]),
     /// The first part opens in the construct, which goes on as the second one.
-    Enters(Part, Part, &'a [u8]),
+    Enters(Construct, Construct, &'a [u8]),
     /// The construct has ended.
     Ends(&'a [u8]),
     /// The text is refused.

@@ -7,7 +7,7 @@ ghost use Rattle.sh_lex.specs.Arithmetic.{expression_at, closing_at, in_arithmet
 use crate::acts::Step;
 use crate::bytes::{BACKQUOTE, BACKSLASH, CLOSE, DOLLAR, OPEN};
 use crate::dollars::after_dollar;
-use crate::parts::{Fault, Nest, Part, Spelling};
+use crate::parts::{Construct, Fault, Nest, Spelling};
 use crate::texts::{behind_backslash, front};
 
 /// In a `$(( ))` that opened where `left` bytes were left.
@@ -17,7 +17,7 @@ pub fn in_arithmetic(nest: Nest, left: usize, text: &[u8]) -> Step<'_>
     match front(text) {
         None => Step::Offends(Fault::UnclosedBrace(left)),
         Some((CLOSE, rest)) => closing(nest, left, rest),
-        Some((byte, rest)) => expression(nest, left, Part::Arithmetic(nest, left), byte, rest),
+        Some((byte, rest)) => expression(nest, left, Construct::Arithmetic(nest, left), byte, rest),
     }
 }
 
@@ -28,7 +28,13 @@ pub fn in_parentheses(nest: Nest, left: usize, text: &[u8]) -> Step<'_>
     match front(text) {
         None => Step::Offends(Fault::UnclosedBrace(left)),
         Some((CLOSE, rest)) => Step::Ends(rest),
-        Some((byte, rest)) => expression(nest, left, Part::Parentheses(nest, left), byte, rest),
+        Some((byte, rest)) => expression(
+            nest,
+            left,
+            Construct::Parentheses(nest, left),
+            byte,
+            rest,
+        ),
     }
 }
 
@@ -38,16 +44,16 @@ fn closing(nest: Nest, left: usize, text: &[u8]) -> Step<'_>
 {
     match front(text) {
         Some((CLOSE, rest)) => Step::Ends(rest),
-        _ => Step::Goes(Part::Arithmetic(nest, left), text),
+        _ => Step::Goes(Construct::Arithmetic(nest, left), text),
     }
 }
 
 /// At a byte of an expression; `part` is the construct itself.
-fn expression(nest: Nest, left: usize, part: Part, byte: u8, rest: &[u8]) -> Step<'_>
+fn expression(nest: Nest, left: usize, part: Construct, byte: u8, rest: &[u8]) -> Step<'_>
     ensures { act_of result ≡ expression_at nest left part byte rest.now }
 {
     match byte {
-        OPEN => Step::Enters(Part::Parentheses(nest, left), part, rest),
+        OPEN => Step::Enters(Construct::Parentheses(nest, left), part, rest),
         BACKQUOTE => Step::Offends(Fault::Spelled(Spelling::Backquote, rest.len() + 1)),
         DOLLAR => after_dollar(nest, true, rest.len() + 1, part, rest),
         BACKSLASH => Step::Goes(part, behind_backslash(false, rest)),

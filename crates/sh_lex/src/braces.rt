@@ -8,7 +8,7 @@ use crate::acts::Step;
 use crate::bytes::{BACKQUOTE, BACKSLASH, CLOSE_BRACE, DOLLAR, DOUBLE_QUOTE, QUOTE, TILDE};
 use crate::dollars::after_dollar;
 use crate::heads::{Head, brace_head};
-use crate::parts::{Fault, Nest, Part, Spelling};
+use crate::parts::{Construct, Fault, Nest, Spelling};
 use crate::quotes::single_quotes;
 use crate::texts::{behind_backslash, behind_byte, front};
 
@@ -57,12 +57,12 @@ fn word_at(nest: Nest, left: usize, quoted: bool, byte: u8, rest: &[u8]) -> Step
 fn braces_at(nest: Nest, left: usize, quoted: bool, byte: u8, rest: &[u8]) -> Step<'_>
     ensures { act_of result ≡ braces_at nest left quoted (byte ∷ rest.now) }
 {
-    let part = Part::Braces(nest, left, quoted);
+    let part = Construct::Braces(nest, left, quoted);
     match byte {
         CLOSE_BRACE => Step::Ends(rest),
         BACKQUOTE => Step::Offends(Fault::Spelled(Spelling::Backquote, rest.len() + 1)),
         DOLLAR => after_dollar(nest, quoted, rest.len() + 1, part, rest),
-        DOUBLE_QUOTE => Step::Enters(Part::DoubleQuotes(nest, rest.len() + 1), part, rest),
+        DOUBLE_QUOTE => Step::Enters(Construct::DoubleQuotes(nest, rest.len() + 1), part, rest),
         QUOTE => quote(nest, left, quoted, rest),
         BACKSLASH => backslash(nest, left, quoted, rest),
         _ => Step::Goes(part, rest),
@@ -73,7 +73,7 @@ fn braces_at(nest: Nest, left: usize, quoted: bool, byte: u8, rest: &[u8]) -> St
 fn quote(nest: Nest, left: usize, quoted: bool, rest: &[u8]) -> Step<'_>
     ensures { act_of result ≡ quote_in_braces nest left quoted rest.now }
 {
-    let part = Part::Braces(nest, left, quoted);
+    let part = Construct::Braces(nest, left, quoted);
     if quoted {
         Step::Goes(part, rest)
     } else {
@@ -85,7 +85,7 @@ fn quote(nest: Nest, left: usize, quoted: bool, rest: &[u8]) -> Step<'_>
 fn backslash(nest: Nest, left: usize, quoted: bool, rest: &[u8]) -> Step<'_>
     ensures { act_of result ≡ backslash_in_braces nest left quoted rest.now }
 {
-    let part = Part::Braces(nest, left, quoted);
+    let part = Construct::Braces(nest, left, quoted);
     if quoted {
         Step::Goes(part, behind_backslash(true, rest))
     } else {

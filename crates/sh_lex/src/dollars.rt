@@ -6,7 +6,7 @@ ghost use Rattle.sh_lex.specs.Dollars.{introduced_by, opening, substitution, par
 
 use crate::acts::Step;
 use crate::bytes::{BANG, DASH, DOLLAR, OPEN, OPEN_BRACE, is_parameter};
-use crate::parts::{Fault, MAX_LEVELS, Nest, Part, Spelling, Spot};
+use crate::parts::{Construct, Fault, MAX_LEVELS, Nest, Spelling, Spot};
 use crate::texts::front;
 use ps_lines::{is_name_byte, is_name_start};
 
@@ -46,7 +46,13 @@ pub fn introduced_by(byte: u8) -> Introduced
 }
 
 /// Behind a `$`, at which `left` bytes are left, in the construct `outer`; `quoted`: in double quotes.
-pub fn after_dollar(nest: Nest, quoted: bool, left: usize, outer: Part, text: &[u8]) -> Step<'_>
+pub fn after_dollar(
+    nest: Nest,
+    quoted: bool,
+    left: usize,
+    outer: Construct,
+    text: &[u8],
+) -> Step<'_>
     ensures { act_of result ≡ after_dollar nest quoted left outer text.now }
 {
     let Some((byte, rest)) = front(text) else {
@@ -56,15 +62,15 @@ pub fn after_dollar(nest: Nest, quoted: bool, left: usize, outer: Part, text: &[
         Introduced::OutOfProfile(spelling) => Step::Offends(Fault::Spelled(spelling, left)),
         Introduced::Braces => braces(nest, quoted, left, outer, rest),
         Introduced::Parenthesis => parenthesis(nest, left, outer, rest),
-        Introduced::Name => Step::Enters(Part::Name, outer, rest),
+        Introduced::Name => Step::Enters(Construct::Name, outer, rest),
         Introduced::Special => Step::Goes(outer, rest),
         Introduced::Nothing => Step::Goes(outer, text),
     }
 }
 
 /// Behind a `${`.
-fn braces(nest: Nest, quoted: bool, left: usize, outer: Part, rest: &[u8]) -> Step<'_>
-    ensures { act_of result ≡ opening nest left (Part.BraceHead (inside_braces nest) left quoted) outer rest.now }
+fn braces(nest: Nest, quoted: bool, left: usize, outer: Construct, rest: &[u8]) -> Step<'_>
+    ensures { act_of result ≡ opening nest left (Construct.BraceHead (inside_braces nest) left quoted) outer rest.now }
 {
     if is_full(nest) {
         return Step::Offends(Fault::TooDeep(left));
@@ -73,11 +79,11 @@ fn braces(nest: Nest, quoted: bool, left: usize, outer: Part, rest: &[u8]) -> St
         levels: nest.levels + 1,
         in_braces: true,
     };
-    Step::Enters(Part::BraceHead(inside, left, quoted), outer, rest)
+    Step::Enters(Construct::BraceHead(inside, left, quoted), outer, rest)
 }
 
 /// Behind a `$(`, with what is left behind it.
-fn parenthesis(nest: Nest, left: usize, outer: Part, inner: &[u8]) -> Step<'_>
+fn parenthesis(nest: Nest, left: usize, outer: Construct, inner: &[u8]) -> Step<'_>
     ensures { act_of result ≡ parenthesis nest left outer inner.now (unspliced inner.now) }
 {
     match front(inner) {
@@ -87,17 +93,17 @@ fn parenthesis(nest: Nest, left: usize, outer: Part, inner: &[u8]) -> Step<'_>
 }
 
 /// Behind a `$((`.
-fn arithmetic(nest: Nest, left: usize, outer: Part, rest: &[u8]) -> Step<'_>
-    ensures { act_of result ≡ opening nest left (Part.Arithmetic (deeper nest) left) outer rest.now }
+fn arithmetic(nest: Nest, left: usize, outer: Construct, rest: &[u8]) -> Step<'_>
+    ensures { act_of result ≡ opening nest left (Construct.Arithmetic (deeper nest) left) outer rest.now }
 {
     if is_full(nest) {
         return Step::Offends(Fault::TooDeep(left));
     }
-    Step::Enters(Part::Arithmetic(deeper(nest), left), outer, rest)
+    Step::Enters(Construct::Arithmetic(deeper(nest), left), outer, rest)
 }
 
 /// Behind a `$(` that begins a command substitution.
-fn substitution(nest: Nest, left: usize, outer: Part, rest: &[u8]) -> Step<'_>
+fn substitution(nest: Nest, left: usize, outer: Construct, rest: &[u8]) -> Step<'_>
     ensures { act_of result ≡ substitution nest left outer rest.now }
 {
     if nest.in_braces {
@@ -107,7 +113,7 @@ fn substitution(nest: Nest, left: usize, outer: Part, rest: &[u8]) -> Step<'_>
         return Step::Offends(Fault::TooDeep(left));
     }
     Step::Enters(
-        Part::Commands(deeper(nest), Some(left), Spot::Between),
+        Construct::Commands(deeper(nest), Some(left), Spot::Between),
         outer,
         rest,
     )
@@ -136,7 +142,7 @@ pub fn in_name(text: &[u8]) -> Step<'_>
     ensures { act_of result ≡ in_name text.now }
 {
     match front(text) {
-        Some((byte, rest)) if is_name_byte(byte) => Step::Goes(Part::Name, rest),
+        Some((byte, rest)) if is_name_byte(byte) => Step::Goes(Construct::Name, rest),
         _ => Step::Ends(text),
     }
 }

@@ -9,8 +9,8 @@ mod marks;
 
 use crate::acts::Lexeme;
 use crate::operators::lexeme;
-use crate::parts::{Fault, Nest, Part, Spelling, Spot};
-use crate::reading::{Stop, past_construct};
+use crate::parts::{Construct, Fault, Nest, Spelling, Spot};
+use crate::reading::{ScanStop, past_construct};
 use crate::refusals::{LexRefusal, Static};
 use crate::runs::{Class, run};
 use crate::texts::front;
@@ -35,16 +35,16 @@ pub fn lex(alloc: Global, text: &[u8]) -> Result<Vec<Token>, LexRefusal>
     }
     match tokens_of(alloc, text) {
         Ok(tokens) => Ok(tokens),
-        Err(Stop::Refused(fault)) => match told(alloc, text, fault) {
+        Err(ScanStop::Refused(fault)) => match told(alloc, text, fault) {
             Ok(refusal) => Err(LexRefusal::Refused(refusal)),
             Err(_) => Err(LexRefusal::Memory),
         },
-        Err(Stop::Memory) => Err(LexRefusal::Memory),
+        Err(ScanStop::Memory) => Err(LexRefusal::Memory),
     }
 }
 
 /// The tokens of a script that isn't too long.
-fn tokens_of(alloc: Global, text: &[u8]) -> Result<Vec<Token>, Stop>
+fn tokens_of(alloc: Global, text: &[u8]) -> Result<Vec<Token>, ScanStop>
     requires { length text.now ≤ MAX_SCRIPT }
     ensures tokens { IfOk result (λ tokens. Tokens (length text.now) text.now (Ok tokens.items)) }
     ensures refused { IfErr result (λ stop. StopsAt (length text.now) text.now stop) }
@@ -57,7 +57,7 @@ fn tokens_of(alloc: Global, text: &[u8]) -> Result<Vec<Token>, Stop>
             Ok(Next::Gap(after)) => rest = after,
             Ok(Next::Token(kind, after)) => {
                 let Ok(()) = tokens.push(token_between(text.len(), kind, rest, after)) else {
-                    return Err(Stop::Memory);
+                    return Err(ScanStop::Memory);
                 };
                 rest = after;
             }
@@ -77,7 +77,7 @@ enum Next<'a> {
 }
 
 /// What begins at the text.
-fn next_token(alloc: Global, text: &[u8]) -> Result<Next<'_>, Stop>
+fn next_token(alloc: Global, text: &[u8]) -> Result<Next<'_>, ScanStop>
     ensures advances { IfOk result (λ next. Advances text.now next) }
     ensures refused { IfErr result (λ stop. (total : ℕ) → StopsAt total text.now stop) }
 {
@@ -91,12 +91,12 @@ fn next_token(alloc: Global, text: &[u8]) -> Result<Next<'_>, Stop>
             Ok(rest) => Ok(Next::Token(TokenKind::Word, rest)),
             Err(stop) => Err(stop),
         },
-        Lexeme::Offence(fault) => Err(Stop::Refused(fault)),
+        Lexeme::Offence(fault) => Err(ScanStop::Refused(fault)),
     }
 }
 
 /// The word of one token, where no level is open.
-const ONE_WORD: Part = Part::Commands(
+const ONE_WORD: Construct = Construct::Commands(
     Nest {
         levels: 0,
         in_braces: false,

@@ -31,7 +31,7 @@ pub enum Spot {
 
 /// A construct that is open. An offset is told as the number of bytes that are left there, the byte at it included.
 #[derive(Clone, Copy, Debug)]
-pub enum Part {
+pub enum Construct {
     /// The tokens of a `$( )`, with where it opened; with `None` the one word of a token.
     Commands(Nest, Option<usize>, Spot),
     /// The name of a `$name`.

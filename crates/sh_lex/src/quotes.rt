@@ -8,11 +8,11 @@ ghost use Rattle.sh_lex.specs.DoubleQuotes.{in_double_quotes};
 use crate::acts::Step;
 use crate::bytes::{BACKQUOTE, BACKSLASH, DOLLAR, DOUBLE_QUOTE};
 use crate::dollars::after_dollar;
-use crate::parts::{Fault, Nest, Part, Spelling};
+use crate::parts::{Construct, Fault, Nest, Spelling};
 use crate::texts::{behind_backslash, behind_quote, front};
 
 /// Behind a single quote at which `left` bytes are left; `next` goes on behind the closing one.
-pub fn single_quotes(left: usize, next: Part, rest: &[u8]) -> Step<'_>
+pub fn single_quotes(left: usize, next: Construct, rest: &[u8]) -> Step<'_>
     ensures { act_of result ≡ single_quotes left next (behind_quote rest.now) }
 {
     match behind_quote(rest) {
@@ -25,7 +25,7 @@ pub fn single_quotes(left: usize, next: Part, rest: &[u8]) -> Step<'_>
 pub fn in_double_quotes(nest: Nest, left: usize, text: &[u8]) -> Step<'_>
     ensures { act_of result ≡ in_double_quotes nest left text.now }
 {
-    let part = Part::DoubleQuotes(nest, left);
+    let part = Construct::DoubleQuotes(nest, left);
     let Some((byte, rest)) = front(text) else {
         return Step::Offends(Fault::UnclosedQuote(left));
     };

@@ -7,14 +7,14 @@ use crate::acts::Step;
 use crate::arithmetic::{in_arithmetic, in_parentheses};
 use crate::braces::{in_brace_head, in_braces};
 use crate::dollars::in_name;
-use crate::parts::{Fault, Part};
+use crate::parts::{Construct, Fault};
 use crate::quotes::in_double_quotes;
 use crate::words::in_commands;
 use std::alloc::Global;
 
 /// Why the scan stopped.
 #[derive(Clone, Copy, Debug)]
-pub enum Stop {
+pub enum ScanStop {
     /// The text is refused.
     Refused(Fault),
     /// Memory was wanted and refused.
@@ -22,7 +22,7 @@ pub enum Stop {
 }
 
 /// What is left behind a construct that is open at the text.
-pub fn past_construct(alloc: Global, construct: Part, text: &[u8]) -> Result<&[u8], Stop>
+pub fn past_construct(alloc: Global, construct: Construct, text: &[u8]) -> Result<&[u8], ScanStop>
     ensures past { IfOk result (λ rest. Reads construct text.now (past rest.now)) }
     ensures refused { IfErr result (λ stop. StopsReading construct text.now stop) }
 {
@@ -37,7 +37,7 @@ pub fn past_construct(alloc: Global, construct: Part, text: &[u8]) -> Result<&[u
             }
             Step::Enters(inner, outer, after) => {
                 let Ok(()) = open.push(outer) else {
-                    return Err(Stop::Memory);
+                    return Err(ScanStop::Memory);
                 };
                 part = inner;
                 rest = after;
@@ -49,22 +49,22 @@ pub fn past_construct(alloc: Global, construct: Part, text: &[u8]) -> Result<&[u
                 }
                 rest = after;
             }
-            Step::Offends(fault) => return Err(Stop::Refused(fault)),
+            Step::Offends(fault) => return Err(ScanStop::Refused(fault)),
         }
     }
 }
 
 /// What the text does to the construct that is open there.
-pub fn step(part: Part, text: &[u8]) -> Step<'_>
+pub fn step(part: Construct, text: &[u8]) -> Step<'_>
     ensures { act_of result ≡ act part text.now }
 {
     match part {
-        Part::Commands(nest, opened, spot) => in_commands(nest, opened, spot, text),
-        Part::Name => in_name(text),
-        Part::DoubleQuotes(nest, left) => in_double_quotes(nest, left, text),
-        Part::BraceHead(nest, left, quoted) => in_brace_head(nest, left, quoted, text),
-        Part::Braces(nest, left, quoted) => in_braces(nest, left, quoted, text),
-        Part::Arithmetic(nest, left) => in_arithmetic(nest, left, text),
-        Part::Parentheses(nest, left) => in_parentheses(nest, left, text),
+        Construct::Commands(nest, opened, spot) => in_commands(nest, opened, spot, text),
+        Construct::Name => in_name(text),
+        Construct::DoubleQuotes(nest, left) => in_double_quotes(nest, left, text),
+        Construct::BraceHead(nest, left, quoted) => in_brace_head(nest, left, quoted, text),
+        Construct::Braces(nest, left, quoted) => in_braces(nest, left, quoted, text),
+        Construct::Arithmetic(nest, left) => in_arithmetic(nest, left, text),
+        Construct::Parentheses(nest, left) => in_parentheses(nest, left, text),
     }
 }

@@ -11,7 +11,7 @@ use crate::bytes::{
 };
 use crate::dollars::after_dollar;
 use crate::operators::lexeme;
-use crate::parts::{Fault, Nest, Part, Spelling, Spot};
+use crate::parts::{Construct, Fault, Nest, Spelling, Spot};
 use crate::quotes::single_quotes;
 use crate::texts::{behind_byte, front};
 use ps_lines::{is_name_byte, is_name_start};
@@ -52,7 +52,7 @@ fn word_end(nest: Nest, opened: Option<usize>, text: &[u8]) -> Step<'_>
 fn between(nest: Nest, opened: usize, text: &[u8]) -> Step<'_>
     ensures { act_of result ≡ between_at nest opened text.now (lexeme text.now) }
 {
-    let part = Part::Commands(nest, Some(opened), Spot::Between);
+    let part = Construct::Commands(nest, Some(opened), Spot::Between);
     match lexeme(text) {
         Lexeme::Nothing => Step::Offends(Fault::UnclosedBrace(opened)),
         Lexeme::Gap(rest) | Lexeme::Token(_, rest) => Step::Goes(part, rest),
@@ -77,10 +77,10 @@ fn word_begin(nest: Nest, opened: usize, text: &[u8]) -> Step<'_>
 fn word_at(nest: Nest, opened: Option<usize>, spot: Spot, byte: u8, rest: &[u8]) -> Step<'_>
     ensures { act_of result ≡ word_at nest opened spot byte rest.now }
 {
-    let past = Part::Commands(nest, opened, spot_past(spot));
+    let past = Construct::Commands(nest, opened, spot_past(spot));
     match byte {
         QUOTE => single_quotes(rest.len() + 1, past, rest),
-        DOUBLE_QUOTE => Step::Enters(Part::DoubleQuotes(nest, rest.len() + 1), past, rest),
+        DOUBLE_QUOTE => Step::Enters(Construct::DoubleQuotes(nest, rest.len() + 1), past, rest),
         BACKSLASH => Step::Goes(past, behind_byte(rest)),
         BACKQUOTE => Step::Offends(Fault::Spelled(Spelling::Backquote, rest.len() + 1)),
         DOLLAR => after_dollar(nest, false, rest.len() + 1, past, rest),
@@ -88,7 +88,10 @@ fn word_at(nest: Nest, opened: Option<usize>, spot: Spot, byte: u8, rest: &[u8])
             Spelling::Tilde,
             rest.len() + 1,
         )),
-        _ => Step::Goes(Part::Commands(nest, opened, spot_behind(spot, byte)), rest),
+        _ => Step::Goes(
+            Construct::Commands(nest, opened, spot_behind(spot, byte)),
+            rest,
+        ),
     }
 }
 

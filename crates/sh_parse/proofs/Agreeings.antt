@@ -20,8 +20,8 @@ use Rattle.sh_lex.specs.Reads.{act}
 use Rattle.sh_lex.proofs.Fronts.{length-unspliced, behind_run-name}
 use Rattle.sh_lex.proofs.Shorter.{length-behind_quote, length-behind_backslash}
 use Rattle.sh_lex.specs.declared.parts.Nest.{Nest}
-use Rattle.sh_lex.specs.declared.parts.Part.{Part}
-use Rattle.sh_lex.specs.declared.parts.Part.TheVariants as part
+use Rattle.sh_lex.specs.declared.parts.Construct.{Construct}
+use Rattle.sh_lex.specs.declared.parts.Construct.TheVariants as part
 use Rattle.sh_lex.specs.declared.parts.Spot.{Spot}
 use Rattle.sh_lex.specs.declared.parts.Spot.TheVariants as spot
 use Rattle.sh_lex.specs.declared.parts.Fault.{Fault}
@@ -151,7 +151,7 @@ behind-spot spot.ValueBegin byte = spot_if (byte == 58) spot.ValueBegin spot.Val
 behind-spot spot.Value byte = spot_if (byte == 58) spot.ValueBegin spot.Value tt tt
 behind-spot spot.Elsewhere byte = tt
 
-pub data Fits : Part → Mode → Type 0 where
+pub data Fits : Construct → Mode → Type 0 where
   fits_word : {nest : Nest} {at : Spot} → IsWordSpot at → Fits (part.Commands nest None at) (mode.Word owner.Token)
   fits_string : {nest : Nest} {start : ℕ} {of : Owner} → Fits (part.DoubleQuotes nest start) (mode.DoubleQuotes of)
   fits_braces : {nest : Nest} {start : ℕ} {is_quoted : Bool} → Fits (part.Braces nest start is_quoted) (mode.Word (owner.Braces is_quoted))
@@ -186,7 +186,7 @@ module _ (tail : List ℕ) where
     pub cut : Cut tail rest copy
     pub reads : (number last : ℕ) (left : List ℕ) → TakesBy in_mode next number last left → Reads copy number last left
 
-  abbrev pub Enters : Mode → Part → List ℕ → Step → Type 0
+  abbrev pub Enters : Mode → Construct → List ℕ → Step → Type 0
   Enters in_mode part.Name rest next = Inside in_mode rest next (λ copy number last left. Takes in_mode number (behind_run is_name_byte copy) last left)
   Enters in_mode (part.DoubleQuotes nest start) rest next =
       (in_mode ≡ mode.Word (owner_of in_mode)) × Inside in_mode rest next (λ copy number last left. Takes (mode.DoubleQuotes (owner_of in_mode)) number copy last left)
@@ -203,13 +203,13 @@ module _ (tail : List ℕ) where
 
   -- an act of the scan and a step of the reading
   pub data Agree (in_mode : Mode) : Act → Step → Type 0 where
-    agree_goes : {next : Part} {rest copy : List ℕ} {does : Step} → Fits next in_mode → Cut tail rest copy
+    agree_goes : {next : Construct} {rest copy : List ℕ} {does : Step} → Fits next in_mode → Cut tail rest copy
         → ((number last : ℕ) (left : List ℕ) → TakesBy in_mode does number last left → Takes in_mode number copy last left)
         → Agree in_mode (goes next rest) does
-    past_goes : {next : Part} {rest : List ℕ} {does : Step} → Past tail rest → Agree in_mode (goes next rest) does
-    agree_enters : {inner outer : Part} {rest : List ℕ} {does : Step} → Fits outer in_mode → Enters in_mode inner rest does
+    past_goes : {next : Construct} {rest : List ℕ} {does : Step} → Past tail rest → Agree in_mode (goes next rest) does
+    agree_enters : {inner outer : Construct} {rest : List ℕ} {does : Step} → Fits outer in_mode → Enters in_mode inner rest does
         → Agree in_mode (enters inner outer rest) does
-    past_enters : {inner outer : Part} {rest : List ℕ} {does : Step} → Past tail rest → Agree in_mode (enters inner outer rest) does
+    past_enters : {inner outer : Construct} {rest : List ℕ} {does : Step} → Past tail rest → Agree in_mode (enters inner outer rest) does
     agree_ends : {rest copy : List ℕ} {does : Step} → Cut tail rest copy
         → ((number last : ℕ) (left : List ℕ) → TakesBy in_mode does number last left → Left in_mode copy number last left)
         → Agree in_mode (ends rest) does
@@ -227,28 +227,28 @@ module _ (tail : List ℕ) where
     both_if true a b = a
     both_if false a b = b
 
-    go_or : {next : Part} {rest copy : List ℕ} {does : Step} → Fits next in_mode → Or tail rest copy
+    go_or : {next : Construct} {rest copy : List ℕ} {does : Step} → Fits next in_mode → Or tail rest copy
         → ((number last : ℕ) (left : List ℕ) → TakesBy in_mode does number last left → Takes in_mode number copy last left)
         → Agree in_mode (goes next rest) does
     go_or fits (inl h) reads = past_goes h
     go_or fits (inr cut) reads = agree_goes fits cut reads
 
     -- WHAT LOOKS PAST THE CUT
-    opening-past : (nest : Nest) (start : ℕ) (inner outer : Part) (rest : List ℕ) (does : Step) → Past tail rest
+    opening-past : (nest : Nest) (start : ℕ) (inner outer : Construct) (rest : List ℕ) (does : Step) → Past tail rest
         → Agree in_mode (opening nest start inner outer rest) does
     opening-past nest start inner outer rest does h = first_if (nat_lt nest.levels MAX_LEVELS) (past_enters h) offends_anyway
 
-    substitution-past : (nest : Nest) (start : ℕ) (outer : Part) (rest : List ℕ) (does : Step) → Past tail rest
+    substitution-past : (nest : Nest) (start : ℕ) (outer : Construct) (rest : List ℕ) (does : Step) → Past tail rest
         → Agree in_mode (substitution nest start outer rest) does
     substitution-past nest start outer rest does h = first_if nest.in_braces offends_anyway (opening-past nest start _ outer rest does h)
 
-    parenthesis-past : (nest : Nest) (start : ℕ) (outer : Part) (inner front : List ℕ) (does : Step) → Past tail inner → length front ≤ length inner
+    parenthesis-past : (nest : Nest) (start : ℕ) (outer : Construct) (inner front : List ℕ) (does : Step) → Past tail inner → length front ≤ length inner
         → Agree in_mode (parenthesis nest start outer inner front) does
     parenthesis-past nest start outer inner [] does h less = substitution-past nest start outer inner does h
     parenthesis-past nest start outer inner (byte ∷ rest) does h less =
         first_if (byte == OPEN) (opening-past nest start _ outer rest does (omega (arith, h, less))) (substitution-past nest start outer inner does h)
 
-    by-past : (what : Introduced) (nest : Nest) (is_quoted : Bool) (start : ℕ) (outer : Part) (text rest : List ℕ) (does : Step) → Past tail text → Past tail rest
+    by-past : (what : Introduced) (nest : Nest) (is_quoted : Bool) (start : ℕ) (outer : Construct) (text rest : List ℕ) (does : Step) → Past tail text → Past tail rest
         → Agree in_mode (dollar_by what nest is_quoted start outer text rest) does
     by-past (introduced.OutOfProfile spelling) nest is_quoted start outer text rest does h k = offends_anyway
     by-past introduced.Braces nest is_quoted start outer text rest does h k = opening-past nest start _ outer rest does k
@@ -258,19 +258,19 @@ module _ (tail : List ℕ) where
     by-past introduced.Special nest is_quoted start outer text rest does h k = past_goes k
     by-past introduced.Nothing nest is_quoted start outer text rest does h k = past_goes h
 
-    dollar-past : (nest : Nest) (is_quoted : Bool) (start : ℕ) (outer : Part) (text front : List ℕ) (does : Step) → Past tail text → length front ≤ length text
+    dollar-past : (nest : Nest) (is_quoted : Bool) (start : ℕ) (outer : Construct) (text front : List ℕ) (does : Step) → Past tail text → length front ≤ length text
         → Agree in_mode (dollar_at nest is_quoted start outer text front) does
     dollar-past nest is_quoted start outer text [] does h less = past_goes h
     dollar-past nest is_quoted start outer text (byte ∷ rest) does h less =
         by-past (introduced_by byte) nest is_quoted start outer text rest does h (omega (arith, h, less))
 
-    single-past : (start : ℕ) (next : Part) (rest : List ℕ) (found : Option (List ℕ)) (does : Step) → Past tail rest → behind_quote rest ≡ found
+    single-past : (start : ℕ) (next : Construct) (rest : List ℕ) (found : Option (List ℕ)) (does : Step) → Past tail rest → behind_quote rest ≡ found
         → Agree in_mode (single_quotes start next found) does
     single-past start next rest None does h e = offends_anyway
     single-past start next rest (Some after) does h e = let less = length-behind_quote rest after e in past_goes (omega (arith, h, less))
 
     -- A `$` that begins nothing here
-    module _ (nest : Nest) (is_quoted : Bool) (start : ℕ) (outer : Part) {text copy : List ℕ} (fits : Fits outer in_mode) (cut : Cut tail text copy) where
+    module _ (nest : Nest) (is_quoted : Bool) (start : ℕ) (outer : Construct) {text copy : List ℕ} (fits : Fits outer in_mode) (cut : Cut tail text copy) where
       stays : {piece : PartTree} → Agree in_mode (goes outer text) (gives piece in_mode copy)
       stays = agree_goes fits cut (λ number last left taken. taken)
 
@@ -439,14 +439,14 @@ module _ (tail : List ℕ) where
         by_test false e taken = taken
 
     module _ where
-      single-agree : (start : ℕ) {next : Part} → Fits next (mode.Word of) → {found : Option (List ℕ)} {copy : List ℕ} → QuoteCut of found copy
+      single-agree : (start : ℕ) {next : Construct} → Fits next (mode.Word of) → {found : Option (List ℕ)} {copy : List ℕ} → QuoteCut of found copy
           → Agree (mode.Word of) (single_quotes start next found) (opened QUOTE (mode.SingleQuotes of) (mode.Word of) copy copy)
       single-agree start fits no_quote = offends_anyway
       single-agree start fits (quote_past h) = past_goes h
       single-agree start fits {copy = copy} (quote_here a reads) =
           agree_goes fits a (λ number last left taken. reads number last left (single_taken copy number last left taken))
 
-      string-agree : (nest : Nest) (start : ℕ) {outer : Part} → Fits outer (mode.Word of) → {rest copy : List ℕ} → Cut tail rest copy
+      string-agree : (nest : Nest) (start : ℕ) {outer : Construct} → Fits outer (mode.Word of) → {rest copy : List ℕ} → Cut tail rest copy
           → Agree (mode.Word of) (enters (part.DoubleQuotes nest start) outer rest)
           (opened DOUBLE_QUOTE (mode.DoubleQuotes of) (mode.Word of) copy (unspliced copy))
       string-agree nest start fits {copy = copy} a =
@@ -630,7 +630,7 @@ module _ (tail : List ℕ) where
       else if byte == BACKSLASH then escape false false (mode.Arithmetic depth) rest
       else gives (plain (byte ∷ [])) (mode.Arithmetic depth) rest
 
-  module _ (nest : Nest) (start depth : ℕ) (self : Part) (fits : Fits self (mode.Arithmetic depth)) where
+  module _ (nest : Nest) (start depth : ℕ) (self : Construct) (fits : Fits self (mode.Arithmetic depth)) where
     one_deeper : depth + 1 ≡ suc depth
     one_deeper = omega arith
 
@@ -722,7 +722,7 @@ module _ (tail : List ℕ) where
           (expression-agree nest start (suc depth) (part.Parentheses nest start) fits_parentheses byte (sort_of byte) a)
 
   -- ALL OF THEM
-  pub agree-all : {construct : Part} {in_mode : Mode} → Fits construct in_mode → {text copy : List ℕ} → Cut tail text copy
+  pub agree-all : {construct : Construct} {in_mode : Mode} → Fits construct in_mode → {text copy : List ℕ} → Cut tail text copy
       → Agree in_mode (act construct text) (step in_mode copy)
   agree-all (fits_word {nest = nest} {at = at} is) {text = text} {copy = copy} a = by_spot at is
     where

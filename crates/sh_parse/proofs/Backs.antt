@@ -5,7 +5,7 @@ use Rattle.std.proofs.lemmas.Bool.{leb-true}
 use Rattle.sh_tree.specs.Trees.{ListTree, JoinedTrees, PipelineTree, CommandTree, CommandTrees, BranchTrees, ElseTree, InTree, SubTrees, item, and_or, none_joined, joined, pipeline, no_command, command, simple, group, subshell, if_branches, while_loop, until_loop, for_loop, no_branch, branch, no_else, else_list, no_in, in_words, no_sub, sub, no_item}
 use Rattle.sh_parse.specs.Pieces.{WordViews, Piece, assign, argument, redirection, gathered, no_piece, tail_of, words_of, default_number}
 use Rattle.sh_parse.specs.Places.{used, redirects, begins_piece, is_name, begins_pipeline, is_used}
-use Rattle.sh_parse.specs.Inner.Owed.{Part, Move, Next, Verdict, pieces, a_pipeline, a_command, pipes, next_command, joins, next_pipeline, separator, again, body, close_brace, close_parenthesis, close_substitution, then_body, branches, end_if, do_body, end_loop, loop_name, loop_head, loop_lines, loop_separator, loop_do, operator, target, substitutions, push, opens, skip, stuck, move, moved, step, levels, verdict, verdict_behind, goes, deeper, fails, deep, fine, bad, may_end, is_option, branch_by, word_by, redirection_by, piece_by, needed, command_by, pipeline_by, followed}
+use Rattle.sh_parse.specs.Inner.Owed.{Pending, Move, Next, Verdict, pieces, a_pipeline, a_command, pipes, next_command, joins, next_pipeline, separator, again, body, close_brace, close_parenthesis, close_substitution, then_body, branches, end_if, do_body, end_loop, loop_name, loop_head, loop_lines, loop_separator, loop_do, operator, target, substitutions, push, opens, skip, stuck, move, moved, step, levels, verdict, verdict_behind, goes, deeper, fails, deep, fine, bad, may_end, is_option, branch_by, word_by, redirection_by, piece_by, needed, command_by, pipeline_by, followed}
 use Rattle.sh_parse.specs.Grammar as g
 use Rattle.sh_parse.specs.Grammar.{NoneNext, IsAgain, IsBody, IsList, IsSeparated, IsJoined, IsNextPipeline, IsPipeline, IsPiped, IsNextCommand, IsCommand, IsBranches, IsLoopHead, IsLoopLines, IsLoopSeparator, IsLoopDo, IsPieces, IsPiece, IsSubs, is_sub_open, is_pipe, is_join, is_separator, goes_on}
 use Rattle.sh_parse.specs.declared.items.Item.{Item}
@@ -13,8 +13,8 @@ use Rattle.sh_parse.specs.declared.items.Item.TheVariants as token
 use Rattle.sh_parse.specs.declared.items.WordKind.{WordKind}
 use Rattle.sh_parse.specs.declared.items.WordKind.TheVariants as word
 use Rattle.sh_parse.specs.declared.items.Reserved.TheVariants as reserved
-use Rattle.sh_parse.specs.declared.pieces.Place.{Place}
-use Rattle.sh_parse.specs.declared.pieces.Place.TheVariants as place
+use Rattle.sh_parse.specs.declared.pieces.Slot.{Slot}
+use Rattle.sh_parse.specs.declared.pieces.Slot.TheVariants as place
 use Rattle.sh_parse.specs.declared.pieces.Use.{Use}
 use Rattle.sh_parse.specs.declared.pieces.Use.TheVariants as use_as
 use Rattle.sh_tree.specs.declared.commands.How.{How}
@@ -49,7 +49,7 @@ module _ (views : WordViews) (most : ℕ) where
       × IsBody views most (depth + 1) items list (token.Word (word.Reserved reserved.Done) close ∷ left))
 
   -- what the rule of a part reads, below a stack of so many levels
-  abbrev pub Is : Part → ℕ → List Item → List Item → Type 0
+  abbrev pub Is : Pending → ℕ → List Item → List Item → Type 0
   Is (pieces at) depth items left = (found : List Piece) × IsPieces views most depth at items found left
   Is operator depth items left = (how : How) × ((from : ℕ) × ((kind : WordKind) × ((at : Span) × ((middle : List Item) × ((subs : SubTrees)
       × ((items ≡ token.Redirect how from ∷ token.Word kind at ∷ middle) × IsSubs views most depth middle subs left))))))
@@ -88,19 +88,19 @@ module _ (views : WordViews) (most : ℕ) where
   Is loop_do depth items left = (behind : List Item) × (IsLoopDo items behind × LoopBody depth behind left)
 
   -- the rules of a stack, one behind another
-  abbrev pub Owed : List Part → List Item → Type 0
+  abbrev pub Owed : List Pending → List Item → Type 0
   Owed [] items = items ≡ []
   Owed (part ∷ stack) items = (left : List Item) × (Is part (levels stack) items left × Owed stack left)
 
   -- what a move says of the rules
-  abbrev pub Back : Part → Item → List Part → Move → Type 0
+  abbrev pub Back : Pending → Item → List Pending → Move → Type 0
   Back part first stack (push parts) = (rest : List Item) → Owed (parts ++ stack) rest → Owed (part ∷ stack) (first ∷ rest)
   Back part first stack (opens parts) =
       levels (parts ++ stack) ≤ most → (rest : List Item) → Owed (parts ++ stack) rest → Owed (part ∷ stack) (first ∷ rest)
   Back part first stack skip = (rest : List Item) → Is part (levels stack) (first ∷ rest) (first ∷ rest)
   Back part first stack stuck = Unit {0}
 
-  word_back : (at : Place) (kind : WordKind) (span : Span) (stack : List Part) (u : Use) → used at kind ≡ u
+  word_back : (at : Slot) (kind : WordKind) (span : Span) (stack : List Pending) (u : Use) → used at kind ≡ u
       → Back (pieces at) (token.Word kind span) stack (word_by u)
   word_back at kind span stack use_as.Assigned e = λ rest o.
       let (middle, ((subs, is_subs), (left, ((found, is_found), o)))) = o in
@@ -110,7 +110,7 @@ module _ (views : WordViews) (most : ℕ) where
       (left, ((argument span subs ∷ found, g.more_pieces (g.is_argument e is_subs) is_found), o))
   word_back at kind span stack use_as.Unused e = λ rest. ([], g.last_piece (ap is_used e))
 
-  number_back : (at : Place) (number before : ℕ) (stack : List Part) (o : Option Place) → redirects at ≡ o
+  number_back : (at : Slot) (number before : ℕ) (stack : List Pending) (o : Option Slot) → redirects at ≡ o
       → Back (pieces at) (token.IoNumber number before) stack (redirection_by operator o)
   number_back at number before stack None e = λ rest. ([], g.last_piece (ap is_some e))
   number_back at number before stack (Some behind) e = λ rest o.
@@ -126,7 +126,7 @@ module _ (views : WordViews) (most : ℕ) where
         ),
       )
 
-  redirect_back : (at : Place) (how : How) (from : ℕ) (stack : List Part) (o : Option Place) → redirects at ≡ o
+  redirect_back : (at : Slot) (how : How) (from : ℕ) (stack : List Pending) (o : Option Slot) → redirects at ≡ o
       → Back (pieces at) (token.Redirect how from) stack (redirection_by target o)
   redirect_back at how from stack None e = λ rest. ([], g.last_piece (ap is_some e))
   redirect_back at how from stack (Some behind) e = λ rest o.
@@ -142,7 +142,7 @@ module _ (views : WordViews) (most : ℕ) where
         ),
       )
 
-  piece_back : (at : Place) (first : Item) (stack : List Part) → Back (pieces at) first stack (piece_by at first)
+  piece_back : (at : Slot) (first : Item) (stack : List Pending) → Back (pieces at) first stack (piece_by at first)
   piece_back at (token.Word kind span) stack = word_back at kind span stack (used at kind) refl
   piece_back at (token.IoNumber number before) stack = number_back at number before stack (redirects at) refl
   piece_back at (token.Redirect how from) stack = redirect_back at how from stack (redirects at) refl
@@ -155,7 +155,7 @@ module _ (views : WordViews) (most : ℕ) where
   simple_back h (g.more_pieces {first = piece} {others = others} is_first is_others) =
       (simple (gathered views no_piece (piece ∷ others)), g.is_simple is_first is_others)
 
-  needed_back : (first : Item) (stack : List Part) (m : Move) → begins_piece place.First first ≡ true
+  needed_back : (first : Item) (stack : List Pending) (m : Move) → begins_piece place.First first ≡ true
       → Back (pieces place.First) first stack m → Back a_command first stack (needed m)
   needed_back first stack (push parts) h back = λ rest o.
       let (left, ((found, is_found), o)) = back rest o in (left, (simple_back h is_found, o))
@@ -164,7 +164,7 @@ module _ (views : WordViews) (most : ℕ) where
   needed_back first stack skip h back = tt
   needed_back first stack stuck h back = tt
 
-  command_back : (first : Item) (stack : List Part) → Back a_command first stack (command_by first)
+  command_back : (first : Item) (stack : List Pending) → Back a_command first stack (command_by first)
   command_back (token.Word (word.Reserved reserved.OpenBrace) at) stack = λ less rest o.
       let (middle, ((list, is_list), (behind, ((close, same), (left, ((redirs, is_redirs), o)))))) = o in (
         left,
@@ -243,31 +243,31 @@ module _ (views : WordViews) (most : ℕ) where
   command_back _ stack = tt
 
   -- a pipeline, by what its first item owes and the rest of it
-  abbrev pub PipelineBack : Item → List Part → Move → Type 0
+  abbrev pub PipelineBack : Item → List Pending → Move → Type 0
   PipelineBack first stack (push parts) = (rest : List Item) → Owed (parts ++ pipes ∷ stack) rest → Owed (a_pipeline ∷ stack) (first ∷ rest)
   PipelineBack first stack (opens parts) = levels (parts ++ pipes ∷ stack) ≤ most
       → (rest : List Item) → Owed (parts ++ pipes ∷ stack) rest → Owed (a_pipeline ∷ stack) (first ∷ rest)
   PipelineBack first stack skip = Unit {0}
   PipelineBack first stack stuck = Unit {0}
 
-  plain_owed : (stack : List Part) (items : List Item) → Owed (a_command ∷ pipes ∷ stack) items → Owed (a_pipeline ∷ stack) items
+  plain_owed : (stack : List Pending) (items : List Item) → Owed (a_command ∷ pipes ∷ stack) items → Owed (a_pipeline ∷ stack) items
   plain_owed stack items (middle, ((tree, is_tree), (left, ((others, is_others), o)))) =
       (left, ((pipeline false (command tree others), g.plain is_tree is_others), o))
 
-  plain_back : (first : Item) (stack : List Part) (m : Move) → Back a_command first (pipes ∷ stack) m → PipelineBack first stack m
+  plain_back : (first : Item) (stack : List Pending) (m : Move) → Back a_command first (pipes ∷ stack) m → PipelineBack first stack m
   plain_back first stack (push parts) back = λ rest o. plain_owed stack (first ∷ rest) (back rest o)
   plain_back first stack (opens parts) back = λ less rest o. plain_owed stack (first ∷ rest) (back less rest o)
   plain_back first stack skip back = tt
   plain_back first stack stuck back = tt
 
-  pipeline_back : (first : Item) (stack : List Part) → PipelineBack first stack (pipeline_by first)
+  pipeline_back : (first : Item) (stack : List Pending) → PipelineBack first stack (pipeline_by first)
   pipeline_back (token.Word (word.Reserved reserved.Bang) at) stack = λ rest o.
       let (middle, ((tree, is_tree), (left, ((others, is_others), o)))) = o in
       (left, ((pipeline true (command tree others), g.negated is_tree is_others), o))
   pipeline_back first stack = plain_back first stack (command_by first) (command_back first (pipes ∷ stack))
 
   -- the same with more owed in the move
-  follow_back : (part : Part) (first : Item) (more stack : List Part) (otherwise : Move)
+  follow_back : (part : Pending) (first : Item) (more stack : List Pending) (otherwise : Move)
       → ((rest : List Item) → Owed (a_pipeline ∷ more ++ stack) (first ∷ rest) → Owed (part ∷ stack) (first ∷ rest))
       → (m : Move) → (is_move m ≡ false → Back part first stack otherwise)
       → PipelineBack first (more ++ stack) m → Back part first stack (followed m (pipes ∷ more) otherwise)
@@ -279,36 +279,36 @@ module _ (views : WordViews) (most : ℕ) where
   follow_back part first more stack otherwise whole skip other back = other refl
   follow_back part first more stack otherwise whole stuck other back = other refl
 
-  list_owed : (stack : List Part) (items : List Item) → Owed (a_pipeline ∷ joins ∷ separator ∷ stack) items
+  list_owed : (stack : List Pending) (items : List Item) → Owed (a_pipeline ∷ joins ∷ separator ∷ stack) items
       → (left : List Item) × (((list : ListTree) × IsList views most (levels stack) items list left) × Owed stack left)
   list_owed stack items (middle, ((tree, is_tree), (behind, ((others, is_others), (left, ((list, is_list), o)))))) =
       (left, ((item (and_or tree others) list, g.is_list is_tree is_others is_list), o))
 
-  again_owed : (stack : List Part) (items : List Item) → Owed (a_pipeline ∷ joins ∷ separator ∷ stack) items → Owed (again ∷ stack) items
+  again_owed : (stack : List Pending) (items : List Item) → Owed (a_pipeline ∷ joins ∷ separator ∷ stack) items → Owed (again ∷ stack) items
   again_owed stack items o = let (left, ((list, reads), o)) = list_owed stack items o in (left, ((list, g.again_list reads), o))
 
-  body_owed : (stack : List Part) (items : List Item) → Owed (a_pipeline ∷ joins ∷ separator ∷ stack) items → Owed (body ∷ stack) items
+  body_owed : (stack : List Pending) (items : List Item) → Owed (a_pipeline ∷ joins ∷ separator ∷ stack) items → Owed (body ∷ stack) items
   body_owed stack items o = let (left, ((list, reads), o)) = list_owed stack items o in (left, ((list, g.body_list reads), o))
 
-  next_owed : (stack : List Part) (items : List Item) → Owed (a_pipeline ∷ stack) items → Owed (next_pipeline ∷ stack) items
+  next_owed : (stack : List Pending) (items : List Item) → Owed (a_pipeline ∷ stack) items → Owed (next_pipeline ∷ stack) items
   next_owed stack items (left, ((tree, is_tree), o)) = (left, ((tree, g.next_pipeline is_tree), o))
 
-  again_back : (first : Item) (stack : List Part) → Back again first stack (move again first)
+  again_back : (first : Item) (stack : List Pending) → Back again first stack (move again first)
   again_back token.Newline stack = λ rest o. let (left, ((list, is_list), o)) = o in (left, ((list, g.again_newline is_list), o))
   again_back first stack = follow_back again first (joins ∷ separator ∷ []) stack skip (λ rest. again_owed stack (first ∷ rest)) (pipeline_by first)
       (λ h rest. (no_item, g.no_list (begins_is first ∙ h))) (pipeline_back first (joins ∷ separator ∷ stack))
 
-  body_back : (first : Item) (stack : List Part) → Back body first stack (move body first)
+  body_back : (first : Item) (stack : List Pending) → Back body first stack (move body first)
   body_back token.Newline stack = λ rest o. let (left, ((list, is_list), o)) = o in (left, ((list, g.body_newline is_list), o))
   body_back first stack = follow_back body first (joins ∷ separator ∷ []) stack stuck (λ rest. body_owed stack (first ∷ rest)) (pipeline_by first)
       (λ h. tt) (pipeline_back first (joins ∷ separator ∷ stack))
 
-  next_pipeline_back : (first : Item) (stack : List Part) → Back next_pipeline first stack (move next_pipeline first)
+  next_pipeline_back : (first : Item) (stack : List Pending) → Back next_pipeline first stack (move next_pipeline first)
   next_pipeline_back token.Newline stack = λ rest o. let (left, ((tree, is_tree), o)) = o in (left, ((tree, g.newline_pipeline is_tree), o))
   next_pipeline_back first stack = follow_back next_pipeline first [] stack stuck (λ rest. next_owed stack (first ∷ rest)) (pipeline_by first)
       (λ h. tt) (pipeline_back first stack)
 
-  next_back : (first : Item) (stack : List Part) (m : Move) → Back a_command first stack (needed m) → Back next_command first stack (needed m)
+  next_back : (first : Item) (stack : List Pending) (m : Move) → Back a_command first stack (needed m) → Back next_command first stack (needed m)
   next_back first stack (push parts) back = λ rest o. let (left, ((tree, is_tree), o)) = back rest o in (left, ((tree, g.next_command is_tree), o))
   next_back first stack (opens parts) back = λ less rest o. let (left, ((tree, is_tree), o)) = back less rest o in (left, ((tree, g.next_command is_tree), o))
   next_back first stack skip back = tt
@@ -324,24 +324,24 @@ module _ (views : WordViews) (most : ℕ) where
   is_needed (token.Word _ at) = refl
   is_needed _ = refl
 
-  next_command_back : (first : Item) (stack : List Part) → Back next_command first stack (move next_command first)
+  next_command_back : (first : Item) (stack : List Pending) → Back next_command first stack (move next_command first)
   next_command_back token.Newline stack = λ rest o. let (left, ((tree, is_tree), o)) = o in (left, ((tree, g.newline_command is_tree), o))
   next_command_back first stack = subst (λ m. Back next_command first stack m) (is_needed first)
       (next_back first stack (command_by first) (subst (λ m. Back a_command first stack m) (sym (is_needed first)) (command_back first stack)))
 
-  name_back : (kind : WordKind) (at : Span) (stack : List Part) (test : Bool) → is_name kind ≡ test
+  name_back : (kind : WordKind) (at : Span) (stack : List Pending) (test : Bool) → is_name kind ≡ test
       → Back loop_name (token.Word kind at) stack (cond test (push (loop_head ∷ [])) stuck)
   name_back kind at stack true e = λ rest o.
       let (left, ((among, (behind, (is_head, end_body))), o)) = o in
       (left, ((kind, (at, (rest, (behind, (among, (refl, (e, (is_head, end_body)))))))), o))
   name_back kind at stack false e = tt
 
-  loop_owed : (stack : List Part) (items : List Item) → Owed (body ∷ end_loop ∷ stack) items
+  loop_owed : (stack : List Pending) (items : List Item) → Owed (body ∷ end_loop ∷ stack) items
       → (left : List Item) × (LoopBody (levels stack) items left × Owed stack left)
   loop_owed stack items (middle, ((list, is_list), (left, ((close, same), o)))) =
       (left, ((list, (close, subst (λ m. IsBody views most (levels stack + 1) items list m) same is_list)), o))
 
-  branch_back : (first : Item) (stack : List Part) → Back branches first stack (branch_by first)
+  branch_back : (first : Item) (stack : List Pending) → Back branches first stack (branch_by first)
   branch_back (token.Word (word.Reserved reserved.Elif) at) stack = λ rest o.
       let (middle, ((condition, is_condition), (left, ((then_at, (inner, (list, (behind, (same, (is_list, (others, (otherwise, is_others)))))))), o)))) = o in (
         left,
@@ -362,7 +362,7 @@ module _ (views : WordViews) (most : ℕ) where
   branch_back (token.Word (word.Reserved reserved.Fi) at) stack = λ rest o. (rest, ((no_branch, (no_else, g.no_more)), o))
   branch_back _ stack = tt
 
-  back : (part : Part) (first : Item) (stack : List Part) → Back part first stack (move part first)
+  back : (part : Pending) (first : Item) (stack : List Pending) → Back part first stack (move part first)
   back (pieces at) first stack = piece_back at first stack
   back operator (token.Redirect how from) stack = λ rest o.
       let (left, ((kind, (at, (middle, (subs, (same, is_subs))))), o)) = o in
@@ -440,36 +440,36 @@ module _ (views : WordViews) (most : ℕ) where
   back loop_do _ stack = tt
 
   -- what a step says of the rules
-  abbrev pub BackNext : List Part → Item → Next → Type 0
+  abbrev pub BackNext : List Pending → Item → Next → Type 0
   BackNext stack first (goes behind) = (rest : List Item) → Owed behind rest → Owed stack (first ∷ rest)
   BackNext stack first (deeper behind) = levels behind ≤ most → (rest : List Item) → Owed behind rest → Owed stack (first ∷ rest)
   BackNext stack first fails = Unit {0}
 
-  skipped_back : (part : Part) (first : Item) (stack : List Part) → ((rest : List Item) → Is part (levels stack) (first ∷ rest) (first ∷ rest))
+  skipped_back : (part : Pending) (first : Item) (stack : List Pending) → ((rest : List Item) → Is part (levels stack) (first ∷ rest) (first ∷ rest))
       → (next : Next) → BackNext stack first next → BackNext (part ∷ stack) first next
   skipped_back part first stack none (goes behind) owed = λ rest o. (first ∷ rest, (none rest, owed rest o))
   skipped_back part first stack none (deeper behind) owed = λ less rest o. (first ∷ rest, (none rest, owed less rest o))
   skipped_back part first stack none fails owed = tt
 
-  moved_back : (part : Part) (first : Item) (stack : List Part) (m : Move) → Back part first stack m
+  moved_back : (part : Pending) (first : Item) (stack : List Pending) (m : Move) → Back part first stack m
       → (next : Next) → BackNext stack first next → BackNext (part ∷ stack) first (moved m stack next)
   moved_back part first stack (push parts) owed next behind = owed
   moved_back part first stack (opens parts) owed next behind = owed
   moved_back part first stack skip owed next behind = skipped_back part first stack owed next behind
   moved_back part first stack stuck owed next behind = tt
 
-  step_back : (stack : List Part) (first : Item) → BackNext stack first (step stack first)
+  step_back : (stack : List Pending) (first : Item) → BackNext stack first (step stack first)
   step_back [] first = tt
   step_back (part ∷ stack) first = moved_back part first stack (move part first) (back part first stack) (step stack first) (step_back stack first)
 
-  may_end_rest : (part : Part) (stack : List Part) → may_end (part ∷ stack) ≡ true → (is_option part ≡ true) × (may_end stack ≡ true)
+  may_end_rest : (part : Pending) (stack : List Pending) → may_end (part ∷ stack) ≡ true → (is_option part ≡ true) × (may_end stack ≡ true)
   may_end_rest part stack h = both (is_option part) (may_end stack) h
     where
       both : (one other : Bool) → cond one other false ≡ true → (one ≡ true) × (other ≡ true)
       both true other h = (refl, h)
       both false other h = absurd (true_false (sym h))
 
-  left_at_end : (part : Part) (depth : ℕ) → is_option part ≡ true → Is part depth [] []
+  left_at_end : (part : Pending) (depth : ℕ) → is_option part ≡ true → Is part depth [] []
   left_at_end (pieces at) depth h = ([], g.last_piece tt)
   left_at_end substitutions depth h = (no_sub, g.last_sub tt)
   left_at_end pipes depth h = (no_command, g.last_command tt)
@@ -478,7 +478,7 @@ module _ (views : WordViews) (most : ℕ) where
   left_at_end again depth h = (no_item, g.no_list tt)
   left_at_end _ depth h = absurd (true_false (sym h))
 
-  ends : (stack : List Part) → may_end stack ≡ true → Owed stack []
+  ends : (stack : List Pending) → may_end stack ≡ true → Owed stack []
   ends [] h = refl
   ends (part ∷ stack) h = let both = may_end_rest part stack h in ([], (left_at_end part (levels stack) both.0, ends stack both.1))
 
@@ -490,8 +490,8 @@ module _ (views : WordViews) (most : ℕ) where
   fits_fine true rest left h = (refl, h)
   fits_fine false rest left h = cc
 
-  behind : (stack : List Part) (first : Item) (rest : List Item) (left : ℕ) (next : Next) → BackNext stack first next
-      → ((after : List Part) → verdict most rest after ≡ fine → Owed after rest)
+  behind : (stack : List Pending) (first : Item) (rest : List Item) (left : ℕ) (next : Next) → BackNext stack first next
+      → ((after : List Pending) → verdict most rest after ≡ fine → Owed after rest)
       → verdict_behind most left (verdict most rest) next ≡ fine → Owed stack (first ∷ rest)
   behind stack first rest left (goes after) owed more h = owed rest (more after h)
   behind stack first rest left (deeper after) owed more h =
@@ -499,6 +499,6 @@ module _ (views : WordViews) (most : ℕ) where
       owed (leb-true (levels after) most both.0) rest (more after both.1)
   behind stack first rest left fails owed more h = cc
 
-  pub backs : (items : List Item) (stack : List Part) → verdict most items stack ≡ fine → Owed stack items
+  pub backs : (items : List Item) (stack : List Pending) → verdict most items stack ≡ fine → Owed stack items
   backs [] stack h = ends stack (end_fine (may_end stack) h)
   backs (first ∷ rest) stack h = behind stack first rest (length rest + 1) (step stack first) (step_back stack first) (backs rest) h

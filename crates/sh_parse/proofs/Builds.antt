@@ -7,8 +7,8 @@ use Rattle.sh_tree.specs.declared.commands.Join.{Join}
 use Rattle.sh_tree.specs.declared.commands.Join.TheVariants as join
 use Rattle.sh_parse.specs.Pieces.{WordViews, Piece, gathered, no_piece, with_piece, tail_of, words_of, subs_then}
 use Rattle.sh_parse.specs.Places.{used, redirects, begins_piece}
-use Rattle.sh_parse.specs.Inner.Owed.{Part, Move, pieces, a_pipeline, a_command, pipes, next_command, joins, next_pipeline, separator, again, body, close_brace, close_parenthesis, close_substitution, then_body, branches, end_if, do_body, end_loop, loop_name, loop_head, loop_lines, loop_separator, loop_do, operator, target, substitutions, push, opens, skip, stuck, move, word_by, redirection_by, piece_by, command_by, pipeline_by, followed}
-use Rattle.sh_parse.specs.Inner.Building.{Construct, whole, in_group, in_subshell, in_condition, in_branch, in_else, in_while, in_while_body, in_until, in_until_body, unnamed, in_for, Listing, listing, making, Level, level, State, state, nothing, fresh, start, list_then, compound, chained, with_stage, pieces_over, is_loop, left_out, role_of, acted, word_as, walk_by, walked, behind, build, script_built}
+use Rattle.sh_parse.specs.Inner.Owed.{Pending, Move, pieces, a_pipeline, a_command, pipes, next_command, joins, next_pipeline, separator, again, body, close_brace, close_parenthesis, close_substitution, then_body, branches, end_if, do_body, end_loop, loop_name, loop_head, loop_lines, loop_separator, loop_do, operator, target, substitutions, push, opens, skip, stuck, move, word_by, redirection_by, piece_by, command_by, pipeline_by, followed}
+use Rattle.sh_parse.specs.Inner.Building.{Compound, whole, in_group, in_subshell, in_condition, in_branch, in_else, in_while, in_while_body, in_until, in_until_body, unnamed, in_for, Listing, listing, making, Level, level, State, state, nothing, fresh, start, list_then, compound, chained, with_stage, pieces_over, is_loop, left_out, role_of, acted, word_as, walk_by, walked, behind, build, script_built}
 use Rattle.sh_parse.specs.Grammar as g
 use Rattle.sh_parse.specs.Grammar.{Reads, NoneNext, IsAgain, IsBody, IsList, IsSeparated, IsJoined, IsNextPipeline, IsPipeline, IsPiped, IsNextCommand, IsCommand, IsBranches, IsLoopHead, IsLoopLines, IsLoopSeparator, IsLoopDo, IsPieces, IsPiece, IsSubs, is_sub_open, is_pipe, is_join, is_separator, goes_on}
 use Rattle.sh_parse.proofs.Lists.{list_then-none, list_then-assoc, subs_then-none, subs_then-assoc, joined_onto-last, commands_onto-last, branches_onto-last}
@@ -17,14 +17,14 @@ use Rattle.sh_parse.specs.declared.items.Item.{Item}
 use Rattle.sh_parse.specs.declared.items.Item.TheVariants as token
 use Rattle.sh_parse.specs.declared.items.WordKind.{WordKind}
 use Rattle.sh_parse.specs.declared.items.WordKind.TheVariants as word
-use Rattle.sh_parse.specs.declared.pieces.Place.{Place}
-use Rattle.sh_parse.specs.declared.pieces.Place.TheVariants as place
+use Rattle.sh_parse.specs.declared.pieces.Slot.{Slot}
+use Rattle.sh_parse.specs.declared.pieces.Slot.TheVariants as place
 use Rattle.sh_parse.specs.declared.building.Role.TheVariants as at_role
 use Rattle.sh_parse.specs.declared.pieces.Use.TheVariants as use_as
 
 -- a command that stands where more may
-moves_on : (m : Move) → Moves m → (parts more : List Part) (otherwise : Move) (stack : List Part) (now : State)
-    → (one other : List Part × State)
+moves_on : (m : Move) → Moves m → (parts more : List Pending) (otherwise : Move) (stack : List Pending) (now : State)
+    → (one other : List Pending × State)
     → walk_by (followed m (parts ++ more) otherwise) stack now one ≡ walk_by (followed m parts stuck) (more ++ stack) now other
 moves_on (push first) h parts more otherwise stack now one other =
     ap (λ x. (x, now)) (append_assoc first (parts ++ more) stack ∙ ap (λ x. first ++ x) (append_assoc parts more stack)
@@ -35,7 +35,7 @@ moves_on (opens first) h parts more otherwise stack now one other =
 moves_on skip h parts more otherwise stack now one other = absurd h
 moves_on stuck h parts more otherwise stack now one other = absurd h
 
-moves_behind : (m : Move) → Moves m → (more stack : List Part) (now : State) (one other : List Part × State)
+moves_behind : (m : Move) → Moves m → (more stack : List Pending) (now : State) (one other : List Pending × State)
     → walk_by (followed m more stuck) stack now one ≡ walk_by m (more ++ stack) now other
 moves_behind (push first) h more stack now one other = ap (λ x. (x, now)) (append_assoc first more stack)
 moves_behind (opens first) h more stack now one other = ap (λ x. (x, now)) (append_assoc first more stack)
@@ -43,14 +43,14 @@ moves_behind skip h more stack now one other = absurd h
 moves_behind stuck h more stack now one other = absurd h
 
 -- the place of a piece in the words of a `for`, or elsewhere, stays so
-assigned_place : (spot : Place) (kind : WordKind) → used spot kind ≡ use_as.Assigned → is_loop place.BeforeName ≡ is_loop spot
+assigned_place : (spot : Slot) (kind : WordKind) → used spot kind ≡ use_as.Assigned → is_loop place.BeforeName ≡ is_loop spot
 assigned_place place.First kind u = refl
 assigned_place place.BeforeName kind u = refl
 assigned_place place.BehindName kind u = refl
 assigned_place place.Tail kind u = refl
 assigned_place place.Loop kind u = cc
 
-given_place : (spot behind : Place) (kind : WordKind) → used spot kind ≡ use_as.Given behind → is_loop behind ≡ is_loop spot
+given_place : (spot behind : Slot) (kind : WordKind) → used spot kind ≡ use_as.Given behind → is_loop behind ≡ is_loop spot
 given_place place.First behind (word.Reserved name) u = cc
 given_place place.First behind word.Assign u = cc
 given_place place.First place.BehindName _ u = refl
@@ -64,7 +64,7 @@ given_place place.Tail behind kind u = cc
 given_place place.Loop place.Loop kind u = refl
 given_place place.Loop _ kind u = cc
 
-redirected_place : (spot behind : Place) → redirects spot ≡ Some behind → is_loop behind ≡ is_loop spot
+redirected_place : (spot behind : Slot) → redirects spot ≡ Some behind → is_loop behind ≡ is_loop spot
 redirected_place place.First place.BeforeName u = refl
 redirected_place place.BeforeName place.BeforeName u = refl
 redirected_place place.BehindName place.BehindName u = refl
@@ -72,59 +72,59 @@ redirected_place place.Tail place.Tail u = refl
 redirected_place _ _ u = cc
 
 -- a list of which so much is read
-abbrev at_list : Construct → ListTree → List Level → State
+abbrev at_list : Compound → ListTree → List Level → State
 at_list construct list outer = state construct (listing list None join.And false []) fresh outer
 
 module _ (views : WordViews) where
   -- a move that a part makes, on a list
-  on_push : (part : Part) (first : Item) (rest : List Item) (parts stack : List Part) (now : State) → move part first ≡ push parts
+  on_push : (part : Pending) (first : Item) (rest : List Item) (parts stack : List Pending) (now : State) → move part first ≡ push parts
       → build views (first ∷ rest) (part ∷ stack) now ≡ build views rest (parts ++ stack) (acted views (role_of part) first now)
   on_push part first rest parts stack now e =
       ap (λ m. behind (build views rest) (walk_by m stack (acted views (role_of part) first now) (walked views stack first (left_out part now)))) e
 
-  on_skip : (part : Part) (first : Item) (rest : List Item) (stack : List Part) (now : State) → move part first ≡ skip
+  on_skip : (part : Pending) (first : Item) (rest : List Item) (stack : List Pending) (now : State) → move part first ≡ skip
       → build views (first ∷ rest) (part ∷ stack) now ≡ build views (first ∷ rest) stack (left_out part now)
   on_skip part first rest stack now e =
       ap (λ m. behind (build views rest) (walk_by m stack (acted views (role_of part) first now) (walked views stack first (left_out part now)))) e
 
   -- what may be left out is left out where its items aren't next
-  over : (part : Part) (begins : Item → Bool) (items : List Item) (stack : List Part) (now : State)
+  over : (part : Pending) (begins : Item → Bool) (items : List Item) (stack : List Pending) (now : State)
       → ((first : Item) → begins first ≡ false → move part first ≡ skip)
       → NoneNext begins items → build views items (part ∷ stack) now ≡ build views items stack (left_out part now)
   over part begins [] stack now skips h = refl
   over part begins (first ∷ rest) stack now skips h = on_skip part first rest stack now (skips first h)
 
-  by_next : (first : Item) (rest : List Item) (one other : List Part) (now : State) → walked views one first now ≡ walked views other first now
+  by_next : (first : Item) (rest : List Item) (one other : List Pending) (now : State) → walked views one first now ≡ walked views other first now
       → build views (first ∷ rest) one now ≡ build views (first ∷ rest) other now
   by_next first rest one other now e = ap (behind (build views rest)) e
 
-  list_again : (items : List Item) (stack : List Part) (now : State) → Begins items
+  list_again : (items : List Item) (stack : List Pending) (now : State) → Begins items
       → build views items (again ∷ stack) now ≡ build views items (a_pipeline ∷ joins ∷ separator ∷ stack) now
   list_again [] stack now h = absurd h
   list_again (first ∷ rest) stack now h = by_next first rest (again ∷ stack) (a_pipeline ∷ joins ∷ separator ∷ stack) now
       (ap (λ m. walk_by m stack (acted views (at_role.Piece place.First) first now) (walked views stack first now)) (again_by first h)
       ∙ moves_on (pipeline_by first) h (pipes ∷ []) (joins ∷ separator ∷ []) skip stack (acted views (at_role.Piece place.First) first now) _ _)
 
-  list_body : (items : List Item) (stack : List Part) (now : State) → Begins items
+  list_body : (items : List Item) (stack : List Pending) (now : State) → Begins items
       → build views items (body ∷ stack) now ≡ build views items (a_pipeline ∷ joins ∷ separator ∷ stack) now
   list_body [] stack now h = absurd h
   list_body (first ∷ rest) stack now h = by_next first rest (body ∷ stack) (a_pipeline ∷ joins ∷ separator ∷ stack) now
       (ap (λ m. walk_by m stack (acted views (at_role.Piece place.First) first now) (walked views stack first now)) (body_by first h)
       ∙ moves_on (pipeline_by first) h (pipes ∷ []) (joins ∷ separator ∷ []) stuck stack (acted views (at_role.Piece place.First) first now) _ _)
 
-  pipeline_next : (items : List Item) (stack : List Part) (now : State) → Begins items
+  pipeline_next : (items : List Item) (stack : List Pending) (now : State) → Begins items
       → build views items (next_pipeline ∷ stack) now ≡ build views items (a_pipeline ∷ stack) now
   pipeline_next [] stack now h = absurd h
   pipeline_next (first ∷ rest) stack now h = by_next first rest (next_pipeline ∷ stack) (a_pipeline ∷ stack) now
       (ap (λ m. walk_by m stack (acted views (at_role.Piece place.First) first now) (walked views stack first now)) (next_pipeline_by first h))
 
-  command_next : (items : List Item) (stack : List Part) (now : State) → BeginsCommand items
+  command_next : (items : List Item) (stack : List Pending) (now : State) → BeginsCommand items
       → build views items (next_command ∷ stack) now ≡ build views items (a_command ∷ stack) now
   command_next [] stack now h = absurd h
   command_next (first ∷ rest) stack now h = by_next first rest (next_command ∷ stack) (a_command ∷ stack) now
       (ap (λ m. walk_by m stack (acted views (at_role.Piece place.First) first now) (walked views stack first now)) (next_command_by first h))
 
-  command_pipeline : (items : List Item) (stack : List Part) (now : State) → BeginsCommand items
+  command_pipeline : (items : List Item) (stack : List Pending) (now : State) → BeginsCommand items
       → build views items (a_pipeline ∷ stack) now ≡ build views items (a_command ∷ pipes ∷ stack) now
   command_pipeline [] stack now h = absurd h
   command_pipeline (first ∷ rest) stack now h = by_next first rest (a_pipeline ∷ stack) (a_command ∷ pipes ∷ stack) now
@@ -132,7 +132,7 @@ module _ (views : WordViews) where
       (pipeline_by_command first h)
       ∙ moves_behind (command_by first) h (pipes ∷ []) stack (acted views (at_role.Piece place.First) first now) _ _)
 
-  piece_as_command : (items : List Item) (stack : List Part) (construct : Construct) (list : Listing) (outer : List Level)
+  piece_as_command : (items : List Item) (stack : List Pending) (construct : Compound) (list : Listing) (outer : List Level)
       → (first : Item) × ((rest : List Item) × ((items ≡ first ∷ rest) × Moves (piece_by place.First first)))
       → build views items (a_command ∷ stack) (state construct list fresh outer)
       ≡ build views items (pieces place.First ∷ stack) (state construct list fresh outer)
@@ -152,13 +152,13 @@ module _ (views : WordViews) where
       by_move one skip e h = absurd h
       by_move one stuck e h = absurd h
 
-  do_run : {items left : List Item} → IsLoopDo items left → (stack : List Part) (name : List ℕ) (among : InTree) (outer : List Level)
+  do_run : {items left : List Item} → IsLoopDo items left → (stack : List Pending) (name : List ℕ) (among : InTree) (outer : List Level)
       → build views items (loop_do ∷ stack) (at_list (in_for name among) no_item outer)
       ≡ build views left (body ∷ end_loop ∷ stack) (at_list (in_for name among) no_item outer)
   do_run (g.loop_newline more) stack name among outer = do_run more stack name among outer
   do_run g.loop_do stack name among outer = refl
 
-  separator_run : {items left : List Item} → IsLoopSeparator items left → (stack : List Part) (name : List ℕ) (among : InTree)
+  separator_run : {items left : List Item} → IsLoopSeparator items left → (stack : List Pending) (name : List ℕ) (among : InTree)
       → (outer : List Level)
       → build views items (loop_separator ∷ stack) (at_list (in_for name among) no_item outer)
       ≡ build views left (body ∷ end_loop ∷ stack) (at_list (in_for name among) no_item outer)
@@ -166,7 +166,7 @@ module _ (views : WordViews) where
   separator_run (g.newline_do more) stack name among outer = do_run more stack name among outer
 
 module _ {views : WordViews} {most : ℕ} where
-  same_place : {depth : ℕ} {at behind : Place} {items left : List Item} {found : Piece}
+  same_place : {depth : ℕ} {at behind : Slot} {items left : List Item} {found : Piece}
       → IsPiece views most depth at items found behind left → is_loop behind ≡ is_loop at
   same_place (g.is_assign {spot = spot} {kind = kind} u subs) = assigned_place spot kind u
   same_place (g.is_argument {spot = spot} {behind = behind} {kind = kind} u subs) = given_place spot behind kind u
@@ -175,7 +175,7 @@ module _ {views : WordViews} {most : ℕ} where
 
   mutual
     pub again_run : {depth : ℕ} {items left : List Item} {list : ListTree} → IsAgain views most depth items list left
-        → (stack : List Part) (construct : Construct) (read : ListTree) (outer : List Level)
+        → (stack : List Pending) (construct : Compound) (read : ListTree) (outer : List Level)
         → build views items (again ∷ stack) (at_list construct read outer) ≡ build views left stack (at_list construct (list_then read list) outer)
     again_run (g.again_newline more) stack construct read outer = again_run more stack construct read outer
     again_run (g.again_list {items = items} list) stack construct read outer =
@@ -185,14 +185,14 @@ module _ {views : WordViews} {most : ℕ} where
         ∙ ap (λ x. build views items stack (at_list construct x outer)) (sym (list_then-none read))
 
     body_run : {depth : ℕ} {items left : List Item} {list : ListTree} → IsBody views most depth items list left
-        → (stack : List Part) (construct : Construct) (outer : List Level)
+        → (stack : List Pending) (construct : Compound) (outer : List Level)
         → build views items (body ∷ stack) (at_list construct no_item outer) ≡ build views left stack (at_list construct list outer)
     body_run (g.body_newline more) stack construct outer = body_run more stack construct outer
     body_run (g.body_list {items = items} list) stack construct outer =
         list_body views items stack (at_list construct no_item outer) (list_begins list) ∙ list_run list stack construct no_item outer
 
     list_run : {depth : ℕ} {items left : List Item} {list : ListTree} → IsList views most depth items list left
-        → (stack : List Part) (construct : Construct) (read : ListTree) (outer : List Level)
+        → (stack : List Pending) (construct : Compound) (read : ListTree) (outer : List Level)
         → build views items (a_pipeline ∷ joins ∷ separator ∷ stack) (at_list construct read outer)
         ≡ build views left stack (at_list construct (list_then read list) outer)
     list_run (g.is_list {left = left} {first = first_tree} {others = other_trees} {more = more_tree} first others more) stack construct read outer =
@@ -203,7 +203,7 @@ module _ {views : WordViews} {most : ℕ} where
         (list_then-assoc read (item (and_or first_tree other_trees) no_item) more_tree)
 
     separated_run : {depth : ℕ} {items left : List Item} {list : ListTree} → IsSeparated views most depth items list left
-        → (stack : List Part) (construct : Construct) (read : ListTree) (outer : List Level)
+        → (stack : List Pending) (construct : Compound) (read : ListTree) (outer : List Level)
         → build views items (separator ∷ stack) (at_list construct read outer)
         ≡ build views left stack (at_list construct (list_then read list) outer)
     separated_run (g.no_separator {items = items} none) stack construct read outer =
@@ -213,7 +213,7 @@ module _ {views : WordViews} {most : ℕ} where
     separated_run (g.by_newline more) stack construct read outer = again_run more stack construct read outer
 
     joined_run : {depth : ℕ} {items left : List Item} {others : JoinedTrees} → IsJoined views most depth items others left
-        → (stack : List Part) (construct : Construct) (read : ListTree) (first : PipelineTree) (front : List (Join × PipelineTree))
+        → (stack : List Pending) (construct : Compound) (read : ListTree) (first : PipelineTree) (front : List (Join × PipelineTree))
         → (outer : List Level)
         → build views items (joins ∷ stack) (state construct (listing read (Some (first, front)) join.And false []) fresh outer)
         ≡ build views left stack (at_list construct (list_then read (item (and_or first (joined_onto front others)) no_item)) outer)
@@ -226,7 +226,7 @@ module _ {views : WordViews} {most : ℕ} where
         (joined_onto-last front sign next more)
 
     next_pipeline_run : {depth : ℕ} {items left : List Item} {tree : PipelineTree} → IsNextPipeline views most depth items tree left
-        → (stack : List Part) (construct : Construct) (read : ListTree) (chain : Option (PipelineTree × List (Join × PipelineTree)))
+        → (stack : List Pending) (construct : Compound) (read : ListTree) (chain : Option (PipelineTree × List (Join × PipelineTree)))
         → (sign : Join) (outer : List Level)
         → build views items (next_pipeline ∷ stack) (state construct (listing read chain sign false []) fresh outer)
         ≡ build views left stack (state construct (listing read (Some (chained chain sign tree)) join.And false []) fresh outer)
@@ -237,7 +237,7 @@ module _ {views : WordViews} {most : ℕ} where
         ∙ pipeline_run first stack construct read chain sign outer
 
     pipeline_run : {depth : ℕ} {items left : List Item} {tree : PipelineTree} → IsPipeline views most depth items tree left
-        → (stack : List Part) (construct : Construct) (read : ListTree) (chain : Option (PipelineTree × List (Join × PipelineTree)))
+        → (stack : List Pending) (construct : Compound) (read : ListTree) (chain : Option (PipelineTree × List (Join × PipelineTree)))
         → (sign : Join) (outer : List Level)
         → build views items (a_pipeline ∷ stack) (state construct (listing read chain sign false []) fresh outer)
         ≡ build views left stack (state construct (listing read (Some (chained chain sign tree)) join.And false []) fresh outer)
@@ -250,7 +250,7 @@ module _ {views : WordViews} {most : ℕ} where
         ∙ piped_run others stack construct read chain sign false (first_tree ∷ []) outer
 
     piped_run : {depth : ℕ} {items left : List Item} {others : CommandTrees} → IsPiped views most depth items others left
-        → (stack : List Part) (construct : Construct) (read : ListTree) (chain : Option (PipelineTree × List (Join × PipelineTree)))
+        → (stack : List Pending) (construct : Compound) (read : ListTree) (chain : Option (PipelineTree × List (Join × PipelineTree)))
         → (sign : Join) (bang : Bool) (front : List CommandTree) (outer : List Level)
         → build views items (pipes ∷ stack) (state construct (listing read chain sign bang front) fresh outer)
         ≡ build views left stack
@@ -264,7 +264,7 @@ module _ {views : WordViews} {most : ℕ} where
         (commands_onto-last front next more)
 
     next_command_run : {depth : ℕ} {items left : List Item} {tree : CommandTree} → IsNextCommand views most depth items tree left
-        → (stack : List Part) (construct : Construct) (list : Listing) (outer : List Level)
+        → (stack : List Pending) (construct : Compound) (list : Listing) (outer : List Level)
         → build views items (next_command ∷ stack) (state construct list fresh outer)
         ≡ build views left stack (state construct (with_stage list tree) fresh outer)
     next_command_run (g.newline_command more) stack construct list outer = next_command_run more stack construct list outer
@@ -272,7 +272,7 @@ module _ {views : WordViews} {most : ℕ} where
         command_next views items stack (state construct list fresh outer) (command_begins first) ∙ command_run first stack construct list outer
 
     command_run : {depth : ℕ} {items left : List Item} {tree : CommandTree} → IsCommand views most depth items tree left
-        → (stack : List Part) (construct : Construct) (list : Listing) (outer : List Level)
+        → (stack : List Pending) (construct : Compound) (list : Listing) (outer : List Level)
         → build views items (a_command ∷ stack) (state construct list fresh outer)
         ≡ build views left stack (state construct (with_stage list tree) fresh outer)
     command_run (g.is_simple {behind = spot} {items = items} {left = left} {first = first_piece} {others = other_pieces} first others)
@@ -313,9 +313,9 @@ module _ {views : WordViews} {most : ℕ} where
 
     branches_run : {depth : ℕ} {items left : List Item} {others : BranchTrees} {otherwise : ElseTree}
         → IsBranches views most depth items others otherwise left
-        → (stack : List Part) (construct : Construct) (list : Listing) (outer : List Level) (front : List (ListTree × ListTree))
+        → (stack : List Pending) (construct : Compound) (list : Listing) (outer : List Level) (front : List (ListTree × ListTree))
         → (condition tree : ListTree)
-        → (inner : Construct) × ((last : ListTree) × ((
+        → (inner : Compound) × ((last : ListTree) × ((
         build views items (branches ∷ stack) (at_list (in_branch front condition) tree (level construct list fresh ∷ outer))
         ≡ build views left stack (state construct list (making no_piece 0 how.Read (Some (inner, last))) outer)
         ) × ((redirs : TailTree)
@@ -350,7 +350,7 @@ module _ {views : WordViews} {most : ℕ} where
     )
 
     loop_head_run : {depth : ℕ} {items left : List Item} {among : InTree} → IsLoopHead views most depth items among left
-        → (stack : List Part) (name : List ℕ) (outer : List Level)
+        → (stack : List Pending) (name : List ℕ) (outer : List Level)
         → build views items (loop_head ∷ stack) (at_list (in_for name no_in) no_item outer)
         ≡ build views left (body ∷ end_loop ∷ stack) (at_list (in_for name among) no_item outer)
     loop_head_run g.head_do stack name outer = refl
@@ -361,7 +361,7 @@ module _ {views : WordViews} {most : ℕ} where
         ∙ separator_run views more stack name (in_words (words_of (gathered views no_piece among))) outer
 
     loop_lines_run : {depth : ℕ} {items left : List Item} {among : InTree} → IsLoopLines views most depth items among left
-        → (stack : List Part) (name : List ℕ) (outer : List Level)
+        → (stack : List Pending) (name : List ℕ) (outer : List Level)
         → build views items (loop_lines ∷ stack) (at_list (in_for name no_in) no_item outer)
         ≡ build views left (body ∷ end_loop ∷ stack) (at_list (in_for name among) no_item outer)
     loop_lines_run g.lines_do stack name outer = refl
@@ -370,8 +370,8 @@ module _ {views : WordViews} {most : ℕ} where
         pieces_run is_among (loop_separator ∷ stack) (in_for name no_in) nothing no_piece None outer
         ∙ separator_run views more stack name (in_words (words_of (gathered views no_piece among))) outer
 
-    pieces_run : {depth : ℕ} {at : Place} {items left : List Item} {found : List Piece} → IsPieces views most depth at items found left
-        → (stack : List Part) (construct : Construct) (list : Listing) (pieces_read : SimpleTree) (made : Option (Construct × ListTree))
+    pieces_run : {depth : ℕ} {at : Slot} {items left : List Item} {found : List Piece} → IsPieces views most depth at items found left
+        → (stack : List Pending) (construct : Compound) (list : Listing) (pieces_read : SimpleTree) (made : Option (Compound × ListTree))
         → (outer : List Level)
         → build views items (pieces at ∷ stack) (state construct list (making pieces_read 0 how.Read made) outer)
         ≡ build views left stack (pieces_over (is_loop at) (state construct list (making (gathered views pieces_read found) 0 how.Read made) outer))
@@ -383,9 +383,9 @@ module _ {views : WordViews} {most : ℕ} where
         ∙ ap (λ b. build views left stack (pieces_over b (state construct list
         (making (gathered views (with_piece views pieces_read first_piece) other_pieces) 0 how.Read made) outer))) (same_place first)
 
-    piece_run : {depth : ℕ} {at behind : Place} {items left : List Item} {found : Piece}
+    piece_run : {depth : ℕ} {at behind : Slot} {items left : List Item} {found : Piece}
         → IsPiece views most depth at items found behind left
-        → (stack : List Part) (construct : Construct) (list : Listing) (pieces_read : SimpleTree) (made : Option (Construct × ListTree))
+        → (stack : List Pending) (construct : Compound) (list : Listing) (pieces_read : SimpleTree) (made : Option (Compound × ListTree))
         → (outer : List Level)
         → build views items (pieces at ∷ stack) (state construct list (making pieces_read 0 how.Read made) outer)
         ≡ build views left (pieces behind ∷ stack) (state construct list (making (with_piece views pieces_read found) 0 how.Read made) outer)
@@ -415,8 +415,8 @@ module _ {views : WordViews} {most : ℕ} where
         ∙ subs_run subs (pieces behind_it ∷ stack) construct list assigns arguments _ read made outer
 
     subs_run : {depth : ℕ} {items left : List Item} {subs : SubTrees} → IsSubs views most depth items subs left
-        → (stack : List Part) (construct : Construct) (list : Listing) (assigns : List (List ℕ × WordTree)) (arguments : List WordTree) (redirs : List RedirTree) (read : SubTrees)
-        → (made : Option (Construct × ListTree)) (outer : List Level)
+        → (stack : List Pending) (construct : Compound) (list : Listing) (assigns : List (List ℕ × WordTree)) (arguments : List WordTree) (redirs : List RedirTree) (read : SubTrees)
+        → (made : Option (Compound × ListTree)) (outer : List Level)
         → build views items (substitutions ∷ stack) (state construct list (making (simple_command assigns arguments redirs read) 0 how.Read made) outer)
         ≡ build views left stack
         (state construct list (making (simple_command assigns arguments redirs (subs_then read subs)) 0 how.Read made) outer)

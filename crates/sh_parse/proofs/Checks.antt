@@ -1,7 +1,7 @@
 -- One step of the check.
 use Rattle.std.proofs.Common.{◌≡◌, ◌⊎◌, inl, inr, ℕ, ◌+◌, ◌<◌, ◌≤◌, List, [], ◌∷◌, ◌++◌, length, cond, sym, ◌∙◌, ap, nat_le}
 use Rattle.std.proofs.lemmas.Bool.{le-leb, lt-leb}
-use Rattle.sh_parse.specs.Inner.Owed.{Part, Move, push, opens, skip, stuck, move, moved, step, levels, verdict, verdict_behind, bad, deep}
+use Rattle.sh_parse.specs.Inner.Owed.{Pending, Move, push, opens, skip, stuck, move, moved, step, levels, verdict, verdict_behind, bad, deep}
 use Rattle.sh_parse.specs.Inner.Moves.{parts_of, move_of, with_more, owing_of, stacked}
 use Rattle.sh_parse.proofs.Runs.{on_push, on_skip, on_opens}
 use Rattle.sh_parse.proofs.Movings.{stacked_last}
@@ -11,7 +11,7 @@ use Rattle.sh_parse.specs.declared.parts.Parts.{Parts}
 use Rattle.sh_parse.specs.declared.parts.Move.TheVariants as by
 use Rattle.sh_parse.specs.declared.parts.Owing.{Owing}
 
-pub popped : (old new : List Part) (part : Part) → old ≡ new ++ part ∷ [] → stacked old ≡ part ∷ stacked new
+pub popped : (old new : List Pending) (part : Pending) → old ≡ new ++ part ∷ [] → stacked old ≡ part ∷ stacked new
 popped old new part e = ap stacked e ∙ stacked_last new part
 
 pub push_is : (owing : Owing) (m : Move) (parts : Parts) → owing_of owing ≡ m → owing.what ≡ by.Push parts
@@ -37,18 +37,18 @@ pub halts_is : (owing : Owing) (m : Move) → owing_of owing ≡ m → (owing.wh
 halts_is owing m e (inl is) = inl (skip_is owing m e is)
 halts_is owing m e (inr is) = inr (stuck_is owing m e is)
 
-module _ (first : Item) (part : Part) (stack : List Part) (rest : List Item) where
-  pub push_steps : (parts behind : List Part) → move part first ≡ push parts → behind ≡ parts ++ stack
+module _ (first : Item) (part : Pending) (stack : List Pending) (rest : List Item) where
+  pub push_steps : (parts behind : List Pending) → move part first ≡ push parts → behind ≡ parts ++ stack
       → verdict MAX_LEVELS (first ∷ rest) (part ∷ stack) ≡ verdict MAX_LEVELS rest behind
   push_steps parts behind m e = on_push MAX_LEVELS part first rest parts stack m ∙ ap (λ s. verdict MAX_LEVELS rest s) (sym e)
 
-  pub opens_steps : (parts behind : List Part) → move part first ≡ opens parts → behind ≡ parts ++ stack → levels behind ≤ MAX_LEVELS
+  pub opens_steps : (parts behind : List Pending) → move part first ≡ opens parts → behind ≡ parts ++ stack → levels behind ≤ MAX_LEVELS
       → verdict MAX_LEVELS (first ∷ rest) (part ∷ stack) ≡ verdict MAX_LEVELS rest behind
   opens_steps parts behind m e less =
       on_opens MAX_LEVELS part first rest parts stack m (ap (λ s. nat_le (levels s) MAX_LEVELS) (sym e) ∙ le-leb (levels behind) MAX_LEVELS less)
       ∙ ap (λ s. verdict MAX_LEVELS rest s) (sym e)
 
-  pub opens_over : (parts behind : List Part) (left : ℕ) → move part first ≡ opens parts → behind ≡ parts ++ stack → MAX_LEVELS < levels behind
+  pub opens_over : (parts behind : List Pending) (left : ℕ) → move part first ≡ opens parts → behind ≡ parts ++ stack → MAX_LEVELS < levels behind
       → length rest + 1 ≡ left → verdict MAX_LEVELS (first ∷ rest) (part ∷ stack) ≡ deep left
   opens_over parts behind left m e more count =
       ap (λ n. verdict_behind MAX_LEVELS (length rest + 1) (verdict MAX_LEVELS rest) (moved n stack (step stack first))) m

@@ -1,14 +1,14 @@
 -- Every stack that steps make can be completed: each part by its shortest ending.
 use Rattle.std.proofs.Common.{◌≡◌, ℕ, Bool, true, false, List, [], ◌∷◌, ◌++◌, cond, refl, sym, subst, append_assoc, Option, Some, None}
 use Rattle.sh_parse.specs.Places.{used, redirects, is_name}
-use Rattle.sh_parse.specs.Inner.Owed.{Part, Move, Next, pieces, a_pipeline, a_command, pipes, next_command, joins, next_pipeline, separator, again, body, close_brace, close_parenthesis, close_substitution, then_body, branches, end_if, do_body, end_loop, loop_name, loop_head, loop_lines, loop_separator, loop_do, operator, target, substitutions, push, opens, skip, stuck, move, moved, step, verdict, goes, deeper, fails, fine, word_by, redirection_by, piece_by, needed, branch_by, command_by, pipeline_by, followed}
+use Rattle.sh_parse.specs.Inner.Owed.{Pending, Move, Next, pieces, a_pipeline, a_command, pipes, next_command, joins, next_pipeline, separator, again, body, close_brace, close_parenthesis, close_substitution, then_body, branches, end_if, do_body, end_loop, loop_name, loop_head, loop_lines, loop_separator, loop_do, operator, target, substitutions, push, opens, skip, stuck, move, moved, step, verdict, goes, deeper, fails, fine, word_by, redirection_by, piece_by, needed, branch_by, command_by, pipeline_by, followed}
 use Rattle.sh_parse.specs.declared.items.Item.{Item}
 use Rattle.sh_parse.specs.declared.items.Item.TheVariants as token
 use Rattle.sh_parse.specs.declared.items.WordKind.TheVariants as word
 use Rattle.sh_parse.specs.declared.items.Reserved as reserved_word
 use Rattle.sh_parse.specs.declared.items.Reserved.TheVariants as reserved
-use Rattle.sh_parse.specs.declared.pieces.Place.{Place}
-use Rattle.sh_parse.specs.declared.pieces.Place.TheVariants as place
+use Rattle.sh_parse.specs.declared.pieces.Slot.{Slot}
+use Rattle.sh_parse.specs.declared.pieces.Slot.TheVariants as place
 use Rattle.sh_parse.specs.declared.pieces.Use.{Use}
 use Rattle.sh_parse.specs.declared.pieces.Use.TheVariants as use_as
 use Rattle.sh_tree.specs.declared.commands.How.TheVariants as how
@@ -25,7 +25,7 @@ pub data Sort : Type 0 where
   pieces_end : Sort
 
 -- what must stand behind a part
-abbrev pub behind : Part → Sort
+abbrev pub behind : Pending → Sort
 behind (pieces at) = pieces_end
 behind operator = piecing
 behind target = piecing
@@ -43,7 +43,7 @@ behind close_substitution = substituting
 behind _ = piecing
 
 -- the parts that may stand there
-abbrev pub stands : Sort → Part → Bool
+abbrev pub stands : Sort → Pending → Bool
 stands anything _ = true
 stands piping pipes = true
 stands piping _ = false
@@ -77,7 +77,7 @@ abbrev pub If : Bool → Type 0 → Type 0
 If true claim = claim
 If false claim = ⊥
 
-abbrev pub Sound : Sort → List Part → Type 0
+abbrev pub Sound : Sort → List Pending → Type 0
 Sound sort [] = If (may_be_last sort) (Unit {0})
 Sound sort (part ∷ stack) = If (stands sort part) (Sound (behind part) stack)
 
@@ -85,48 +85,48 @@ part_of : (test : Bool) (claim : Type 0) → If test claim → claim
 part_of true claim h = h
 part_of false claim h = absurd h
 
-pub any_sound : (sort : Sort) (stack : List Part) → Sound sort stack → Sound anything stack
+pub any_sound : (sort : Sort) (stack : List Pending) → Sound sort stack → Sound anything stack
 any_sound sort [] h = tt
 any_sound sort (part ∷ stack) h = part_of (stands sort part) (Sound (behind part) stack) h
 
-pub pipes_end : (stack : List Part) → Sound piping stack → Sound pieces_end stack
+pub pipes_end : (stack : List Pending) → Sound piping stack → Sound pieces_end stack
 pipes_end [] h = h
 pipes_end (pipes ∷ stack) h = h
 pipes_end (_ ∷ stack) h = absurd h
 
 -- a move keeps a stack sound
-abbrev pub Keeps : Part → List Part → Move → Type 0
+abbrev pub Keeps : Pending → List Pending → Move → Type 0
 Keeps part stack (push parts) = Sound (behind part) stack → Sound anything (parts ++ stack)
 Keeps part stack (opens parts) = Sound (behind part) stack → Sound anything (parts ++ stack)
 Keeps part stack skip = Sound (behind part) stack → Sound anything stack
 Keeps part stack stuck = Unit {0}
 
-word_keeps : (at : Place) (stack : List Part) (u : Use) → Keeps (pieces at) stack (word_by u)
+word_keeps : (at : Slot) (stack : List Pending) (u : Use) → Keeps (pieces at) stack (word_by u)
 word_keeps at stack use_as.Assigned = λ h. h
 word_keeps at stack (use_as.Given place) = λ h. h
 word_keeps at stack use_as.Unused = λ h. any_sound pieces_end stack h
 
-number_keeps : (at : Place) (stack : List Part) (o : Option Place) → Keeps (pieces at) stack (redirection_by operator o)
+number_keeps : (at : Slot) (stack : List Pending) (o : Option Slot) → Keeps (pieces at) stack (redirection_by operator o)
 number_keeps at stack None = λ h. any_sound pieces_end stack h
 number_keeps at stack (Some place) = λ h. h
 
-redirect_keeps : (at : Place) (stack : List Part) (o : Option Place) → Keeps (pieces at) stack (redirection_by target o)
+redirect_keeps : (at : Slot) (stack : List Pending) (o : Option Slot) → Keeps (pieces at) stack (redirection_by target o)
 redirect_keeps at stack None = λ h. any_sound pieces_end stack h
 redirect_keeps at stack (Some place) = λ h. h
 
-piece_keeps : (at : Place) (first : Item) (stack : List Part) → Keeps (pieces at) stack (piece_by at first)
+piece_keeps : (at : Slot) (first : Item) (stack : List Pending) → Keeps (pieces at) stack (piece_by at first)
 piece_keeps at (token.Word kind span) stack = word_keeps at stack (used at kind)
 piece_keeps at (token.IoNumber number from) stack = number_keeps at stack (redirects at)
 piece_keeps at (token.Redirect how from) stack = redirect_keeps at stack (redirects at)
 piece_keeps at _ stack = λ h. any_sound pieces_end stack h
 
-needed_keeps : (at : Place) (stack : List Part) (m : Move) → Keeps (pieces at) stack m → Keeps a_command stack (needed m)
+needed_keeps : (at : Slot) (stack : List Pending) (m : Move) → Keeps (pieces at) stack m → Keeps a_command stack (needed m)
 needed_keeps at stack (push parts) keeps = λ h. keeps (pipes_end stack h)
 needed_keeps at stack (opens parts) keeps = λ h. keeps (pipes_end stack h)
 needed_keeps at stack skip keeps = tt
 needed_keeps at stack stuck keeps = tt
 
-command_keeps : (first : Item) (stack : List Part) → Keeps a_command stack (command_by first)
+command_keeps : (first : Item) (stack : List Pending) → Keeps a_command stack (command_by first)
 command_keeps (token.Word (word.Reserved reserved.OpenBrace) at) stack = λ h. pipes_end stack h
 command_keeps (token.Word (word.Reserved reserved.If) at) stack = λ h. pipes_end stack h
 command_keeps (token.Word (word.Reserved reserved.While) at) stack = λ h. pipes_end stack h
@@ -143,23 +143,23 @@ command_keeps (token.Open at) stack = λ h. pipes_end stack h
 command_keeps _ stack = tt
 
 -- a pipeline, and what follows it
-abbrev pub PipelineKeeps : List Part → Move → Type 0
+abbrev pub PipelineKeeps : List Pending → Move → Type 0
 PipelineKeeps stack (push parts) = Sound joining stack → Sound anything (parts ++ pipes ∷ stack)
 PipelineKeeps stack (opens parts) = Sound joining stack → Sound anything (parts ++ pipes ∷ stack)
 PipelineKeeps stack skip = Unit {0}
 PipelineKeeps stack stuck = Unit {0}
 
-plain_keeps : (stack : List Part) (m : Move) → Keeps a_command (pipes ∷ stack) m → PipelineKeeps stack m
+plain_keeps : (stack : List Pending) (m : Move) → Keeps a_command (pipes ∷ stack) m → PipelineKeeps stack m
 plain_keeps stack (push parts) keeps = λ h. keeps h
 plain_keeps stack (opens parts) keeps = λ h. keeps h
 plain_keeps stack skip keeps = tt
 plain_keeps stack stuck keeps = tt
 
-pipeline_keeps : (first : Item) (stack : List Part) → PipelineKeeps stack (pipeline_by first)
+pipeline_keeps : (first : Item) (stack : List Pending) → PipelineKeeps stack (pipeline_by first)
 pipeline_keeps (token.Word (word.Reserved reserved.Bang) at) stack = λ h. h
 pipeline_keeps first stack = plain_keeps stack (command_by first) (command_keeps first (pipes ∷ stack))
 
-follow_keeps : (part : Part) (more stack : List Part) (otherwise : Move) → (Sound (behind part) stack → Sound joining (more ++ stack))
+follow_keeps : (part : Pending) (more stack : List Pending) (otherwise : Move) → (Sound (behind part) stack → Sound joining (more ++ stack))
     → Keeps part stack otherwise → (m : Move) → PipelineKeeps (more ++ stack) m → Keeps part stack (followed m (pipes ∷ more) otherwise)
 follow_keeps part more stack otherwise whole other (push parts) keeps = λ h.
     subst (λ x. Sound anything x) (sym (append_assoc parts (pipes ∷ more) stack)) (keeps (whole h))
@@ -168,41 +168,41 @@ follow_keeps part more stack otherwise whole other (opens parts) keeps = λ h.
 follow_keeps part more stack otherwise whole other skip keeps = other
 follow_keeps part more stack otherwise whole other stuck keeps = other
 
-again_keeps : (first : Item) (stack : List Part) → Keeps again stack (move again first)
+again_keeps : (first : Item) (stack : List Pending) → Keeps again stack (move again first)
 again_keeps token.Newline stack = λ h. h
 again_keeps first stack = follow_keeps again (joins ∷ separator ∷ []) stack skip (λ h. h) (λ h. any_sound closing stack h) (pipeline_by first)
     (pipeline_keeps first (joins ∷ separator ∷ stack))
 
-body_keeps : (first : Item) (stack : List Part) → Keeps body stack (move body first)
+body_keeps : (first : Item) (stack : List Pending) → Keeps body stack (move body first)
 body_keeps token.Newline stack = λ h. h
 body_keeps first stack = follow_keeps body (joins ∷ separator ∷ []) stack stuck (λ h. h) tt (pipeline_by first)
     (pipeline_keeps first (joins ∷ separator ∷ stack))
 
-next_pipeline_keeps : (first : Item) (stack : List Part) → Keeps next_pipeline stack (move next_pipeline first)
+next_pipeline_keeps : (first : Item) (stack : List Pending) → Keeps next_pipeline stack (move next_pipeline first)
 next_pipeline_keeps token.Newline stack = λ h. h
 next_pipeline_keeps first stack = follow_keeps next_pipeline [] stack stuck (λ h. h) tt (pipeline_by first) (pipeline_keeps first stack)
 
-same_keeps : (stack : List Part) (m : Move) → Keeps a_command stack m → Keeps next_command stack m
+same_keeps : (stack : List Pending) (m : Move) → Keeps a_command stack m → Keeps next_command stack m
 same_keeps stack (push parts) keeps = keeps
 same_keeps stack (opens parts) keeps = keeps
 same_keeps stack skip keeps = keeps
 same_keeps stack stuck keeps = tt
 
-next_command_keeps : (first : Item) (stack : List Part) → Keeps next_command stack (move next_command first)
+next_command_keeps : (first : Item) (stack : List Pending) → Keeps next_command stack (move next_command first)
 next_command_keeps token.Newline stack = λ h. h
 next_command_keeps first stack = same_keeps stack (command_by first) (command_keeps first stack)
 
-name_keeps : (stack : List Part) (test : Bool) → Keeps loop_name stack (cond test (push (loop_head ∷ [])) stuck)
+name_keeps : (stack : List Pending) (test : Bool) → Keeps loop_name stack (cond test (push (loop_head ∷ [])) stuck)
 name_keeps stack true = λ h. h
 name_keeps stack false = tt
 
-branch_keeps : (first : Item) (stack : List Part) → Keeps branches stack (branch_by first)
+branch_keeps : (first : Item) (stack : List Pending) → Keeps branches stack (branch_by first)
 branch_keeps (token.Word (word.Reserved reserved.Elif) at) stack = λ h. h
 branch_keeps (token.Word (word.Reserved reserved.Else) at) stack = λ h. h
 branch_keeps (token.Word (word.Reserved reserved.Fi) at) stack = λ h. any_sound piecing stack h
 branch_keeps _ stack = tt
 
-keeps : (part : Part) (first : Item) (stack : List Part) → Keeps part stack (move part first)
+keeps : (part : Pending) (first : Item) (stack : List Pending) → Keeps part stack (move part first)
 keeps (pieces at) first stack = piece_keeps at first stack
 keeps operator (token.Redirect how from) stack = λ h. h
 keeps operator _ stack = tt
@@ -261,14 +261,14 @@ NextSound (goes stack) = Sound anything stack
 NextSound (deeper stack) = Sound anything stack
 NextSound fails = Unit {0}
 
-moved_sound : (part : Part) (stack : List Part) (m : Move) (next : Next) → Keeps part stack m → (Sound anything stack → NextSound next)
+moved_sound : (part : Pending) (stack : List Pending) (m : Move) (next : Next) → Keeps part stack m → (Sound anything stack → NextSound next)
     → Sound (behind part) stack → NextSound (moved m stack next)
 moved_sound part stack (push parts) next keeps rest h = keeps h
 moved_sound part stack (opens parts) next keeps rest h = keeps h
 moved_sound part stack skip next keeps rest h = rest (keeps h)
 moved_sound part stack stuck next keeps rest h = tt
 
-pub step_sound : (stack : List Part) (first : Item) → Sound anything stack → NextSound (step stack first)
+pub step_sound : (stack : List Pending) (first : Item) → Sound anything stack → NextSound (step stack first)
 step_sound [] first h = tt
 step_sound (part ∷ stack) first h =
     moved_sound part stack (move part first) (step stack first) (keeps part first stack) (step_sound stack first) h
@@ -283,7 +283,7 @@ the_word name = token.Word (word.Reserved name) (record { from = 0; to = 0 })
 abbrev pub loop_ending : List Item
 loop_ending = the_word reserved.Do ∷ a_word ∷ token.Semi ∷ the_word reserved.Done ∷ []
 
-abbrev pub ending : Part → List Item
+abbrev pub ending : Pending → List Item
 ending operator = token.Redirect how.Read 0 ∷ a_word ∷ []
 ending target = a_word ∷ []
 ending a_pipeline = a_word ∷ []
@@ -307,13 +307,13 @@ ending loop_separator = token.Semi ∷ loop_ending
 ending loop_do = loop_ending
 ending _ = []
 
-abbrev pub finish : List Part → List Item
+abbrev pub finish : List Pending → List Item
 finish [] = []
 finish (part ∷ stack) = ending part ++ finish stack
 
 module _ (most : ℕ) where
   mutual
-    pub completes : (stack : List Part) → Sound anything stack → verdict most (finish stack) stack ≡ fine
+    pub completes : (stack : List Pending) → Sound anything stack → verdict most (finish stack) stack ≡ fine
     completes [] h = refl
     completes (pieces at ∷ stack) h = pieces_complete at stack h
     completes (operator ∷ stack) h = subs_complete stack h
@@ -331,7 +331,7 @@ module _ (most : ℕ) where
     completes (close_substitution ∷ stack) h = completes stack (any_sound substituting stack h)
     completes (_ ∷ stack) h = completes stack (any_sound piecing stack h)
 
-    closes_complete : (stack : List Part) → Sound closing stack → verdict most (finish stack) (again ∷ stack) ≡ fine
+    closes_complete : (stack : List Pending) → Sound closing stack → verdict most (finish stack) (again ∷ stack) ≡ fine
     closes_complete [] h = refl
     closes_complete (close_brace ∷ stack) h = completes stack (any_sound piecing stack h)
     closes_complete (close_parenthesis ∷ stack) h = completes stack (any_sound piecing stack h)
@@ -343,25 +343,25 @@ module _ (most : ℕ) where
     closes_complete (end_loop ∷ stack) h = completes stack (any_sound piecing stack h)
     closes_complete (_ ∷ stack) h = absurd h
 
-    separated_complete : (stack : List Part) → Sound separating stack → verdict most (finish stack) (joins ∷ stack) ≡ fine
+    separated_complete : (stack : List Pending) → Sound separating stack → verdict most (finish stack) (joins ∷ stack) ≡ fine
     separated_complete [] h = absurd h
     separated_complete (separator ∷ stack) h = closes_complete stack h
     separated_complete (_ ∷ stack) h = absurd h
 
-    joined_complete : (stack : List Part) → Sound joining stack → verdict most (finish stack) (pipes ∷ stack) ≡ fine
+    joined_complete : (stack : List Pending) → Sound joining stack → verdict most (finish stack) (pipes ∷ stack) ≡ fine
     joined_complete [] h = absurd h
     joined_complete (joins ∷ separator ∷ stack) h = closes_complete stack h
     joined_complete (joins ∷ _) h = absurd h
     joined_complete (_ ∷ stack) h = absurd h
 
-    joins_complete : (stack : List Part) → Sound joining stack
+    joins_complete : (stack : List Pending) → Sound joining stack
         → verdict most (finish stack) (substitutions ∷ pieces place.BehindName ∷ pipes ∷ stack) ≡ fine
     joins_complete [] h = absurd h
     joins_complete (joins ∷ separator ∷ stack) h = closes_complete stack h
     joins_complete (joins ∷ _) h = absurd h
     joins_complete (_ ∷ stack) h = absurd h
 
-    named_complete : (stack : List Part) → Sound pieces_end stack
+    named_complete : (stack : List Pending) → Sound pieces_end stack
         → verdict most (finish stack) (substitutions ∷ pieces place.BehindName ∷ stack) ≡ fine
     named_complete [] h = absurd h
     named_complete (pipes ∷ joins ∷ separator ∷ stack) h = closes_complete stack h
@@ -370,7 +370,7 @@ module _ (most : ℕ) where
     named_complete (loop_separator ∷ stack) h = completes stack (any_sound piecing stack h)
     named_complete (_ ∷ stack) h = absurd h
 
-    pieces_complete : (at : Place) (stack : List Part) → Sound pieces_end stack → verdict most (finish stack) (pieces at ∷ stack) ≡ fine
+    pieces_complete : (at : Slot) (stack : List Pending) → Sound pieces_end stack → verdict most (finish stack) (pieces at ∷ stack) ≡ fine
     pieces_complete at [] h = absurd h
     pieces_complete at (pipes ∷ joins ∷ separator ∷ stack) h = closes_complete stack h
     pieces_complete at (pipes ∷ joins ∷ _) h = absurd h
@@ -378,7 +378,7 @@ module _ (most : ℕ) where
     pieces_complete at (loop_separator ∷ stack) h = completes stack (any_sound piecing stack h)
     pieces_complete at (_ ∷ stack) h = absurd h
 
-    subs_complete : (stack : List Part) → Sound piecing stack → verdict most (finish stack) (substitutions ∷ stack) ≡ fine
+    subs_complete : (stack : List Pending) → Sound piecing stack → verdict most (finish stack) (substitutions ∷ stack) ≡ fine
     subs_complete [] h = absurd h
     subs_complete (pieces at ∷ pipes ∷ joins ∷ separator ∷ stack) h = closes_complete stack h
     subs_complete (pieces at ∷ pipes ∷ joins ∷ _) h = absurd h

@@ -22,8 +22,8 @@ use Rattle.sh_lex.specs.declared.lexing.marks.Mark.TheVariants as mark
 use Rattle.sh_lex.specs.declared.lexing.marks.Entry.{Entry}
 use Rattle.sh_lex.specs.declared.lexing.marks.Entry.TheVariants as entry
 use Rattle.sh_lex.specs.declared.parts.Nest.{Nest}
-use Rattle.sh_lex.specs.declared.parts.Part.{Part}
-use Rattle.sh_lex.specs.declared.parts.Part.TheVariants as part
+use Rattle.sh_lex.specs.declared.parts.Construct.{Construct}
+use Rattle.sh_lex.specs.declared.parts.Construct.TheVariants as part
 use Rattle.sh_lex.specs.declared.parts.Spot.{Spot}
 use Rattle.sh_lex.specs.declared.parts.Spot.TheVariants as spot
 use Rattle.sh_lex.specs.declared.parts.TheConstants.{MAX_LEVELS}
@@ -40,7 +40,7 @@ pub data Kind : Type 0 where
   within_word : Kind
   elsewhere : Kind
 
-abbrev pub kind_of_part : Part → Kind
+abbrev pub kind_of_part : Construct → Kind
 kind_of_part (part.Commands nest (Some opened) spot.Between) = among_tokens
 kind_of_part (part.Commands nest (Some opened) spot.Begin) = within_word
 kind_of_part (part.Commands nest (Some opened) spot.Name) = within_word
@@ -56,7 +56,7 @@ kind_of_part (part.Arithmetic nest left) = elsewhere
 kind_of_part (part.Parentheses nest left) = elsewhere
 
 -- no word opens with a construct that opens in another
-abbrev pub IsNoWord : Part → Type 0
+abbrev pub IsNoWord : Construct → Type 0
 IsNoWord inner = kind_of_part inner ≡ within_word → ⊥
 
 -- a construct of this kind goes on as one of this kind, and ends only where this holds
@@ -71,8 +71,8 @@ module _ (sort : Kind) (Ended : Type 0) where
   does_if true one other a b = a
   does_if false one other a b = b
 
-  module _ (nest : Nest) (left : ℕ) (outer : Part) (is : kind_of_part outer ≡ sort) where
-    opening-does : (inner : Part) (rest : List ℕ) → IsNoWord inner → Does sort Ended (opening nest left inner outer rest)
+  module _ (nest : Nest) (left : ℕ) (outer : Construct) (is : kind_of_part outer ≡ sort) where
+    opening-does : (inner : Construct) (rest : List ℕ) → IsNoWord inner → Does sort Ended (opening nest left inner outer rest)
     opening-does inner rest never = does_if (nat_lt nest.levels MAX_LEVELS) _ _ (never, is) tt
 
     substitution-does : (rest : List ℕ) → Does sort Ended (substitution nest left outer rest)
@@ -96,7 +96,7 @@ module _ (sort : Kind) (Ended : Type 0) where
     dollar-does quoted all [] = is
     dollar-does quoted all (byte ∷ rest) = by-does (introduced_by byte) quoted all rest
 
-  single-does : (left : ℕ) (next : Part) (found : Option (List ℕ)) → kind_of_part next ≡ sort → Does sort Ended (single_quotes left next found)
+  single-does : (left : ℕ) (next : Construct) (found : Option (List ℕ)) → kind_of_part next ≡ sort → Does sort Ended (single_quotes left next found)
   single-does left next None is = tt
   single-does left next (Some rest) is = is
 
@@ -157,7 +157,7 @@ module _ (nest : Nest) (left : ℕ) where
   head-quiet quoted text (with_word what by rest) = braces_word-quiet (quoted && not (trims by)) (unspliced rest)
   head-quiet quoted text no_form = braces-quiet quoted (unspliced text)
 
-  expression-quiet : (self : Part) (byte : ℕ) (rest : List ℕ) → kind_of_part self ≡ elsewhere → Quiet (expression_at nest left self byte rest)
+  expression-quiet : (self : Construct) (byte : ℕ) (rest : List ℕ) → kind_of_part self ≡ elsewhere → Quiet (expression_at nest left self byte rest)
   expression-quiet self byte rest is =
       quiet_if (byte == OPEN) _ _ ((λ e. cc), is) (quiet_if (byte == BACKQUOTE) _ _ tt
       (quiet_if (byte == DOLLAR) _ _ (dollar-does elsewhere (Unit {0}) nest (length rest + 1) self is true rest (unspliced rest))
@@ -193,7 +193,7 @@ token_quiet-at nest spot.ValueBegin text = token-quiet nest spot.ValueBegin text
 token_quiet-at nest spot.Value text = token-quiet nest spot.Value text (unspliced text)
 token_quiet-at nest spot.Elsewhere text = token-quiet nest spot.Elsewhere text (unspliced text)
 
-pub act-quiet : (construct : Part) (text : List ℕ) → kind_of_part construct ≡ elsewhere → Quiet (act construct text)
+pub act-quiet : (construct : Construct) (text : List ℕ) → kind_of_part construct ≡ elsewhere → Quiet (act construct text)
 act-quiet (part.Commands nest None at) text is = token_quiet-at nest at text
 act-quiet (part.Commands nest (Some opened) spot.Between) text is = absurd cc
 act-quiet (part.Commands nest (Some opened) spot.Begin) text is = absurd cc
@@ -285,11 +285,11 @@ module _ (total : ℕ) where
             does-moves within_word ⊥ (suc inner) inner [] (word_at nest (Some opened) at byte rest) (word-goes nest opened at byte rest) (λ more. refl)
             (λ never more. absurd never)
 
-  quiet-moves : (construct : Part) (text : List ℕ) (inner : ℕ) → kind_of_part construct ≡ elsewhere → Moves inner inner [] (act construct text)
+  quiet-moves : (construct : Construct) (text : List ℕ) (inner : ℕ) → kind_of_part construct ≡ elsewhere → Moves inner inner [] (act construct text)
   quiet-moves construct text inner is =
       does-moves elsewhere (Unit {0}) inner inner [] (act construct text) (act-quiet construct text is) (λ more. refl) (λ over more. refl)
 
-  act-moves : (construct : Part) (text : List ℕ) (inner : ℕ)
+  act-moves : (construct : Construct) (text : List ℕ) (inner : ℕ)
       → Moves (words_in (kind_of_part construct) inner) inner (seen total construct text) (act construct text)
   act-moves (part.Commands nest None at) text inner = quiet-moves (part.Commands nest None at) text inner refl
   act-moves (part.Commands nest (Some opened) spot.Between) text inner = between-moves nest opened text inner (lexeme text)
@@ -317,7 +317,7 @@ module _ (total : ℕ) where
   closing-same entry.Other more inner = refl
 
   -- behind a construct that is read the next end is that of a word around it
-  pub balanced : {construct : Part} {text left : List ℕ} {found : List Mark} → Marked total construct text found left → (more : List Mark) (inner : ℕ)
+  pub balanced : {construct : Construct} {text left : List ℕ} {found : List Mark} → Marked total construct text found left → (more : List Mark) (inner : ℕ)
       → word_end (found ++ more) (words_in (kind_of_part construct) inner) ≡ word_end more inner
   balanced (marks_on {construct = construct} {next = next} {text = text} {rest = rest} {found = found} e behind) more inner =
       let so : Moves (words_in (kind_of_part construct) inner) inner (seen total construct text) (goes next rest)

@@ -5,7 +5,7 @@ use Rattle.std.proofs.lemmas.Option.{none-some, same_Some, cond_some}
 use Rattle.std.proofs.Math.Nat.{min-le_left, min-le_right}
 use Rattle.sh_parse.specs.Pieces.{WordViews}
 use Rattle.sh_parse.specs.Places.{begins_piece}
-use Rattle.sh_parse.specs.Inner.Owed.{Part, Move, Next, Verdict, again, push, opens, skip, stuck, move, moved, step, levels, verdict, verdict_behind, goes, deeper, fails, fine, deep}
+use Rattle.sh_parse.specs.Inner.Owed.{Pending, Move, Next, Verdict, again, push, opens, skip, stuck, move, moved, step, levels, verdict, verdict_behind, goes, deeper, fails, fine, deep}
 use Rattle.sh_parse.specs.Stops.{offset_of}
 use Rattle.sh_parse.specs.Misuses.{IsIllFormed, MayBegin, mixes, IsMixed, FirstMisuse}
 use Rattle.sh_parse.specs.Inner.Seeking.{earliest, form_at, first_form, takes, may_open, owed_behind, begins_mixed, mix_at, first_mix, earlier}
@@ -15,7 +15,7 @@ use Rattle.sh_parse.specs.declared.items.Item.{Item}
 use Rattle.sh_parse.specs.declared.items.Item.TheVariants as item
 use Rattle.sh_parse.specs.declared.items.Span.{Span}
 use Rattle.sh_parse.specs.declared.items.WordKind.{WordKind}
-use Rattle.sh_parse.specs.declared.pieces.Place.TheVariants as place
+use Rattle.sh_parse.specs.declared.pieces.Slot.TheVariants as place
 use Rattle.sh_parse.specs.declared.misuses.Misuse.{Misuse}
 use Rattle.sh_parse.specs.declared.misuses.Misuse.TheVariants as misuse
 
@@ -90,10 +90,10 @@ module _ (views : WordViews) where
       either_form first rest offset (earliest_is (form_at views first) (first_form views rest) offset h) (form_found rest offset)
 
 -- where a command may begin: some list goes on with a `(` there, at some number of levels, or at all from some number on
-abbrev MayOne : List Item → List Part → Type 0
+abbrev MayOne : List Item → List Pending → Type 0
 MayOne before stack = (most : ℕ) × ((behind : List Item) × (verdict most (before ++ item.Open 0 ∷ behind) stack ≡ fine))
 
-abbrev MayAll : List Item → List Part → Type 0
+abbrev MayAll : List Item → List Pending → Type 0
 MayAll before stack = (least : ℕ) × ((most : ℕ) → least ≤ most
     → (behind : List Item) × (verdict most (before ++ item.Open 0 ∷ behind) stack ≡ fine))
 
@@ -101,13 +101,13 @@ fits_fine : (test : Bool) (rest : Verdict) (left : ℕ) → cond test rest (deep
 fits_fine true rest left h = h
 fits_fine false rest left h = cc
 
-fine_behind : (most left : ℕ) (rest : List Part → Verdict) (next : Next) → verdict_behind most left rest next ≡ fine
+fine_behind : (most left : ℕ) (rest : List Pending → Verdict) (next : Next) → verdict_behind most left rest next ≡ fine
     → rest (owed_behind next) ≡ fine
 fine_behind most left rest (goes stack) h = h
 fine_behind most left rest (deeper stack) h = fits_fine (nat_le (levels stack) most) (rest stack) left h
 fine_behind most left rest fails h = cc
 
-one_behind : (first : Item) (before : List Item) (stack : List Part) → MayOne (first ∷ before) stack
+one_behind : (first : Item) (before : List Item) (stack : List Pending) → MayOne (first ∷ before) stack
     → MayOne before (owed_behind (step stack first))
 one_behind first before stack may =
     let (most, (behind, h)) = may in
@@ -119,23 +119,23 @@ is_next (goes stack) = true
 is_next (deeper stack) = true
 is_next fails = false
 
-may_open_by : (m : Move) (stack : List Part) (below : Bool) (next : Next) → below ≡ is_next next → takes m below ≡ is_next (moved m stack next)
+may_open_by : (m : Move) (stack : List Pending) (below : Bool) (next : Next) → below ≡ is_next next → takes m below ≡ is_next (moved m stack next)
 may_open_by (push parts) stack below next e = refl
 may_open_by (opens parts) stack below next e = refl
 may_open_by skip stack below next e = e
 may_open_by stuck stack below next e = refl
 
-may_open_is : (stack : List Part) → may_open stack ≡ is_next (step stack (item.Open 0))
+may_open_is : (stack : List Pending) → may_open stack ≡ is_next (step stack (item.Open 0))
 may_open_is [] = refl
 may_open_is (part ∷ stack) =
     may_open_by (move part (item.Open 0)) stack (may_open stack) (step stack (item.Open 0)) (may_open_is stack)
 
-fine_next : (most left : ℕ) (rest : List Part → Verdict) (next : Next) → verdict_behind most left rest next ≡ fine → is_next next ≡ true
+fine_next : (most left : ℕ) (rest : List Pending → Verdict) (next : Next) → verdict_behind most left rest next ≡ fine → is_next next ≡ true
 fine_next most left rest (goes stack) h = refl
 fine_next most left rest (deeper stack) h = refl
 fine_next most left rest fails h = cc
 
-one_opens : (stack : List Part) → MayOne [] stack → may_open stack ≡ true
+one_opens : (stack : List Pending) → MayOne [] stack → may_open stack ≡ true
 one_opens stack may =
     let (most, (behind, h)) = may in
     may_open_is stack ∙ fine_next most (length behind + 1) (verdict most behind) (step stack (item.Open 0)) h
@@ -143,18 +143,18 @@ one_opens stack may =
 on_true : (test : Bool) (one other : Verdict) → test ≡ true → cond test one other ≡ one
 on_true test one other e = ap (λ b. cond b one other) e
 
-module _ (first : Item) (stack : List Part) where
-  goes_to : (behind : List Part) → step stack first ≡ goes behind → (most : ℕ) (rest : List Item)
+module _ (first : Item) (stack : List Pending) where
+  goes_to : (behind : List Pending) → step stack first ≡ goes behind → (most : ℕ) (rest : List Item)
       → verdict most (first ∷ rest) stack ≡ verdict most rest behind
   goes_to behind e most rest = ap (λ n. verdict_behind most (length rest + 1) (verdict most rest) n) e
 
-  deeper_to : (behind : List Part) → step stack first ≡ deeper behind → (most : ℕ) → levels behind ≤ most → (rest : List Item)
+  deeper_to : (behind : List Pending) → step stack first ≡ deeper behind → (most : ℕ) → levels behind ≤ most → (rest : List Item)
       → verdict most (first ∷ rest) stack ≡ verdict most rest behind
   deeper_to behind e most less rest =
       ap (λ n. verdict_behind most (length rest + 1) (verdict most rest) n) e
       ∙ on_true (nat_le (levels behind) most) _ _ (le-leb (levels behind) most less)
 
-here_by : (stack : List Part) (next : Next) → step stack (item.Open 0) ≡ next → is_next next ≡ true → NextSound next → MayAll [] stack
+here_by : (stack : List Pending) (next : Next) → step stack (item.Open 0) ≡ next → is_next next ≡ true → NextSound next → MayAll [] stack
 here_by stack (goes behind) e h sound =
     (0, λ most less. (finish behind, goes_to (item.Open 0) stack behind e most (finish behind) ∙ completes most behind sound))
 here_by stack (deeper behind) e h sound = (
@@ -163,7 +163,7 @@ here_by stack (deeper behind) e h sound = (
 )
 here_by stack fails e h sound = cc
 
-all_here : (stack : List Part) → may_open stack ≡ true → Sound anything stack → MayAll [] stack
+all_here : (stack : List Pending) → may_open stack ≡ true → Sound anything stack → MayAll [] stack
 all_here stack h sound =
     here_by stack (step stack (item.Open 0)) refl (sym (may_open_is stack) ∙ h) (step_sound stack (item.Open 0) sound)
 
@@ -171,7 +171,7 @@ nothing_owed : (most : ℕ) (before behind : List Item) → verdict most (before
 nothing_owed most [] behind h = cc
 nothing_owed most (first ∷ before) behind h = cc
 
-behind_by : (first : Item) (before : List Item) (stack : List Part) (next : Next) → step stack first ≡ next
+behind_by : (first : Item) (before : List Item) (stack : List Pending) (next : Next) → step stack first ≡ next
     → MayAll before (owed_behind next) → MayAll (first ∷ before) stack
 behind_by first before stack (goes behind) e may =
     let (least, all) = may in (
@@ -193,7 +193,7 @@ owed_sound (deeper stack) h = h
 owed_sound fails h = tt
 
 -- the mixed commands
-record MixedFrom (views : WordViews) (items : List Item) (stack : List Part) (offset : ℕ) : Type 0 where
+record MixedFrom (views : WordViews) (items : List Item) (stack : List Pending) (offset : ℕ) : Type 0 where
   pub before : List Item
   pub first : Item
   pub behind : List Item
@@ -204,12 +204,12 @@ record MixedFrom (views : WordViews) (items : List Item) (stack : List Part) (of
   pub place : offset ≡ offset_of first
 
 module _ (views : WordViews) where
-  mix_here : (stack : List Part) (first : Item) (rest : List Item) → may_open stack ≡ true → begins_piece place.First first ≡ true
+  mix_here : (stack : List Pending) (first : Item) (rest : List Item) → may_open stack ≡ true → begins_piece place.First first ≡ true
       → mixes views (first ∷ rest) ≡ true → begins_mixed views stack first (first ∷ rest) ≡ true
   mix_here stack first rest may begins mixed =
       ap (λ b. b && (may_open stack && mixes views (first ∷ rest))) begins ∙ ap (λ b. b && mixes views (first ∷ rest)) may ∙ mixed
 
-  mix_least : (before : List Item) (stack : List Part) (first : Item) (behind : List Item) (offset : ℕ) → MayOne before stack
+  mix_least : (before : List Item) (stack : List Pending) (first : Item) (behind : List Item) (offset : ℕ) → MayOne before stack
       → begins_piece place.First first ≡ true → mixes views (first ∷ behind) ≡ true → offset ≡ offset_of first
       → AtMost (first_mix views (before ++ first ∷ behind) stack) offset
   mix_least [] stack first behind offset may begins mixed place =
@@ -250,7 +250,7 @@ module _ (views : WordViews) where
       subst (λ all. AtMost (first_mix views all (again ∷ [])) offset) (sym is.whole)
       (mix_least is.before (again ∷ []) is.first is.behind offset (may_one is.before is.may_begin) is.begins is.mixed is.place)
 
-  here_mix : (first : Item) (rest : List Item) (stack : List Part) (offset : ℕ) → Sound anything stack
+  here_mix : (first : Item) (rest : List Item) (stack : List Pending) (offset : ℕ) → Sound anything stack
       → mix_at views stack (first ∷ rest) ≡ Some offset → MixedFrom views (first ∷ rest) stack offset
   here_mix first rest stack offset sound h =
       let is = cond_some (begins_mixed views stack first (first ∷ rest)) (offset_of first) offset h in
@@ -267,7 +267,7 @@ module _ (views : WordViews) where
         place = sym is.1;
       }
 
-  later_mix : (first : Item) (rest : List Item) (stack : List Part) (offset : ℕ)
+  later_mix : (first : Item) (rest : List Item) (stack : List Pending) (offset : ℕ)
       → MixedFrom views rest (owed_behind (step stack first)) offset → MixedFrom views (first ∷ rest) stack offset
   later_mix first rest stack offset is = record {
     before = first ∷ is.before;
@@ -280,14 +280,14 @@ module _ (views : WordViews) where
     place = is.place;
   }
 
-  either_mix : (first : Item) (rest : List Item) (stack : List Part) (offset : ℕ) → Sound anything stack
+  either_mix : (first : Item) (rest : List Item) (stack : List Pending) (offset : ℕ) → Sound anything stack
       → (mix_at views stack (first ∷ rest) ≡ Some offset) ⊎ (first_mix views rest (owed_behind (step stack first)) ≡ Some offset)
       → (first_mix views rest (owed_behind (step stack first)) ≡ Some offset → MixedFrom views rest (owed_behind (step stack first)) offset)
       → MixedFrom views (first ∷ rest) stack offset
   either_mix first rest stack offset sound (inl h) found = here_mix first rest stack offset sound h
   either_mix first rest stack offset sound (inr h) found = later_mix first rest stack offset (found h)
 
-  mix_found : (items : List Item) (stack : List Part) (offset : ℕ) → Sound anything stack → first_mix views items stack ≡ Some offset
+  mix_found : (items : List Item) (stack : List Pending) (offset : ℕ) → Sound anything stack → first_mix views items stack ≡ Some offset
       → MixedFrom views items stack offset
   mix_found [] stack offset sound h = absurd (none-some offset h)
   mix_found (first ∷ rest) stack offset sound h =

@@ -1,7 +1,7 @@
 -- Moves of the code against those of the definitions.
 use Rattle.std.proofs.Common.{◌≡◌, ◌∙◌, ◌+◌, cond, if◌then◌else◌, arith, Bool, true, false, List, [], ◌∷◌, ◌++◌, refl, ap}
 use Rattle.std.proofs.lemmas.List.{append-nil}
-use Rattle.sh_parse.specs.Inner.Owed.{Part, Move, push, opens, skip, stuck, move, levels, is_level, may_end, is_option, pipes, joins, separator, next_command, next_pipeline, again, body, followed, pipeline_by, command_by, is_bang}
+use Rattle.sh_parse.specs.Inner.Owed.{Pending, Move, push, opens, skip, stuck, move, levels, is_level, may_end, is_option, pipes, joins, separator, next_command, next_pipeline, again, body, followed, pipeline_by, command_by, is_bang}
 use Rattle.sh_parse.specs.Inner.Moves.{with_more, stacked}
 use Rattle.sh_parse.specs.declared.items.Item.{Item}
 use Rattle.sh_parse.specs.declared.items.Item.TheVariants as token
@@ -39,11 +39,11 @@ body_rest token.Newline h = absurd (h refl)
 body_rest _ h = refl
 
 -- the stack whose top is last
-pub stacked_last : (stack : List Part) (last : Part) → stacked (stack ++ last ∷ []) ≡ last ∷ stacked stack
+pub stacked_last : (stack : List Pending) (last : Pending) → stacked (stack ++ last ∷ []) ≡ last ∷ stacked stack
 stacked_last [] last = refl
 stacked_last (first ∷ rest) last = ap (λ s. s ++ first ∷ []) (stacked_last rest last)
 
-levels_last : (stack : List Part) (last : Part) → levels (stack ++ last ∷ []) ≡ (if is_level last then 1 else 0) + levels stack
+levels_last : (stack : List Pending) (last : Pending) → levels (stack ++ last ∷ []) ≡ (if is_level last then 1 else 0) + levels stack
 levels_last [] last = by_test (is_level last)
   where
     by_test : (test : Bool) → cond test (0 + 1) 0 ≡ (if test then 1 else 0) + 0
@@ -56,10 +56,10 @@ levels_last (first ∷ rest) last = by_test (is_level first) (levels_last rest l
     by_test true e = omega (arith, e)
     by_test false e = e
 
-pub levels_stacked : (first : Part) (rest : List Part) → levels (stacked (first ∷ rest)) ≡ (if is_level first then 1 else 0) + levels (stacked rest)
+pub levels_stacked : (first : Pending) (rest : List Pending) → levels (stacked (first ∷ rest)) ≡ (if is_level first then 1 else 0) + levels (stacked rest)
 levels_stacked first rest = levels_last (stacked rest) first
 
-may_end_last : (stack : List Part) (last : Part) → may_end (stack ++ last ∷ []) ≡ cond (is_option last) (may_end stack) false
+may_end_last : (stack : List Pending) (last : Pending) → may_end (stack ++ last ∷ []) ≡ cond (is_option last) (may_end stack) false
 may_end_last [] last = refl
 may_end_last (first ∷ rest) last =
     ap (λ b. cond (is_option first) b false) (may_end_last rest last) ∙ swapped (is_option first) (is_option last) (may_end rest)
@@ -70,5 +70,5 @@ may_end_last (first ∷ rest) last =
     swapped false true both = refl
     swapped false false both = refl
 
-pub may_end_stacked : (first : Part) (rest : List Part) → may_end (stacked (first ∷ rest)) ≡ cond (is_option first) (may_end (stacked rest)) false
+pub may_end_stacked : (first : Pending) (rest : List Pending) → may_end (stacked (first ∷ rest)) ≡ cond (is_option first) (may_end (stacked rest)) false
 may_end_stacked first rest = may_end_last (stacked rest) first

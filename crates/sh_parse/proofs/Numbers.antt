@@ -15,8 +15,8 @@ use Rattle.sh_parse.specs.declared.items.Item.TheVariants as token
 use Rattle.sh_parse.specs.declared.items.Span.{Span}
 use Rattle.sh_parse.specs.declared.items.WordKind.{WordKind}
 use Rattle.sh_parse.specs.declared.items.WordKind.TheVariants as word
-use Rattle.sh_parse.specs.declared.pieces.Place.{Place}
-use Rattle.sh_parse.specs.declared.pieces.Place.TheVariants as place
+use Rattle.sh_parse.specs.declared.pieces.Slot.{Slot}
+use Rattle.sh_parse.specs.declared.pieces.Slot.TheVariants as place
 use Rattle.sh_parse.specs.declared.pieces.Use.TheVariants as use_as
 
 -- how many command substitutions follow an item directly, where so many are open
@@ -157,11 +157,11 @@ module _ {views : WordViews} {most : ℕ} where
     lines-keeps (lines_newline lines) = lines-keeps lines
     lines-keeps (lines_in among more) = λ depth. pieces-keeps among depth ∙ separator-keeps more depth
 
-    pieces-keeps : {depth : ℕ} {at : Place} {items left : List Item} {pieces : List Piece} → IsPieces views most depth at items pieces left → Keeps items left
+    pieces-keeps : {depth : ℕ} {at : Slot} {items left : List Item} {pieces : List Piece} → IsPieces views most depth at items pieces left → Keeps items left
     pieces-keeps (last_piece none) = λ depth. refl
     pieces-keeps (more_pieces first others) = λ depth. piece-keeps first depth ∙ pieces-keeps others depth
 
-    piece-keeps : {depth : ℕ} {at behind : Place} {items left : List Item} {piece : Piece} → IsPiece views most depth at items piece behind left
+    piece-keeps : {depth : ℕ} {at behind : Slot} {items left : List Item} {piece : Piece} → IsPiece views most depth at items piece behind left
         → Keeps items left
     piece-keeps (is_assign how subs) = subs-keeps subs
     piece-keeps (is_argument how subs) = subs-keeps subs
@@ -329,7 +329,7 @@ module _ (views : WordViews) where
   words-numbered arguments subs (redirection number how at inner ∷ rest) are is = absurd are
 
 -- the assignments are the words that begin so
-assigned : (at : Place) (kind : WordKind) → used at kind ≡ use_as.Assigned → kind ≡ word.Assign
+assigned : (at : Slot) (kind : WordKind) → used at kind ≡ use_as.Assigned → kind ≡ word.Assign
 assigned place.First (word.Reserved name) e = absurd cc
 assigned place.First word.In e = absurd cc
 assigned place.First word.Name e = absurd cc
@@ -354,27 +354,27 @@ separator-counted views (semicolon_do more) counted = do-counted views more coun
 separator-counted views (newline_do more) counted = do-counted views more counted
 
 module _ {views : WordViews} {most : ℕ} where
-  tail_piece : {depth : ℕ} {at behind : Place} {items left : List Item} {piece : Piece} → IsPiece views most depth at items piece behind left
+  tail_piece : {depth : ℕ} {at behind : Slot} {items left : List Item} {piece : Piece} → IsPiece views most depth at items piece behind left
       → at ≡ place.Tail → AreRedirections (piece ∷ []) × (behind ≡ place.Tail)
   tail_piece (is_assign {kind = kind} how subs) is = absurd (let e = subst (λ it. used it kind ≡ use_as.Assigned) is how in cc)
   tail_piece (is_argument {behind = behind} {kind = kind} how subs) is = absurd (let e = subst (λ it. used it kind ≡ use_as.Given behind) is how in cc)
   tail_piece (is_numbered {behind = behind} how subs) is = let e = subst (λ it. redirects it ≡ Some behind) is how in (tt, cc)
   tail_piece (is_redirection {behind = behind} how subs) is = let e = subst (λ it. redirects it ≡ Some behind) is how in (tt, cc)
 
-  tail_pieces : {depth : ℕ} {at : Place} {items left : List Item} {pieces : List Piece} → IsPieces views most depth at items pieces left
+  tail_pieces : {depth : ℕ} {at : Slot} {items left : List Item} {pieces : List Piece} → IsPieces views most depth at items pieces left
       → at ≡ place.Tail → AreRedirections pieces
   tail_pieces (last_piece none) is = tt
   tail_pieces (more_pieces {first = first} {others = others} one more) is =
       let so = tail_piece one is in tail_then first others so.0 (tail_pieces more so.1)
 
-  loop_piece : {depth : ℕ} {at behind : Place} {items left : List Item} {piece : Piece} → IsPiece views most depth at items piece behind left
+  loop_piece : {depth : ℕ} {at behind : Slot} {items left : List Item} {piece : Piece} → IsPiece views most depth at items piece behind left
       → at ≡ place.Loop → AreArguments (piece ∷ []) × (behind ≡ place.Loop)
   loop_piece (is_assign {kind = kind} how subs) is = absurd (let e = subst (λ it. used it kind ≡ use_as.Assigned) is how in cc)
   loop_piece (is_argument {behind = behind} {kind = kind} how subs) is = let e = subst (λ it. used it kind ≡ use_as.Given behind) is how in (tt, cc)
   loop_piece (is_numbered {behind = behind} how subs) is = absurd (let e = subst (λ it. redirects it ≡ Some behind) is how in cc)
   loop_piece (is_redirection {behind = behind} how subs) is = absurd (let e = subst (λ it. redirects it ≡ Some behind) is how in cc)
 
-  loop_pieces : {depth : ℕ} {at : Place} {items left : List Item} {pieces : List Piece} → IsPieces views most depth at items pieces left
+  loop_pieces : {depth : ℕ} {at : Slot} {items left : List Item} {pieces : List Piece} → IsPieces views most depth at items pieces left
       → at ≡ place.Loop → AreArguments pieces
   loop_pieces (last_piece none) is = tt
   loop_pieces (more_pieces {first = first} {others = others} one more) is =
@@ -489,13 +489,13 @@ module _ {views : WordViews} {most : ℕ} where
     lines-numbered (lines_in among more) counted =
         let one = pieces-counted among counted.1 in (words-of among one.0, separator-counted views more one.1)
 
-    pieces-counted : {depth : ℕ} {at : Place} {items left : List Item} {pieces : List Piece} → IsPieces views most depth at items pieces left
+    pieces-counted : {depth : ℕ} {at : Slot} {items left : List Item} {pieces : List Piece} → IsPieces views most depth at items pieces left
         → AreCounted views items → AreCountedPieces views pieces × AreCounted views left
     pieces-counted (last_piece none) counted = (tt, counted)
     pieces-counted (more_pieces first others) counted =
         let one = piece-counted first counted in let two = pieces-counted others one.1 in ((one.0, two.0), two.1)
 
-    piece-counted : {depth : ℕ} {at behind : Place} {items left : List Item} {piece : Piece} → IsPiece views most depth at items piece behind left
+    piece-counted : {depth : ℕ} {at behind : Slot} {items left : List Item} {piece : Piece} → IsPiece views most depth at items piece behind left
         → AreCounted views items → IsCountedPiece views piece × AreCounted views left
     piece-counted (is_assign {spot = spot} {kind = kind} how subs) (it, counted) =
         let one = subs-numbered subs counted in

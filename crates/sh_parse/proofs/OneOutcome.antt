@@ -16,8 +16,8 @@ use Rattle.sh_parse.specs.declared.misuses.Misuse.TheVariants as misuse
 use Rattle.sh_parse.specs.Outcomes.{AreWordsOf, Reading, IsSound, EndsAt, IsScript, IsStopped, Outcome, script, refused, HasOutcome}
 use Rattle.sh_parse.specs.Outcomes as text_outcomes
 use Rattle.sh_parse.specs.declared.items.Item.{Item}
-use Rattle.sh_parse.specs.declared.refusals.Refusal.{Refusal}
-use Rattle.sh_parse.specs.declared.refusals.Refusal.TheVariants as grammar
+use Rattle.sh_parse.specs.declared.refusals.SyntaxRefusal.{SyntaxRefusal}
+use Rattle.sh_parse.specs.declared.refusals.SyntaxRefusal.TheVariants as grammar
 use Rattle.sh_parse.proofs.OneList.{one_list}
 use Rattle.sh_parse.proofs.Misusing.{misuse_some}
 use Rattle.sh_parse.proofs.Tops.{one_outcome}
@@ -44,7 +44,7 @@ module _ (views : WordViews) (items : List Item) where
   ends static.ScriptTooLong never = absurd never
 
   -- a stop and a script aren't both there
-  not_both : (stop : Refusal) → HasStop views items stop → IsSomeScript views items → ⊥
+  not_both : (stop : SyntaxRefusal) → HasStop views items stop → IsSomeScript views items → ⊥
   not_both stop has (tree, is) = is.not_stopped stop has.stops
 
   ends_one : {one other : Static} → Ends views items one → Ends views items other → one ≡ other

@@ -17,7 +17,7 @@ use Rattle.sh_parse.specs.Parses.{Refuses}
 use Rattle.sh_parse.specs.Inner.Parses.{RefusesItems, of_grammar}
 use Rattle.sh_parse.specs.declared.refusals.GrammarRefusal.{GrammarRefusal}
 use Rattle.sh_parse.specs.declared.refusals.GrammarRefusal.TheVariants as grammar
-use Rattle.sh_parse.specs.declared.refusals.Refusal.TheVariants as refusal
+use Rattle.sh_parse.specs.declared.refusals.SyntaxRefusal.TheVariants as refusal
 use Rattle.sh_parse.specs.declared.items.Item.{Item}
 use Rattle.sh_parse.specs.declared.scripts.ParseRefusal.{ParseRefusal}
 use Rattle.sh_parse.specs.declared.scripts.ParseRefusal.TheVariants as parse

@@ -5,7 +5,7 @@ use Rattle.std.proofs.lemmas.Bool.{le-leb}
 use Rattle.sh_tree.specs.Trees.{ListTree, JoinedTrees, PipelineTree, CommandTree, CommandTrees, BranchTrees, ElseTree, InTree, SubTrees}
 use Rattle.sh_parse.specs.Pieces.{WordViews, Piece}
 use Rattle.sh_parse.specs.Places.{used, redirects, begins_piece, begins_pipeline, begins_compound, is_used}
-use Rattle.sh_parse.specs.Inner.Owed.{Part, Move, Next, Verdict, pieces, a_pipeline, a_command, pipes, next_command, joins, next_pipeline, separator, again, body, close_brace, close_parenthesis, close_substitution, then_body, branches, end_if, do_body, end_loop, loop_name, loop_head, loop_lines, loop_separator, loop_do, operator, target, substitutions, push, opens, skip, stuck, move, moved, step, levels, verdict, verdict_behind, goes, deeper, deep, fine, bad, may_end, word_by, redirection_by, piece_by, compound_by, command_by, pipeline_by, followed}
+use Rattle.sh_parse.specs.Inner.Owed.{Pending, Move, Next, Verdict, pieces, a_pipeline, a_command, pipes, next_command, joins, next_pipeline, separator, again, body, close_brace, close_parenthesis, close_substitution, then_body, branches, end_if, do_body, end_loop, loop_name, loop_head, loop_lines, loop_separator, loop_do, operator, target, substitutions, push, opens, skip, stuck, move, moved, step, levels, verdict, verdict_behind, goes, deeper, deep, fine, bad, may_end, word_by, redirection_by, piece_by, compound_by, command_by, pipeline_by, followed}
 use Rattle.sh_parse.specs.Grammar as g
 use Rattle.sh_parse.specs.Grammar.{NoneNext, IsAgain, IsBody, IsList, IsSeparated, IsJoined, IsNextPipeline, IsPipeline, IsPiped, IsNextCommand, IsCommand, IsBranches, IsLoopHead, IsLoopLines, IsLoopSeparator, IsLoopDo, IsPieces, IsPiece, IsSubs, is_sub_open, is_pipe, is_join, is_separator, goes_on}
 use Rattle.sh_parse.specs.declared.items.Item.{Item}
@@ -13,24 +13,24 @@ use Rattle.sh_parse.specs.declared.items.Item.TheVariants as token
 use Rattle.sh_parse.specs.declared.items.WordKind.TheVariants as word
 use Rattle.sh_parse.specs.declared.items.Reserved as reserved_word
 use Rattle.sh_parse.specs.declared.items.Reserved.TheVariants as reserved
-use Rattle.sh_parse.specs.declared.pieces.Place.{Place}
-use Rattle.sh_parse.specs.declared.pieces.Place.TheVariants as place
+use Rattle.sh_parse.specs.declared.pieces.Slot.{Slot}
+use Rattle.sh_parse.specs.declared.pieces.Slot.TheVariants as place
 use Rattle.sh_parse.specs.declared.pieces.Use.{Use}
 use Rattle.sh_parse.specs.declared.pieces.Use.TheVariants as use_as
 
 -- a move that a part makes, on a list
 module _ (most : ℕ) where
-  pub on_push : (part : Part) (first : Item) (rest : List Item) (parts stack : List Part) → move part first ≡ push parts
+  pub on_push : (part : Pending) (first : Item) (rest : List Item) (parts stack : List Pending) → move part first ≡ push parts
       → verdict most (first ∷ rest) (part ∷ stack) ≡ verdict most rest (parts ++ stack)
   on_push part first rest parts stack e =
       ap (λ m. verdict_behind most (length rest + 1) (verdict most rest) (moved m stack (step stack first))) e
 
-  pub on_skip : (part : Part) (first : Item) (rest : List Item) (stack : List Part) → move part first ≡ skip
+  pub on_skip : (part : Pending) (first : Item) (rest : List Item) (stack : List Pending) → move part first ≡ skip
       → verdict most (first ∷ rest) (part ∷ stack) ≡ verdict most (first ∷ rest) stack
   on_skip part first rest stack e =
       ap (λ m. verdict_behind most (length rest + 1) (verdict most rest) (moved m stack (step stack first))) e
 
-  pub on_opens : (part : Part) (first : Item) (rest : List Item) (parts stack : List Part) → move part first ≡ opens parts
+  pub on_opens : (part : Pending) (first : Item) (rest : List Item) (parts stack : List Pending) → move part first ≡ opens parts
       → nat_le (levels (parts ++ stack)) most ≡ true
       → verdict most (first ∷ rest) (part ∷ stack) ≡ verdict most rest (parts ++ stack)
   on_opens part first rest parts stack e fits =
@@ -69,11 +69,11 @@ word_unused use_as.Assigned h = cc
 word_unused (use_as.Given behind) h = cc
 word_unused use_as.Unused h = refl
 
-no_redirection : (part : Part) (behind : Option Place) → is_some behind ≡ false → redirection_by part behind ≡ skip
+no_redirection : (part : Pending) (behind : Option Slot) → is_some behind ≡ false → redirection_by part behind ≡ skip
 no_redirection part None h = refl
 no_redirection part (Some behind) h = cc
 
-pub piece_skips : (at : Place) (first : Item) → begins_piece at first ≡ false → piece_by at first ≡ skip
+pub piece_skips : (at : Slot) (first : Item) → begins_piece at first ≡ false → piece_by at first ≡ skip
 piece_skips at (token.Word kind span) h = word_unused (used at kind) h
 piece_skips at (token.IoNumber number from) h = no_redirection operator (redirects at) h
 piece_skips at (token.Redirect how from) h = no_redirection target (redirects at) h
@@ -125,7 +125,7 @@ again_skips (token.Open at) h = cc
 again_skips _ h = refl
 
 -- a command that stands where more may
-moves_on : (m : Move) → Moves m → (parts more : List Part) (otherwise : Move) → (stack : List Part) (one other : Next)
+moves_on : (m : Move) → Moves m → (parts more : List Pending) (otherwise : Move) → (stack : List Pending) (one other : Next)
     → moved (followed m (parts ++ more) otherwise) stack one ≡ moved (followed m parts stuck) (more ++ stack) other
 moves_on (push first) h parts more otherwise stack one other =
     ap goes (append_assoc first (parts ++ more) stack ∙ ap (λ x. first ++ x) (append_assoc parts more stack)
@@ -160,57 +160,57 @@ pipeline_by_command _ h = refl
 
 module _ (most : ℕ) where
   -- the verdict of a first item, by the stack behind it
-  by_next : (first : Item) (rest : List Item) (one other : List Part) → step one first ≡ step other first
+  by_next : (first : Item) (rest : List Item) (one other : List Pending) → step one first ≡ step other first
       → verdict most (first ∷ rest) one ≡ verdict most (first ∷ rest) other
   by_next first rest one other e = ap (λ n. verdict_behind most (length rest + 1) (verdict most rest) n) e
 
-  pub list_again : (items : List Item) (stack : List Part) → Begins items
+  pub list_again : (items : List Item) (stack : List Pending) → Begins items
       → verdict most items (again ∷ stack) ≡ verdict most items (a_pipeline ∷ joins ∷ separator ∷ stack)
   list_again [] stack h = absurd h
   list_again (first ∷ rest) stack h = by_next first rest (again ∷ stack) (a_pipeline ∷ joins ∷ separator ∷ stack)
       (ap (λ m. moved m stack (step stack first)) (again_by first h)
       ∙ moves_on (pipeline_by first) h (pipes ∷ []) (joins ∷ separator ∷ []) skip stack (step stack first) (step (joins ∷ separator ∷ stack) first))
 
-  pub list_body : (items : List Item) (stack : List Part) → Begins items
+  pub list_body : (items : List Item) (stack : List Pending) → Begins items
       → verdict most items (body ∷ stack) ≡ verdict most items (a_pipeline ∷ joins ∷ separator ∷ stack)
   list_body [] stack h = absurd h
   list_body (first ∷ rest) stack h = by_next first rest (body ∷ stack) (a_pipeline ∷ joins ∷ separator ∷ stack)
       (ap (λ m. moved m stack (step stack first)) (body_by first h)
       ∙ moves_on (pipeline_by first) h (pipes ∷ []) (joins ∷ separator ∷ []) stuck stack (step stack first) (step (joins ∷ separator ∷ stack) first))
 
-  pub pipeline_next : (items : List Item) (stack : List Part) → Begins items
+  pub pipeline_next : (items : List Item) (stack : List Pending) → Begins items
       → verdict most items (next_pipeline ∷ stack) ≡ verdict most items (a_pipeline ∷ stack)
   pipeline_next [] stack h = absurd h
   pipeline_next (first ∷ rest) stack h = by_next first rest (next_pipeline ∷ stack) (a_pipeline ∷ stack)
       (ap (λ m. moved m stack (step stack first)) (next_pipeline_by first h))
 
-  pub command_next : (items : List Item) (stack : List Part) → BeginsCommand items
+  pub command_next : (items : List Item) (stack : List Pending) → BeginsCommand items
       → verdict most items (next_command ∷ stack) ≡ verdict most items (a_command ∷ stack)
   command_next [] stack h = absurd h
   command_next (first ∷ rest) stack h = by_next first rest (next_command ∷ stack) (a_command ∷ stack)
       (ap (λ m. moved m stack (step stack first)) (next_command_by first h))
 
-  moves_behind : (m : Move) → Moves m → (more stack : List Part) (one other : Next)
+  moves_behind : (m : Move) → Moves m → (more stack : List Pending) (one other : Next)
       → moved (followed m more stuck) stack one ≡ moved m (more ++ stack) other
   moves_behind (push first) h more stack one other = ap goes (append_assoc first more stack)
   moves_behind (opens first) h more stack one other = ap deeper (append_assoc first more stack)
   moves_behind skip h more stack one other = absurd h
   moves_behind stuck h more stack one other = absurd h
 
-  pub command_pipeline : (items : List Item) (stack : List Part) → BeginsCommand items
+  pub command_pipeline : (items : List Item) (stack : List Pending) → BeginsCommand items
       → verdict most items (a_pipeline ∷ stack) ≡ verdict most items (a_command ∷ pipes ∷ stack)
   command_pipeline [] stack h = absurd h
   command_pipeline (first ∷ rest) stack h = by_next first rest (a_pipeline ∷ stack) (a_command ∷ pipes ∷ stack)
       (ap (λ m. moved (followed m (pipes ∷ []) stuck) stack (step stack first)) (pipeline_by_command first h)
       ∙ moves_behind (command_by first) h (pipes ∷ []) stack (step stack first) (step (pipes ∷ stack) first))
 
-  pub piece_command : (first : Item) (rest : List Item) (stack : List Part) → Moves (piece_by place.First first)
+  pub piece_command : (first : Item) (rest : List Item) (stack : List Pending) → Moves (piece_by place.First first)
       → verdict most (first ∷ rest) (a_command ∷ stack) ≡ verdict most (first ∷ rest) (pieces place.First ∷ stack)
   piece_command first rest stack h = by_next first rest (a_command ∷ stack) (pieces place.First ∷ stack)
       (ap (λ m. moved m stack (step stack first)) (command_by_piece first h))
 
   -- what may be left out is left out where its items aren't next
-  pub left_out : (part : Part) (begins : Item → Bool) (items : List Item) (stack : List Part)
+  pub left_out : (part : Pending) (begins : Item → Bool) (items : List Item) (stack : List Pending)
       → may_end (part ∷ stack) ≡ may_end stack → ((first : Item) → begins first ≡ false → move part first ≡ skip)
       → NoneNext begins items → verdict most items (part ∷ stack) ≡ verdict most items stack
   left_out part begins [] stack e skips h = ap (λ b. cond b fine (bad 0)) e
@@ -243,17 +243,17 @@ command_is_pipeline [] h = absurd h
 command_is_pipeline (first ∷ rest) h = subst Moves (sym (pipeline_by_command first h)) h
 
 module _ (most : ℕ) where
-  pub do_run : {items left : List Item} → IsLoopDo items left → (stack : List Part)
+  pub do_run : {items left : List Item} → IsLoopDo items left → (stack : List Pending)
       → verdict most items (loop_do ∷ stack) ≡ verdict most left (body ∷ end_loop ∷ stack)
   do_run (g.loop_newline more) stack = do_run more stack
   do_run g.loop_do stack = refl
 
-  pub separator_run : {items left : List Item} → IsLoopSeparator items left → (stack : List Part)
+  pub separator_run : {items left : List Item} → IsLoopSeparator items left → (stack : List Pending)
       → verdict most items (loop_separator ∷ stack) ≡ verdict most left (body ∷ end_loop ∷ stack)
   separator_run (g.semicolon_do more) stack = do_run more stack
   separator_run (g.newline_do more) stack = do_run more stack
 
-  pub piece_as_command : (items : List Item) (stack : List Part)
+  pub piece_as_command : (items : List Item) (stack : List Pending)
       → (first : Item) × ((rest : List Item) × ((items ≡ first ∷ rest) × Moves (piece_by place.First first)))
       → verdict most items (a_command ∷ stack) ≡ verdict most items (pieces place.First ∷ stack)
   piece_as_command items stack (first, (rest, (e, m))) =
@@ -262,7 +262,7 @@ module _ (most : ℕ) where
 
 -- where a rule begins
 module _ {views : WordViews} {most : ℕ} where
-  pub piece_begins : {depth : ℕ} {at behind : Place} {items left : List Item} {piece : Piece}
+  pub piece_begins : {depth : ℕ} {at behind : Slot} {items left : List Item} {piece : Piece}
       → IsPiece views most depth at items piece behind left
       → (first : Item) × ((rest : List Item) × ((items ≡ first ∷ rest) × Moves (piece_by at first)))
   piece_begins (g.is_assign {kind = kind} {at = at} {items = items} u subs) =
@@ -294,57 +294,57 @@ module _ {views : WordViews} {most : ℕ} where
 
   mutual
     pub again_run : {depth : ℕ} {items left : List Item} {list : ListTree} → IsAgain views most depth items list left
-        → (stack : List Part) → levels stack ≡ depth → verdict most items (again ∷ stack) ≡ verdict most left stack
+        → (stack : List Pending) → levels stack ≡ depth → verdict most items (again ∷ stack) ≡ verdict most left stack
     again_run (g.again_newline more) stack h = again_run more stack h
     again_run (g.again_list {items = items} list) stack h = list_again most items stack (list_begins list) ∙ list_run list stack h
     again_run (g.no_list {items = items} none) stack h = left_out most again goes_on items stack refl again_skips none
 
     pub body_run : {depth : ℕ} {items left : List Item} {list : ListTree} → IsBody views most depth items list left
-        → (stack : List Part) → levels stack ≡ depth → verdict most items (body ∷ stack) ≡ verdict most left stack
+        → (stack : List Pending) → levels stack ≡ depth → verdict most items (body ∷ stack) ≡ verdict most left stack
     body_run (g.body_newline more) stack h = body_run more stack h
     body_run (g.body_list {items = items} list) stack h = list_body most items stack (list_begins list) ∙ list_run list stack h
 
     pub list_run : {depth : ℕ} {items left : List Item} {list : ListTree} → IsList views most depth items list left
-        → (stack : List Part) → levels stack ≡ depth → verdict most items (a_pipeline ∷ joins ∷ separator ∷ stack) ≡ verdict most left stack
+        → (stack : List Pending) → levels stack ≡ depth → verdict most items (a_pipeline ∷ joins ∷ separator ∷ stack) ≡ verdict most left stack
     list_run (g.is_list first others more) stack h =
         pipeline_run first (joins ∷ separator ∷ stack) h ∙ joined_run others (separator ∷ stack) h ∙ separated_run more stack h
 
     pub separated_run : {depth : ℕ} {items left : List Item} {list : ListTree} → IsSeparated views most depth items list left
-        → (stack : List Part) → levels stack ≡ depth → verdict most items (separator ∷ stack) ≡ verdict most left stack
+        → (stack : List Pending) → levels stack ≡ depth → verdict most items (separator ∷ stack) ≡ verdict most left stack
     separated_run (g.no_separator {items = items} none) stack h = left_out most separator is_separator items stack refl separator_skips none
     separated_run (g.by_semicolon more) stack h = again_run more stack h
     separated_run (g.by_newline more) stack h = again_run more stack h
 
     pub joined_run : {depth : ℕ} {items left : List Item} {others : JoinedTrees} → IsJoined views most depth items others left
-        → (stack : List Part) → levels stack ≡ depth → verdict most items (joins ∷ stack) ≡ verdict most left stack
+        → (stack : List Pending) → levels stack ≡ depth → verdict most items (joins ∷ stack) ≡ verdict most left stack
     joined_run (g.last_pipeline {items = items} none) stack h = left_out most joins is_join items stack refl join_skips none
     joined_run (g.join first others) stack h = next_pipeline_run first (joins ∷ stack) h ∙ joined_run others stack h
 
     pub next_pipeline_run : {depth : ℕ} {items left : List Item} {tree : PipelineTree} → IsNextPipeline views most depth items tree left
-        → (stack : List Part) → levels stack ≡ depth → verdict most items (next_pipeline ∷ stack) ≡ verdict most left stack
+        → (stack : List Pending) → levels stack ≡ depth → verdict most items (next_pipeline ∷ stack) ≡ verdict most left stack
     next_pipeline_run (g.newline_pipeline more) stack h = next_pipeline_run more stack h
     next_pipeline_run (g.next_pipeline {items = items} first) stack h =
         pipeline_next most items stack (pipeline_begins first) ∙ pipeline_run first stack h
 
     pub pipeline_run : {depth : ℕ} {items left : List Item} {tree : PipelineTree} → IsPipeline views most depth items tree left
-        → (stack : List Part) → levels stack ≡ depth → verdict most items (a_pipeline ∷ stack) ≡ verdict most left stack
+        → (stack : List Pending) → levels stack ≡ depth → verdict most items (a_pipeline ∷ stack) ≡ verdict most left stack
     pipeline_run (g.negated first others) stack h = command_run first (pipes ∷ stack) h ∙ piped_run others stack h
     pipeline_run (g.plain {items = items} first others) stack h =
         command_pipeline most items stack (command_begins first) ∙ command_run first (pipes ∷ stack) h ∙ piped_run others stack h
 
     pub piped_run : {depth : ℕ} {items left : List Item} {others : CommandTrees} → IsPiped views most depth items others left
-        → (stack : List Part) → levels stack ≡ depth → verdict most items (pipes ∷ stack) ≡ verdict most left stack
+        → (stack : List Pending) → levels stack ≡ depth → verdict most items (pipes ∷ stack) ≡ verdict most left stack
     piped_run (g.last_command {items = items} none) stack h = left_out most pipes is_pipe items stack refl pipe_skips none
     piped_run (g.pipe first others) stack h = next_command_run first (pipes ∷ stack) h ∙ piped_run others stack h
 
     pub next_command_run : {depth : ℕ} {items left : List Item} {tree : CommandTree} → IsNextCommand views most depth items tree left
-        → (stack : List Part) → levels stack ≡ depth → verdict most items (next_command ∷ stack) ≡ verdict most left stack
+        → (stack : List Pending) → levels stack ≡ depth → verdict most items (next_command ∷ stack) ≡ verdict most left stack
     next_command_run (g.newline_command more) stack h = next_command_run more stack h
     next_command_run (g.next_command {items = items} first) stack h =
         command_next most items stack (command_begins first) ∙ command_run first stack h
 
     pub command_run : {depth : ℕ} {items left : List Item} {tree : CommandTree} → IsCommand views most depth items tree left
-        → (stack : List Part) → levels stack ≡ depth → verdict most items (a_command ∷ stack) ≡ verdict most left stack
+        → (stack : List Pending) → levels stack ≡ depth → verdict most items (a_command ∷ stack) ≡ verdict most left stack
     command_run (g.is_simple {items = items} first others) stack h =
         piece_as_command most items stack (piece_begins first) ∙ piece_run first stack h ∙ pieces_run others stack h
     command_run (g.is_group {depth = depth} less list redirs) stack h =
@@ -375,14 +375,14 @@ module _ {views : WordViews} {most : ℕ} where
 
     pub branches_run : {depth : ℕ} {items left : List Item} {others : BranchTrees} {otherwise : ElseTree}
         → IsBranches views most depth items others otherwise left
-        → (stack : List Part) → levels stack + 1 ≡ depth → verdict most items (branches ∷ stack) ≡ verdict most left stack
+        → (stack : List Pending) → levels stack + 1 ≡ depth → verdict most items (branches ∷ stack) ≡ verdict most left stack
     branches_run (g.elif_branch condition then_list others) stack h =
         body_run condition (then_body ∷ stack) h ∙ body_run then_list (branches ∷ stack) h ∙ branches_run others stack h
     branches_run (g.else_branch list) stack h = body_run list (end_if ∷ stack) h
     branches_run g.no_more stack h = refl
 
     pub loop_head_run : {depth : ℕ} {items left : List Item} {among : InTree} → IsLoopHead views most depth items among left
-        → (stack : List Part) → levels stack + 1 ≡ depth
+        → (stack : List Pending) → levels stack + 1 ≡ depth
         → verdict most items (loop_head ∷ stack) ≡ verdict most left (body ∷ end_loop ∷ stack)
     loop_head_run g.head_do stack h = refl
     loop_head_run (g.head_semicolon more) stack h = do_run most more stack
@@ -390,21 +390,21 @@ module _ {views : WordViews} {most : ℕ} where
     loop_head_run (g.head_in among more) stack h = pieces_run among (loop_separator ∷ stack) h ∙ separator_run most more stack
 
     pub loop_lines_run : {depth : ℕ} {items left : List Item} {among : InTree} → IsLoopLines views most depth items among left
-        → (stack : List Part) → levels stack + 1 ≡ depth
+        → (stack : List Pending) → levels stack + 1 ≡ depth
         → verdict most items (loop_lines ∷ stack) ≡ verdict most left (body ∷ end_loop ∷ stack)
     loop_lines_run g.lines_do stack h = refl
     loop_lines_run (g.lines_newline more) stack h = loop_lines_run more stack h
     loop_lines_run (g.lines_in among more) stack h = pieces_run among (loop_separator ∷ stack) h ∙ separator_run most more stack
 
-    pub pieces_run : {depth : ℕ} {at : Place} {items left : List Item} {found : List Piece} → IsPieces views most depth at items found left
-        → (stack : List Part) → levels stack ≡ depth → verdict most items (pieces at ∷ stack) ≡ verdict most left stack
+    pub pieces_run : {depth : ℕ} {at : Slot} {items left : List Item} {found : List Piece} → IsPieces views most depth at items found left
+        → (stack : List Pending) → levels stack ≡ depth → verdict most items (pieces at ∷ stack) ≡ verdict most left stack
     pieces_run (g.last_piece {at = at} {items = items} none) stack h =
         left_out most (pieces at) (begins_piece at) items stack refl (piece_skips at) none
     pieces_run (g.more_pieces first others) stack h = piece_run first stack h ∙ pieces_run others stack h
 
-    pub piece_run : {depth : ℕ} {at behind : Place} {items left : List Item} {piece : Piece}
+    pub piece_run : {depth : ℕ} {at behind : Slot} {items left : List Item} {piece : Piece}
         → IsPiece views most depth at items piece behind left
-        → (stack : List Part) → levels stack ≡ depth → verdict most items (pieces at ∷ stack) ≡ verdict most left (pieces behind ∷ stack)
+        → (stack : List Pending) → levels stack ≡ depth → verdict most items (pieces at ∷ stack) ≡ verdict most left (pieces behind ∷ stack)
     piece_run (g.is_assign {spot = spot} {kind = kind} {at = at} {items = items} u subs) stack h =
         on_push most (pieces spot) (token.Word kind at) items (substitutions ∷ pieces place.BeforeName ∷ []) stack (ap word_by u)
         ∙ subs_run subs (pieces place.BeforeName ∷ stack) h
@@ -421,7 +421,7 @@ module _ {views : WordViews} {most : ℕ} where
         ∙ subs_run subs (pieces behind ∷ stack) h
 
     pub subs_run : {depth : ℕ} {items left : List Item} {subs : SubTrees} → IsSubs views most depth items subs left
-        → (stack : List Part) → levels stack ≡ depth → verdict most items (substitutions ∷ stack) ≡ verdict most left stack
+        → (stack : List Pending) → levels stack ≡ depth → verdict most items (substitutions ∷ stack) ≡ verdict most left stack
     subs_run (g.last_sub {items = items} none) stack h = left_out most substitutions is_sub_open items stack refl sub_skips none
     subs_run (g.next_sub {depth = depth} less list others) stack h =
         on_true _ _ _ (fits depth most (levels stack) less h)

@@ -22,8 +22,8 @@ use Rattle.sh_lex.proofs.EndLemmas.{IsLower, substitution_ends}
 use Rattle.sh_lex.proofs.Shrinking.{Shrinks}
 use Rattle.sh_lex.proofs.Shorter.{act-Shrinks}
 use Rattle.sh_lex.specs.declared.parts.Nest.{Nest}
-use Rattle.sh_lex.specs.declared.parts.Part.{Part}
-use Rattle.sh_lex.specs.declared.parts.Part.TheVariants as part
+use Rattle.sh_lex.specs.declared.parts.Construct.{Construct}
+use Rattle.sh_lex.specs.declared.parts.Construct.TheVariants as part
 use Rattle.sh_lex.specs.declared.parts.Spot.{Spot}
 use Rattle.sh_lex.specs.declared.parts.Spot.TheVariants as spot
 use Rattle.sh_lex.specs.declared.parts.Fault.TheVariants as fault
@@ -100,7 +100,7 @@ module _ (total : ℕ) where
   seen_at-nested spot.Value text = behind-nested text (unspliced text)
   seen_at-nested spot.Elsewhere text = behind-nested text (unspliced text)
 
-  seen-nested : (construct : Part) (text : List ℕ) → Nested (seen total construct text)
+  seen-nested : (construct : Construct) (text : List ℕ) → Nested (seen total construct text)
   seen-nested (part.Commands nest (Some place) at) text = seen_at-nested at text
   seen-nested (part.Commands nest None at) text = none_nested
   seen-nested part.Name text = none_nested
@@ -116,13 +116,13 @@ module _ (total : ℕ) where
   entered-nested text rest (entry.Substitution place) i o = sub_nested i o
   entered-nested text rest entry.Other i o = nested-append i o
 
-  pub marked-nested : {construct : Part} {text left : List ℕ} {found : List Mark} → Marked total construct text found left → Nested found
+  pub marked-nested : {construct : Construct} {text left : List ℕ} {found : List Mark} → Marked total construct text found left → Nested found
   marked-nested (marks_on {construct = construct} {text = text} e more) = nested-append (seen-nested construct text) (marked-nested more)
   marked-nested (marks_inner {construct = construct} {inner = inner} {outer = outer} {text = text} {rest = rest} e inside outside) =
       nested-append (seen-nested construct text) (entered-nested text rest (entry_of inner outer) (marked-nested inside) (marked-nested outside))
   marked-nested (marks_end {construct = construct} {text = text} e) = seen-nested construct text
 
-  leaves : {construct : Part} {text left : List ℕ} {found : List Mark} → Marked total construct text found left → length left ≤ length text
+  leaves : {construct : Construct} {text left : List ℕ} {found : List Mark} → Marked total construct text found left → length left ≤ length text
   leaves marked = Reads-Leaves (marked_reads marked)
 
   -- a name is a run of bytes, and has no mark in it
@@ -130,7 +130,7 @@ module _ (total : ℕ) where
     run : left ≡ behind_run is_name_byte text
     bare : found ≡ []
 
-  name_goes : (text rest left : List ℕ) (next : Part) (found : List Mark) (front : List ℕ) → unspliced text ≡ front → name_at text front ≡ goes next rest
+  name_goes : (text rest left : List ℕ) (next : Construct) (found : List Mark) (front : List ℕ) → unspliced text ≡ front → name_at text front ≡ goes next rest
       → (next ≡ part.Name → IsRun rest left found) → IsRun text left found
   name_goes text rest left next found [] is e more = absurd cc
   name_goes text rest left next found (byte ∷ behind) is e more = by_test (is_name_byte byte) refl e
@@ -146,7 +146,7 @@ module _ (total : ℕ) where
           }
       by_test false stops e = absurd cc
 
-  name_enters : (text rest : List ℕ) (inner outer : Part) (front : List ℕ) → name_at text front ≡ enters inner outer rest → ⊥
+  name_enters : (text rest : List ℕ) (inner outer : Construct) (front : List ℕ) → name_at text front ≡ enters inner outer rest → ⊥
   name_enters text rest inner outer [] e = cc
   name_enters text rest inner outer (byte ∷ behind) e = by_test (is_name_byte byte) e
     where
@@ -162,7 +162,7 @@ module _ (total : ℕ) where
       by_test true passes e = absurd cc
       by_test false stops e = let same : rest ≡ text = cc in same ∙ sym (behind_run-other is_name_byte byte behind text is stops)
 
-  name-run : {construct : Part} {text left : List ℕ} {found : List Mark} → Marked total construct text found left → construct ≡ part.Name → IsRun text left found
+  name-run : {construct : Construct} {text left : List ℕ} {found : List Mark} → Marked total construct text found left → construct ≡ part.Name → IsRun text left found
   name-run (marks_on {next = next} {text = text} {rest = rest} {left = left} {found = found} e more) is =
       let so = name_goes text rest left next found (unspliced text) refl (subst (λ it. act it text ≡ goes next rest) is e) (λ is_name. name-run more is_name) in
       record { run = so.run; bare = ap (λ it. seen total it text ++ found) is ∙ so.bare }
@@ -179,13 +179,13 @@ module _ (total : ℕ) where
     there : left ≡ rest
     bare : found ≡ []
 
-  ends_at_once : {construct : Part} {text left : List ℕ} {found : List Mark} (rest : List ℕ) → Marked total construct text found left
+  ends_at_once : {construct : Construct} {text left : List ℕ} {found : List Mark} (rest : List ℕ) → Marked total construct text found left
       → seen total construct text ≡ [] → act construct text ≡ ends rest → EndsAtOnce rest left found
   ends_at_once rest (marks_on e more) bare is = absurd cc
   ends_at_once rest (marks_inner e inside outside) bare is = absurd cc
   ends_at_once rest (marks_end {rest = end} e) bare is = let same : end ≡ rest = cc in record { there = same; bare = bare }
 
-  shrunk : {construct : Part} {text left : List ℕ} {found : List Mark} (count : ℕ) → Marked total construct text found left
+  shrunk : {construct : Construct} {text left : List ℕ} {found : List Mark} (count : ℕ) → Marked total construct text found left
       → Shrinks count (act construct text) → length left ≤ count
   shrunk count (marks_on {next = next} {rest = rest} e more) s =
       let fewer : length rest < count = subst (Shrinks count) e s in let less = leaves more in omega (arith, fewer, less)
@@ -249,7 +249,7 @@ module _ (total : ℕ) where
       = is ∙ ap left_by (Reads-same passed (subst (λ it. Reads in_commands it (past first.left)) (sym bytes) copied)) in
       subst (λ it. Cut tail after it) (sym place) first.cut
 
-  seen-bare : {construct : Part} {in_mode : Mode} → Fits construct in_mode → (text : List ℕ) → seen total construct text ≡ []
+  seen-bare : {construct : Construct} {in_mode : Mode} → Fits construct in_mode → (text : List ℕ) → seen total construct text ≡ []
   seen-bare (fits_word is) text = refl
   seen-bare fits_string text = refl
   seen-bare fits_braces text = refl
@@ -264,7 +264,7 @@ module _ (total : ℕ) where
   word_entry nest spot.Value start is = refl
   word_entry nest spot.Elsewhere start is = refl
 
-  sub_entry : {outer : Part} {in_mode : Mode} → Fits outer in_mode → (start : ℕ) → entry_in start outer ≡ entry.Substitution start
+  sub_entry : {outer : Construct} {in_mode : Mode} → Fits outer in_mode → (start : ℕ) → entry_in start outer ≡ entry.Substitution start
   sub_entry (fits_word {nest = nest} {at = at} is) start = word_entry nest at start is
   sub_entry fits_string start = refl
   sub_entry fits_braces start = refl
@@ -289,11 +289,11 @@ module _ (total : ℕ) where
       pub grouped : Grouped count found
       pub reads : Left in_mode copy (number + count) last rest
 
-    abbrev Scans : Part → List ℕ → List Mark → List ℕ → Type 0
+    abbrev Scans : Construct → List ℕ → List Mark → List ℕ → Type 0
     Scans construct text found left = (in_mode : Mode) (does : Step) → seen total construct text ≡ [] → Agree tail in_mode (act construct text) does
         → (number last : ℕ) (rest : List ℕ) → TakesBy in_mode does number last rest → Scanned in_mode left found number last rest
 
-    by_reading : (construct : Part) (text left : List ℕ) (found : List Mark) (in_mode : Mode) (copy : List ℕ) → Scans construct text found left
+    by_reading : (construct : Construct) (text left : List ℕ) (found : List Mark) (in_mode : Mode) (copy : List ℕ) → Scans construct text found left
         → Fits construct in_mode → Cut tail text copy → (number last : ℕ) (rest : List ℕ) → Takes in_mode number copy last rest
         → Scanned in_mode left found number last rest
     by_reading construct text left found in_mode copy scans fits cut number last rest takes =
@@ -310,7 +310,7 @@ module _ (total : ℕ) where
           reads = subst (λ n. Left in_mode so.copy n last rest) (both_more number count so.count) so.reads;
         }
 
-    go_scanned : (in_mode : Mode) (does : Step) (construct next : Part) (text rest left : List ℕ) (found : List Mark) → Marked total next rest found left
+    go_scanned : (in_mode : Mode) (does : Step) (construct next : Construct) (text rest left : List ℕ) (found : List Mark) → Marked total next rest found left
         → length tail ≤ length left → seen total construct text ≡ [] → Agree tail in_mode (goes next rest) does → Scans next rest found left
         → (number last : ℕ) (over : List ℕ) → TakesBy in_mode does number last over
         → Scanned in_mode left (seen total construct text ++ found) number last over
@@ -320,7 +320,7 @@ module _ (total : ℕ) where
     go_scanned in_mode does construct next text rest left found marked within bare (past_goes h) more number last over taken =
         let less = leaves marked in absurd (omega (arith, h, within, less))
 
-    end_scanned : (in_mode : Mode) (does : Step) (construct : Part) (text left : List ℕ) → length tail ≤ length left → seen total construct text ≡ []
+    end_scanned : (in_mode : Mode) (does : Step) (construct : Construct) (text left : List ℕ) → length tail ≤ length left → seen total construct text ≡ []
         → Agree tail in_mode (ends left) does → (number last : ℕ) (over : List ℕ) → TakesBy in_mode does number last over
         → Scanned in_mode left (seen total construct text) number last over
     end_scanned in_mode does construct text left within bare (agree_ends {copy = copy} cut reads) number last over taken =
@@ -334,7 +334,7 @@ module _ (total : ℕ) where
     end_scanned in_mode does construct text left within bare (past_ends h) number last over taken = absurd (omega (arith, h, within))
 
     -- behind a name
-    name_on : (in_mode : Mode) (outer : Part) (after left : List ℕ) (two : List Mark) (number last : ℕ) (over copy : List ℕ) {behind bytes others : List ℕ}
+    name_on : (in_mode : Mode) (outer : Construct) (after left : List ℕ) (two : List Mark) (number last : ℕ) (over copy : List ℕ) {behind bytes others : List ℕ}
         → after ≡ behind → length tail ≤ length after → RunCut tail behind copy bytes others → Fits outer in_mode → Scans outer after two left
         → Takes in_mode number copy last over → Scanned in_mode left two number last over
     name_on in_mode outer after left two number last over copy same within (run_cut cut) fits more takes =
@@ -342,7 +342,7 @@ module _ (total : ℕ) where
     name_on in_mode outer after left two number last over copy same within (run_past h at_end) fits more takes =
         let long = ap length same in absurd (omega (arith, h, within, long))
 
-    module _ (in_mode : Mode) (outer : Part) (after left : List ℕ) (one two : List Mark) (number last : ℕ) (over : List ℕ) (fits : Fits outer in_mode)
+    module _ (in_mode : Mode) (outer : Construct) (after left : List ℕ) (one two : List Mark) (number last : ℕ) (over : List ℕ) (fits : Fits outer in_mode)
         (within : length tail ≤ length after) (outside : Scans outer after two left) where
       -- behind what ends where these bytes of the copy are left, and has had so many substitutions
       behind : (count middle : ℕ) (copy place : List ℕ) → Grouped count one → Cut tail after copy → middle ≡ number + count → place ≡ copy
@@ -375,7 +375,7 @@ module _ (total : ℕ) where
       head_on nest start is_quoted rest middle place found is without_form marked inside form takes = absurd form
 
     -- a construct that opens in another
-    entered : (in_mode : Mode) (does : Step) (inner outer : Part) (text rest after left : List ℕ) (one two : List Mark) → Marked total inner rest one after
+    entered : (in_mode : Mode) (does : Step) (inner outer : Construct) (text rest after left : List ℕ) (one two : List Mark) → Marked total inner rest one after
         → length tail ≤ length after → Fits outer in_mode → Enters tail in_mode inner rest does → Scans inner rest one after → Scans outer after two left
         → (number last : ℕ) (over : List ℕ) → TakesBy in_mode does number last over
         → Scanned in_mode left (opening total text rest (entry_of inner outer) ++ (one ++ (closing (entry_of inner outer) ++ two))) number last over
@@ -431,7 +431,7 @@ module _ (total : ℕ) where
     entered in_mode does (part.Commands nest (Some start) spot.Elsewhere) outer text rest after left one two marked within fits into inside outside number last over taken =
         absurd into
 
-    enter_scanned : (in_mode : Mode) (does : Step) (construct inner outer : Part) (text rest after left : List ℕ) (one two : List Mark)
+    enter_scanned : (in_mode : Mode) (does : Step) (construct inner outer : Construct) (text rest after left : List ℕ) (one two : List Mark)
         → Marked total inner rest one after → length tail ≤ length after → seen total construct text ≡ [] → Agree tail in_mode (enters inner outer rest) does
         → Scans inner rest one after → Scans outer after two left → (number last : ℕ) (over : List ℕ) → TakesBy in_mode does number last over
         → Scanned in_mode left (seen total construct text ++ (opening total text rest (entry_of inner outer) ++ (one ++ (closing (entry_of inner outer) ++ two)))) number last over
@@ -441,7 +441,7 @@ module _ (total : ℕ) where
     enter_scanned in_mode does construct inner outer text rest after left one two marked within bare (past_enters h) inside outside number last over taken =
         let less = leaves marked in absurd (omega (arith, h, within, less))
 
-    scanned : {construct : Part} {text left : List ℕ} {found : List Mark} → Marked total construct text found left → length tail ≤ length left
+    scanned : {construct : Construct} {text left : List ℕ} {found : List Mark} → Marked total construct text found left → length tail ≤ length left
         → Scans construct text found left
     scanned (marks_on {construct = construct} {next = next} {text = text} {rest = rest} {left = left} {found = found} e more) within in_mode does bare agree number last over taken =
         go_scanned in_mode does construct next text rest left found more within bare (subst (λ a. Agree tail in_mode a does) e agree) (scanned more within)

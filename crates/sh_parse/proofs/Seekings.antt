@@ -1,6 +1,6 @@
 -- One step of the code that seeks the first misuse.
 use Rattle.std.proofs.Common.{◌≡◌, ◌⊎◌, inl, inr, true, false, List, [], ◌∷◌, ◌++◌, sym, ap}
-use Rattle.sh_parse.specs.Inner.Owed.{Part, Move, push, opens, skip, stuck, move, moved, step}
+use Rattle.sh_parse.specs.Inner.Owed.{Pending, Move, push, opens, skip, stuck, move, moved, step}
 use Rattle.sh_parse.specs.Inner.Moves.{owing_of}
 use Rattle.sh_parse.specs.Inner.Seeking.{takes, may_open, owed_behind}
 use Rattle.sh_parse.proofs.Checks.{push_is, opens_is, skip_is, stuck_is}
@@ -10,11 +10,11 @@ use Rattle.sh_parse.specs.declared.parts.Parts.{Parts}
 use Rattle.sh_parse.specs.declared.parts.Move.TheVariants as by
 use Rattle.sh_parse.specs.declared.parts.Owing.{Owing}
 
-module _ (first : Item) (part : Part) (stack : List Part) where
+module _ (first : Item) (part : Pending) (stack : List Pending) where
   by_move : (m : Move) → move part first ≡ m → step (part ∷ stack) first ≡ moved m stack (step stack first)
   by_move m e = ap (λ x. moved x stack (step stack first)) e
 
-  pub step_goes : (parts : List Part) → (move part first ≡ push parts) ⊎ (move part first ≡ opens parts)
+  pub step_goes : (parts : List Pending) → (move part first ≡ push parts) ⊎ (move part first ≡ opens parts)
       → owed_behind (step (part ∷ stack) first) ≡ parts ++ stack
   step_goes parts (inl e) = ap owed_behind (by_move (push parts) e)
   step_goes parts (inr e) = ap owed_behind (by_move (opens parts) e)
@@ -25,7 +25,7 @@ module _ (first : Item) (part : Part) (stack : List Part) where
   pub step_stuck : move part first ≡ stuck → owed_behind (step (part ∷ stack) first) ≡ []
   step_stuck e = ap owed_behind (by_move stuck e)
 
-module _ (part : Part) (below : List Part) (owing : Owing) (same : owing_of owing ≡ move part (item.Open 0)) where
+module _ (part : Pending) (below : List Pending) (owing : Owing) (same : owing_of owing ≡ move part (item.Open 0)) where
   by_open : (m : Move) → move part (item.Open 0) ≡ m → may_open (part ∷ below) ≡ takes m (may_open below)
   by_open m e = ap (λ x. takes x (may_open below)) e
 

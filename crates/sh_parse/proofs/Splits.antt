@@ -23,8 +23,8 @@ use Rattle.sh_lex.specs.declared.lexing.marks.Entry.{Entry}
 use Rattle.sh_lex.specs.declared.tokens.TokenKind.{TokenKind}
 use Rattle.sh_lex.specs.declared.tokens.TokenKind.TheVariants as kind
 use Rattle.sh_lex.specs.declared.parts.Nest.{Nest}
-use Rattle.sh_lex.specs.declared.parts.Part.{Part}
-use Rattle.sh_lex.specs.declared.parts.Part.TheVariants as part
+use Rattle.sh_lex.specs.declared.parts.Construct.{Construct}
+use Rattle.sh_lex.specs.declared.parts.Construct.TheVariants as part
 use Rattle.sh_lex.specs.declared.parts.Spot.{Spot}
 use Rattle.sh_lex.specs.declared.parts.Spot.TheVariants as spot
 use Rattle.sh_lex.specs.declared.parts.Fault.{Fault}
@@ -39,7 +39,7 @@ use Rattle.sh_parse.proofs.Continuing.{flat}
 pub data WordActs (nest : Nest) (opened : ℕ) : Act → Act → Type 0 where
   both_go : {at : Spot} {rest : List ℕ} → IsWordSpot at
       → WordActs nest opened (goes (part.Commands nest (Some opened) at) rest) (goes (part.Commands nest None at) rest)
-  both_enter : {inner : Part} {at : Spot} {rest : List ℕ} → IsWordSpot at
+  both_enter : {inner : Construct} {at : Spot} {rest : List ℕ} → IsWordSpot at
       → WordActs nest opened (enters inner (part.Commands nest (Some opened) at) rest) (enters inner (part.Commands nest None at) rest)
   both_offend : {fault : Fault} → WordActs nest opened (offends fault) (offends fault)
 
@@ -61,7 +61,7 @@ module _ (nest : Nest) (opened : ℕ) where
   token_never_ends both_offend rest e = cc
 
   module _ (left : ℕ) (at : Spot) (is : IsWordSpot at) where
-    opening-acts : (inner : Part) (rest : List ℕ) → WordActs nest opened (opening nest left inner (part.Commands nest (Some opened) at) rest)
+    opening-acts : (inner : Construct) (rest : List ℕ) → WordActs nest opened (opening nest left inner (part.Commands nest (Some opened) at) rest)
         (opening nest left inner (part.Commands nest None at) rest)
     opening-acts inner rest = acts_if (nat_lt nest.levels MAX_LEVELS) (both_enter is) both_offend
 
@@ -101,7 +101,7 @@ module _ (nest : Nest) (opened : ℕ) where
       (acts_if (byte == DOLLAR) (dollar-acts (length rest + 1) (spot_past at) (past-spot at) false rest (unspliced rest))
       (acts_if ((byte == TILDE) && is_tilde_spot at) both_offend (both_go (behind-spot at byte)))))))
 
-  pub entry_same : (inner : Part) (at : Spot) → IsWordSpot at → entry_of inner (part.Commands nest (Some opened) at) ≡ entry_of inner (part.Commands nest None at)
+  pub entry_same : (inner : Construct) (at : Spot) → IsWordSpot at → entry_of inner (part.Commands nest (Some opened) at) ≡ entry_of inner (part.Commands nest None at)
   entry_same (part.Commands other (Some left) place) at is = by_spot at is
     where
       by_spot : (at : Spot) → IsWordSpot at → entry_in left (part.Commands nest (Some opened) at) ≡ entry_in left (part.Commands nest None at)
@@ -192,14 +192,14 @@ module _ (total : ℕ) (nest : Nest) (opened : ℕ) where
   ended at text left found more over same behind =
       record { tail = text; inside = []; more = more; as_token = marks_end over; behind = behind; same = same }
 
-  go_split : (at : Spot) (text rest left : List ℕ) (found : List Mark) {next : Part} {other : Act} → WordActs nest opened (goes next rest) other
+  go_split : (at : Spot) (text rest left : List ℕ) (found : List Mark) {next : Construct} {other : Act} → WordActs nest opened (goes next rest) other
       → act (part.Commands nest None at) text ≡ other
       → ((place : Spot) → next ≡ part.Commands nest (Some opened) place → IsWordSpot place → Split place rest left found) → Split at text left found
   go_split at text rest left found (both_go {at = place} is) e more =
       let so = more place refl is in
       record { tail = so.tail; inside = so.inside; more = so.more; as_token = marks_on e so.as_token; behind = so.behind; same = so.same }
 
-  enter_split : (at : Spot) (text rest after left : List ℕ) (inner : Part) (one two : List Mark) {outer : Part} {other : Act}
+  enter_split : (at : Spot) (text rest after left : List ℕ) (inner : Construct) (one two : List Mark) {outer : Construct} {other : Act}
       → WordActs nest opened (enters inner outer rest) other → act (part.Commands nest None at) text ≡ other → Marked total inner rest one after
       → ((place : Spot) → outer ≡ part.Commands nest (Some opened) place → IsWordSpot place → Split place after left two)
       → Split at text left (marks.opening total text rest (entry_of inner outer) ++ (one ++ (closing (entry_of inner outer) ++ two)))
@@ -218,7 +218,7 @@ module _ (total : ℕ) (nest : Nest) (opened : ℕ) where
             ∙ sym (flat [] (marks.opening total text rest by) one (closing by) so.inside last);
       }
 
-  pub split : {construct : Part} {text left : List ℕ} {found : List Mark} → Marked total construct text found left → (at : Spot)
+  pub split : {construct : Construct} {text left : List ℕ} {found : List Mark} → Marked total construct text found left → (at : Spot)
       → construct ≡ part.Commands nest (Some opened) at → IsWordSpot at → Split at text left found
   split (marks_on {construct = construct} {next = next} {text = text} {rest = rest} {left = left} {found = found} e more) at same is =
       let does = sym (ap (λ it. act it text) same) ∙ e in

@@ -9,7 +9,7 @@ use Rattle.sh_lex.proofs.Marked.{has_marks}
 use Rattle.sh_lex.specs.declared.lexing.marks.Mark.{Mark}
 use Rattle.sh_lex.specs.declared.lexing.marks.Mark.TheVariants as mark
 use Rattle.sh_lex.specs.declared.parts.Fault.{Fault}
-use Rattle.sh_lex.specs.declared.parts.Part.{Part}
+use Rattle.sh_lex.specs.declared.parts.Construct.{Construct}
 use Rattle.sh_lex.specs.declared.tokens.Token.{Token}
 use Rattle.sh_lex.specs.declared.tokens.TokenKind.TheVariants as kind
 use Rattle.sh_lex.specs.declared.tokens.Op.TheVariants as op
@@ -18,7 +18,7 @@ use Rattle.sh_parse.specs.declared.items.Item.{Item}
 
 module _ (total : ℕ) where
   -- a construct that is read has marks
-  reads_marked : {construct : Part} {text left : List ℕ} → Reads construct text (past left)
+  reads_marked : {construct : Construct} {text left : List ℕ} → Reads construct text (past left)
       → (found : List Mark) × Marked total construct text found left
   reads_marked {construct = construct} {text = text} (goes_on e more) =
       let (found, marked) = reads_marked more in (seen total construct text ++ found, marks_on e marked)

@@ -4,7 +4,7 @@ use Rattle.std.proofs.lemmas.Bool.{le-leb, leb-true, leb-false}
 use Rattle.std.proofs.lemmas.List.{append-nil}
 use Rattle.sh_tree.specs.Trees.{ScriptTree}
 use Rattle.sh_parse.specs.Pieces.{WordViews}
-use Rattle.sh_parse.specs.Inner.Owed.{Part, Next, Verdict, again, step, levels, verdict, verdict_behind, may_end, goes, deeper, fails, fine, bad, deep}
+use Rattle.sh_parse.specs.Inner.Owed.{Pending, Next, Verdict, again, step, levels, verdict, verdict_behind, may_end, goes, deeper, fails, fine, bad, deep}
 use Rattle.sh_parse.specs.Grammar.{IsAgain, Reads, script_of}
 use Rattle.sh_parse.specs.Stops.{Begins, EndsHere, StopsBad, StopsDeep, Stop, HasScript, HasStop, HasOneOutcome, offset_left}
 use Rattle.sh_parse.proofs.Runs.{again_run}
@@ -13,20 +13,20 @@ use Rattle.sh_parse.proofs.Unique.{again_one}
 use Rattle.sh_parse.proofs.Completes.{Sound, anything, finish, completes, step_sound, NextSound}
 use Rattle.sh_parse.specs.declared.items.Item.{Item}
 use Rattle.sh_parse.specs.declared.items.TheConstants.{MAX_LEVELS}
-use Rattle.sh_parse.specs.declared.refusals.Refusal.{Refusal}
-use Rattle.sh_parse.specs.declared.refusals.Refusal.TheVariants as refusal
+use Rattle.sh_parse.specs.declared.refusals.SyntaxRefusal.{SyntaxRefusal}
+use Rattle.sh_parse.specs.declared.refusals.SyntaxRefusal.TheVariants as refusal
 
 -- the stack behind items, and how the verdict passes over them where at least `most` levels may be open
-pub record Trail (most : ℕ) (read : List Item) (stack owed : List Part) : Type 0 where
+pub record Trail (most : ℕ) (read : List Item) (stack owed : List Pending) : Type 0 where
   pub passes : (many : ℕ) (more : List Item) → most ≤ many → verdict many (read ++ more) stack ≡ verdict many more owed
   pub fine_behind : (many : ℕ) (more : List Item) → verdict many (read ++ more) stack ≡ fine → verdict many more owed ≡ fine
   pub sound : Sound anything stack → Sound anything owed
 
-no_trail : (most : ℕ) (stack : List Part) → Trail most [] stack stack
+no_trail : (most : ℕ) (stack : List Pending) → Trail most [] stack stack
 no_trail most stack = record { passes = λ many more less. refl; fine_behind = λ many more h. h; sound = λ h. h }
 
 -- one item more in front
-through_goes : (most : ℕ) (first : Item) (read : List Item) (stack behind owed : List Part) → step stack first ≡ goes behind
+through_goes : (most : ℕ) (first : Item) (read : List Item) (stack behind owed : List Pending) → step stack first ≡ goes behind
     → Trail most read behind owed → Trail most (first ∷ read) stack owed
 through_goes most first read stack behind owed e trail = record {
   passes = λ many more less. ap (λ n. verdict_behind many (length (read ++ more) + 1) (verdict many (read ++ more)) n) e ∙ trail.passes many more less;
@@ -42,7 +42,7 @@ fits_fine : (test : Bool) (rest : Verdict) (left : ℕ) → cond test rest (deep
 fits_fine true rest left h = (refl, h)
 fits_fine false rest left h = cc
 
-through_deeper : (most : ℕ) (first : Item) (read : List Item) (stack behind owed : List Part) → step stack first ≡ deeper behind
+through_deeper : (most : ℕ) (first : Item) (read : List Item) (stack behind owed : List Pending) → step stack first ≡ deeper behind
     → nat_le (levels behind) most ≡ true → Trail most read behind owed → Trail most (first ∷ read) stack owed
 through_deeper most first read stack behind owed e fits trail = record {
   passes = λ many more less.
@@ -58,25 +58,25 @@ through_deeper most first read stack behind owed e fits trail = record {
     wider count few many fits less = let small = leb-true count few fits in le-leb count many (omega arith)
 
 -- a verdict that isn't fine, by the items before it
-abbrev pub Fails : List Part → List Item → Type 0
+abbrev pub Fails : List Pending → List Item → Type 0
 Fails stack [] = may_end stack ≡ false
 Fails stack (next ∷ rest) = step stack next ≡ fails
 
-pub record BadTrail (most : ℕ) (items : List Item) (stack : List Part) (left : ℕ) : Type 0 where
+pub record BadTrail (most : ℕ) (items : List Item) (stack : List Pending) (left : ℕ) : Type 0 where
   pub read : List Item
   pub rest : List Item
-  pub owed : List Part
+  pub owed : List Pending
   pub whole : items ≡ read ++ rest
   pub place : length rest ≡ left
   pub trail : Trail most read stack owed
   pub failed : Fails owed rest
 
-pub record DeepTrail (most : ℕ) (items : List Item) (stack : List Part) (left : ℕ) : Type 0 where
+pub record DeepTrail (most : ℕ) (items : List Item) (stack : List Pending) (left : ℕ) : Type 0 where
   pub read : List Item
   pub next : Item
   pub rest : List Item
-  pub owed : List Part
-  pub behind : List Part
+  pub owed : List Pending
+  pub behind : List Pending
   pub whole : items ≡ read ++ next ∷ rest
   pub place : length rest + 1 ≡ left
   pub trail : Trail most read stack owed
@@ -90,7 +90,7 @@ deep_same : {one other : ℕ} → deep one ≡ deep other → one ≡ other
 deep_same e = cc
 
 module _ (most : ℕ) where
-  bad_end : (stack : List Part) (left : ℕ) (test : Bool) → may_end stack ≡ test → cond test fine (bad 0) ≡ bad left → BadTrail most [] stack left
+  bad_end : (stack : List Pending) (left : ℕ) (test : Bool) → may_end stack ≡ test → cond test fine (bad 0) ≡ bad left → BadTrail most [] stack left
   bad_end stack left true e h = cc
   bad_end stack left false e h = record {
     read = [];
@@ -102,7 +102,7 @@ module _ (most : ℕ) where
     failed = e;
   }
 
-  bad_goes : (first : Item) (rest : List Item) (stack behind : List Part) (left : ℕ) → step stack first ≡ goes behind
+  bad_goes : (first : Item) (rest : List Item) (stack behind : List Pending) (left : ℕ) → step stack first ≡ goes behind
       → BadTrail most rest behind left → BadTrail most (first ∷ rest) stack left
   bad_goes first rest stack behind left e t = record {
     read = first ∷ t.read;
@@ -114,7 +114,7 @@ module _ (most : ℕ) where
     failed = t.failed;
   }
 
-  bad_deeper : (first : Item) (rest : List Item) (stack behind : List Part) (left : ℕ) → step stack first ≡ deeper behind
+  bad_deeper : (first : Item) (rest : List Item) (stack behind : List Pending) (left : ℕ) → step stack first ≡ deeper behind
       → (test : Bool) → nat_le (levels behind) most ≡ test
       → ((count : ℕ) → verdict most rest behind ≡ bad count → BadTrail most rest behind count)
       → cond test (verdict most rest behind) (deep (length rest + 1)) ≡ bad left → BadTrail most (first ∷ rest) stack left
@@ -129,8 +129,8 @@ module _ (most : ℕ) where
   }
   bad_deeper first rest stack behind left e false fits more h = cc
 
-  bad_step : (first : Item) (rest : List Item) (stack : List Part) (left : ℕ) (next : Next) → step stack first ≡ next
-      → ((behind : List Part) (count : ℕ) → verdict most rest behind ≡ bad count → BadTrail most rest behind count)
+  bad_step : (first : Item) (rest : List Item) (stack : List Pending) (left : ℕ) (next : Next) → step stack first ≡ next
+      → ((behind : List Pending) (count : ℕ) → verdict most rest behind ≡ bad count → BadTrail most rest behind count)
       → verdict_behind most (length rest + 1) (verdict most rest) next ≡ bad left → BadTrail most (first ∷ rest) stack left
   bad_step first rest stack left (goes behind) e more h = bad_goes first rest stack behind left e (more behind left h)
   bad_step first rest stack left (deeper behind) e more h =
@@ -148,7 +148,7 @@ module _ (most : ℕ) where
       length_of : {count : ℕ} → length rest + 1 ≡ count → length (first ∷ rest) ≡ count
       length_of h = omega arith
 
-  pub bad_trail : (items : List Item) (stack : List Part) (left : ℕ) → verdict most items stack ≡ bad left → BadTrail most items stack left
+  pub bad_trail : (items : List Item) (stack : List Pending) (left : ℕ) → verdict most items stack ≡ bad left → BadTrail most items stack left
   bad_trail [] stack left h = bad_end stack left (may_end stack) refl h
   bad_trail (first ∷ rest) stack left h = bad_step first rest stack left (step stack first) refl (bad_trail rest) h
 
@@ -156,7 +156,7 @@ module _ (most : ℕ) where
   deep_end true left h = cc
   deep_end false left h = cc
 
-  deep_goes : (first : Item) (rest : List Item) (stack behind : List Part) (left : ℕ) → step stack first ≡ goes behind
+  deep_goes : (first : Item) (rest : List Item) (stack behind : List Pending) (left : ℕ) → step stack first ≡ goes behind
       → DeepTrail most rest behind left → DeepTrail most (first ∷ rest) stack left
   deep_goes first rest stack behind left e t = record {
     read = first ∷ t.read;
@@ -171,7 +171,7 @@ module _ (most : ℕ) where
     over = t.over;
   }
 
-  deep_deeper : (first : Item) (rest : List Item) (stack behind : List Part) (left : ℕ) → step stack first ≡ deeper behind
+  deep_deeper : (first : Item) (rest : List Item) (stack behind : List Pending) (left : ℕ) → step stack first ≡ deeper behind
       → (test : Bool) → nat_le (levels behind) most ≡ test
       → ((count : ℕ) → verdict most rest behind ≡ deep count → DeepTrail most rest behind count)
       → cond test (verdict most rest behind) (deep (length rest + 1)) ≡ deep left → DeepTrail most (first ∷ rest) stack left
@@ -200,25 +200,25 @@ module _ (most : ℕ) where
     over = over;
   }
 
-  deep_step : (first : Item) (rest : List Item) (stack : List Part) (left : ℕ) (next : Next) → step stack first ≡ next
-      → ((behind : List Part) (count : ℕ) → verdict most rest behind ≡ deep count → DeepTrail most rest behind count)
+  deep_step : (first : Item) (rest : List Item) (stack : List Pending) (left : ℕ) (next : Next) → step stack first ≡ next
+      → ((behind : List Pending) (count : ℕ) → verdict most rest behind ≡ deep count → DeepTrail most rest behind count)
       → verdict_behind most (length rest + 1) (verdict most rest) next ≡ deep left → DeepTrail most (first ∷ rest) stack left
   deep_step first rest stack left (goes behind) e more h = deep_goes first rest stack behind left e (more behind left h)
   deep_step first rest stack left (deeper behind) e more h =
       deep_deeper first rest stack behind left e (nat_le (levels behind) most) refl (more behind) h
   deep_step first rest stack left fails e more h = cc
 
-  pub deep_trail : (items : List Item) (stack : List Part) (left : ℕ) → verdict most items stack ≡ deep left → DeepTrail most items stack left
+  pub deep_trail : (items : List Item) (stack : List Pending) (left : ℕ) → verdict most items stack ≡ deep left → DeepTrail most items stack left
   deep_trail [] stack left h = absurd (deep_end (may_end stack) left h)
   deep_trail (first ∷ rest) stack left h = deep_step first rest stack left (step stack first) refl (deep_trail rest) h
 
   -- items that begin what is fine leave a trail
-  pub record FineTrail (read : List Item) (stack : List Part) : Type 0 where
-    pub owed : List Part
+  pub record FineTrail (read : List Item) (stack : List Pending) : Type 0 where
+    pub owed : List Pending
     pub trail : Trail most read stack owed
 
-  fine_step : (first : Item) (read more : List Item) (stack : List Part) (next : Next) → step stack first ≡ next
-      → ((behind : List Part) → verdict most (read ++ more) behind ≡ fine → FineTrail read behind)
+  fine_step : (first : Item) (read more : List Item) (stack : List Pending) (next : Next) → step stack first ≡ next
+      → ((behind : List Pending) → verdict most (read ++ more) behind ≡ fine → FineTrail read behind)
       → verdict_behind most (length (read ++ more) + 1) (verdict most (read ++ more)) next ≡ fine → FineTrail (first ∷ read) stack
   fine_step first read more stack (goes behind) e trails h =
       let t = trails behind h in record { owed = t.owed; trail = through_goes most first read stack behind t.owed e t.trail }
@@ -228,7 +228,7 @@ module _ (most : ℕ) where
       record { owed = t.owed; trail = through_deeper most first read stack behind t.owed e both.0 t.trail }
   fine_step first read more stack fails e trails h = cc
 
-  pub fine_trail : (read more : List Item) (stack : List Part) → verdict most (read ++ more) stack ≡ fine → FineTrail read stack
+  pub fine_trail : (read more : List Item) (stack : List Pending) → verdict most (read ++ more) stack ≡ fine → FineTrail read stack
   fine_trail [] more stack h = record { owed = stack; trail = no_trail most stack }
   fine_trail (first ∷ read) more stack h = fine_step first read more stack (step stack first) refl (fine_trail read more) h
 
@@ -244,7 +244,7 @@ fine_reads views most items h =
     (script_of list, (list, (subst (λ l. IsAgain views most 0 items list l) e is, refl)))
 
 module _ (views : WordViews) (most : ℕ) (items : List Item) where
-  begins_by : (many : ℕ) (read : List Item) (owed : List Part) → most ≤ many → Trail most read (again ∷ []) owed → Begins views many read
+  begins_by : (many : ℕ) (read : List Item) (owed : List Pending) → most ≤ many → Trail most read (again ∷ []) owed → Begins views many read
   begins_by many read owed less trail = (
     finish owed,
     fine_reads views many (read ++ finish owed)
@@ -258,10 +258,10 @@ module _ (views : WordViews) (most : ℕ) (items : List Item) where
   end_failed true e h = true_false e
   end_failed false e h = cc
 
-  step_failed : (many count : ℕ) (rest : List Part → Verdict) (next : Next) → next ≡ fails → verdict_behind many count rest next ≡ fine → ⊥
+  step_failed : (many count : ℕ) (rest : List Pending → Verdict) (next : Next) → next ≡ fails → verdict_behind many count rest next ≡ fine → ⊥
   step_failed many count rest next e h = cc
 
-  ends_by : (read rest : List Item) (owed : List Part) → Trail most read (again ∷ []) owed → Fails owed rest → EndsHere views read rest
+  ends_by : (read rest : List Item) (owed : List Pending) → Trail most read (again ∷ []) owed → Fails owed rest → EndsHere views read rest
   ends_by read [] owed trail failed = λ many script reads.
       end_failed (may_end owed) failed (trail.fine_behind many []
       (ap (λ i. verdict many i (again ∷ [])) (append-nil read) ∙ reads_fine views many read script reads))
@@ -285,7 +285,7 @@ module _ (views : WordViews) (most : ℕ) (items : List Item) where
       }
 
   -- an item that steps begins a script of some number of levels
-  next_begins : (read : List Item) (next : Item) (owed behind : List Part) (many : ℕ) → most ≤ many → Trail most read (again ∷ []) owed
+  next_begins : (read : List Item) (next : Item) (owed behind : List Pending) (many : ℕ) → most ≤ many → Trail most read (again ∷ []) owed
       → ((more : List Item) → verdict many (next ∷ more) owed ≡ verdict many more behind) → Sound anything behind
       → Begins views many (read ++ next ∷ [])
   next_begins read next owed behind many less trail steps sound = (
@@ -295,17 +295,17 @@ module _ (views : WordViews) (most : ℕ) (items : List Item) where
         ∙ trail.passes many (next ∷ finish behind) less ∙ steps (finish behind) ∙ completes many behind sound),
   )
 
-  goes_steps : (next : Item) (owed behind : List Part) → step owed next ≡ goes behind → (many : ℕ) (more : List Item)
+  goes_steps : (next : Item) (owed behind : List Pending) → step owed next ≡ goes behind → (many : ℕ) (more : List Item)
       → verdict many (next ∷ more) owed ≡ verdict many more behind
   goes_steps next owed behind e many more = ap (λ n. verdict_behind many (length more + 1) (verdict many more) n) e
 
-  deeper_steps : (next : Item) (owed behind : List Part) → step owed next ≡ deeper behind → (many : ℕ) → levels behind ≤ many
+  deeper_steps : (next : Item) (owed behind : List Pending) → step owed next ≡ deeper behind → (many : ℕ) → levels behind ≤ many
       → (more : List Item) → verdict many (next ∷ more) owed ≡ verdict many more behind
   deeper_steps next owed behind e many less more =
       ap (λ n. verdict_behind many (length more + 1) (verdict many more) n) e
       ∙ on_true (nat_le (levels behind) many) _ _ (le-leb (levels behind) many less)
 
-  deep_failed : (next : Item) (owed behind : List Part) → step owed next ≡ deeper behind → nat_le (levels behind) most ≡ false
+  deep_failed : (next : Item) (owed behind : List Pending) → step owed next ≡ deeper behind → nat_le (levels behind) most ≡ false
       → (more : List Item) → verdict most (next ∷ more) owed ≡ deep (length more + 1)
   deep_failed next owed behind e over more =
       ap (λ n. verdict_behind most (length more + 1) (verdict most more) n) e
@@ -314,7 +314,7 @@ module _ (views : WordViews) (most : ℕ) (items : List Item) where
   deep_fine : {count : ℕ} → deep count ≡ fine → ⊥
   deep_fine e = cc
 
-  too_deep_by : (read : List Item) (next : Item) (owed behind : List Part) → Trail most read (again ∷ []) owed
+  too_deep_by : (read : List Item) (next : Item) (owed behind : List Pending) → Trail most read (again ∷ []) owed
       → step owed next ≡ deeper behind → nat_le (levels behind) most ≡ false → Begins views most (read ++ next ∷ []) → ⊥
   too_deep_by read next owed stack trail e over (behind, (script, reads)) =
       deep_fine (sym (deep_failed next owed stack e over behind) ∙ trail.fine_behind most (next ∷ behind)
@@ -344,7 +344,7 @@ module _ (views : WordViews) (most : ℕ) (items : List Item) where
   fine_end true h = absurd (h refl)
   fine_end false h = refl
 
-  bad_next : (read rest : List Item) (next : Item) (owed : List Part) (found : Next) → step owed next ≡ found → Trail most read (again ∷ []) owed
+  bad_next : (read rest : List Item) (next : Item) (owed : List Pending) (found : Next) → step owed next ≡ found → Trail most read (again ∷ []) owed
       → EndsHere views read (next ∷ rest) → verdict_behind most (length rest + 1) (verdict most rest) found ≡ bad (length rest + 1)
   bad_next read rest next owed (goes behind) e trail ends =
       absurd (ends most (next_begins read next owed behind most (omega arith) trail (goes_steps next owed behind e most)
@@ -355,7 +355,7 @@ module _ (views : WordViews) (most : ℕ) (items : List Item) where
       (subst NextSound e (step_sound owed next (trail.sound tt)))))
   bad_next read rest next owed fails e trail ends = refl
 
-  bad_here : (read rest : List Item) (owed : List Part) → Trail most read (again ∷ []) owed → EndsHere views read rest
+  bad_here : (read rest : List Item) (owed : List Pending) → Trail most read (again ∷ []) owed → EndsHere views read rest
       → verdict most (read ++ rest) (again ∷ []) ≡ bad (length rest)
   bad_here read [] owed trail ends =
       trail.passes most [] (omega arith) ∙ fine_end (may_end owed) (λ h.
@@ -374,7 +374,7 @@ module _ (views : WordViews) (most : ℕ) (items : List Item) where
       let t = fine_trail most s.read behind (again ∷ []) (reads_fine views most (s.read ++ behind) script reads) in
       ap (λ i. verdict most i (again ∷ [])) s.whole ∙ bad_here s.read s.rest t.owed t.trail s.ends ∙ ap bad s.place
 
-  deep_next : (read rest : List Item) (next : Item) (owed : List Part) (found : Next) → step owed next ≡ found → Trail most read (again ∷ []) owed
+  deep_next : (read rest : List Item) (next : Item) (owed : List Pending) (found : Next) → step owed next ≡ found → Trail most read (again ∷ []) owed
       → (many : ℕ) → Begins views many (read ++ next ∷ []) → (Begins views most (read ++ next ∷ []) → ⊥)
       → verdict_behind most (length rest + 1) (verdict most rest) found ≡ deep (length rest + 1)
   deep_next read rest next owed (goes behind) e trail many begins over =
@@ -412,7 +412,7 @@ pub one_script : (views : WordViews) (most : ℕ) (items : List Item) (one other
 one_script views most items one other (list, (is, e)) (same, (also, h)) = e ∙ ap script_of (again_one is also).0 ∙ sym h
 
 module _ (views : WordViews) (items : List Item) where
-  not_stopped : verdict MAX_LEVELS items (again ∷ []) ≡ fine → (refusal : Refusal) → Stop views items refusal → ⊥
+  not_stopped : verdict MAX_LEVELS items (again ∷ []) ≡ fine → (refusal : SyntaxRefusal) → Stop views items refusal → ⊥
   not_stopped h refusal.BadSyntax (left, stop) = fine_bad (sym h ∙ stops_bad views MAX_LEVELS items left stop)
   not_stopped h (refusal.TooDeep offset) (left, (stop, e)) = fine_deep (sym h ∙ stops_deep views MAX_LEVELS items left stop)
 
@@ -423,11 +423,11 @@ module _ (views : WordViews) (items : List Item) where
     not_stopped = not_stopped (reads_fine views MAX_LEVELS items script reads);
   }
 
-  only_bad : (left : ℕ) → verdict MAX_LEVELS items (again ∷ []) ≡ bad left → (other : Refusal) → Stop views items other → other ≡ refusal.BadSyntax
+  only_bad : (left : ℕ) → verdict MAX_LEVELS items (again ∷ []) ≡ bad left → (other : SyntaxRefusal) → Stop views items other → other ≡ refusal.BadSyntax
   only_bad left h refusal.BadSyntax stop = refl
   only_bad left h (refusal.TooDeep offset) (count, (stop, e)) = absurd (bad_deep (sym h ∙ stops_deep views MAX_LEVELS items count stop))
 
-  only_deep : (left : ℕ) → verdict MAX_LEVELS items (again ∷ []) ≡ deep left → (other : Refusal) → Stop views items other
+  only_deep : (left : ℕ) → verdict MAX_LEVELS items (again ∷ []) ≡ deep left → (other : SyntaxRefusal) → Stop views items other
       → other ≡ refusal.TooDeep (offset_left items left)
   only_deep left h refusal.BadSyntax (count, stop) = absurd (bad_deep (sym (stops_bad views MAX_LEVELS items count stop) ∙ h))
   only_deep left h (refusal.TooDeep offset) (count, (stop, e)) =

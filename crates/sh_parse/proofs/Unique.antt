@@ -10,8 +10,8 @@ use Rattle.sh_parse.proofs.Runs.{Moves, Begins, list_begins, pipeline_begins, co
 use Rattle.sh_parse.proofs.Backs.{true_false, is_move, begins_is}
 use Rattle.sh_parse.specs.declared.items.Item.{Item}
 use Rattle.sh_parse.specs.declared.items.Item.TheVariants as token
-use Rattle.sh_parse.specs.declared.pieces.Place.{Place}
-use Rattle.sh_parse.specs.declared.pieces.Place.TheVariants as place
+use Rattle.sh_parse.specs.declared.pieces.Slot.{Slot}
+use Rattle.sh_parse.specs.declared.pieces.Slot.TheVariants as place
 use Rattle.sh_parse.specs.declared.pieces.Use.{Use}
 use Rattle.sh_parse.specs.declared.pieces.Use.TheVariants as use_as
 
@@ -38,14 +38,14 @@ begins_none (first ∷ rest) h none = no_newline first (moves_is (pipeline_by fi
     no_newline token.Newline m none = true_false none
     no_newline first m none = true_false (sym m ∙ sym (begins_is first) ∙ none)
 
-piece_none : {views : WordViews} {most depth : ℕ} {at behind : Place} {items left : List Item} {piece : Piece}
+piece_none : {views : WordViews} {most depth : ℕ} {at behind : Slot} {items left : List Item} {piece : Piece}
     → IsPiece views most depth at items piece behind left → NoneNext (begins_piece at) items → ⊥
 piece_none (g.is_assign u subs) none = true_false (sym (ap is_used u) ∙ none)
 piece_none (g.is_argument u subs) none = true_false (sym (ap is_used u) ∙ none)
 piece_none (g.is_numbered u subs) none = true_false (sym (ap is_some u) ∙ none)
 piece_none (g.is_redirection u subs) none = true_false (sym (ap is_some u) ∙ none)
 
-piece_reserved : {views : WordViews} {most depth : ℕ} {behind : Place} {first : Item} {items left : List Item} {piece : Piece}
+piece_reserved : {views : WordViews} {most depth : ℕ} {behind : Slot} {first : Item} {items left : List Item} {piece : Piece}
     → IsPiece views most depth place.First (first ∷ items) piece behind left → piece_by place.First first ≡ skip → ⊥
 piece_reserved {first = first} is e =
     let (found, (rest, (same, moves))) = piece_begins is in
@@ -54,10 +54,10 @@ piece_reserved {first = first} is e =
     never : {one other : Item} {behind rest : List Item} → one ∷ behind ≡ other ∷ rest → Moves (piece_by place.First other) → piece_by place.First one ≡ skip → ⊥
     never {one = one} same moves e = subst (λ m. Moves m) (subst (λ i. piece_by place.First i ≡ skip) (ap (first_of one) same) e) moves
 
-assigned_given : {u : Use} {behind : Place} → u ≡ use_as.Assigned → u ≡ use_as.Given behind → ⊥
+assigned_given : {u : Use} {behind : Slot} → u ≡ use_as.Assigned → u ≡ use_as.Given behind → ⊥
 assigned_given one other = cc
 
-given_same : {u : Use} {one other : Place} → u ≡ use_as.Given one → u ≡ use_as.Given other → one ≡ other
+given_same : {u : Use} {one other : Slot} → u ≡ use_as.Given one → u ≡ use_as.Given other → one ≡ other
 given_same one other = cc
 
 some_same : {X : Type 0} {o : Option X} {one other : X} → o ≡ Some one → o ≡ Some other → one ≡ other
@@ -112,11 +112,11 @@ module _ {views : WordViews} {most depth : ℕ} where
       → IsSubs views most depth one tree left
   moved_subs {left = left} {tree = tree} e is = subst (λ l. IsSubs views most depth l tree left) (sym e) is
 
-  moved_pieces : {at : Place} {one other left : List Item} {found : List Piece} → one ≡ other → IsPieces views most depth at other found left
+  moved_pieces : {at : Slot} {one other left : List Item} {found : List Piece} → one ≡ other → IsPieces views most depth at other found left
       → IsPieces views most depth at one found left
   moved_pieces {at = at} {left = left} {found = found} e is = subst (λ l. IsPieces views most depth at l found left) (sym e) is
 
-  moved_place : {one other : Place} {items left : List Item} {found : List Piece} → one ≡ other → IsPieces views most depth other items found left
+  moved_place : {one other : Slot} {items left : List Item} {found : List Piece} → one ≡ other → IsPieces views most depth other items found left
       → IsPieces views most depth one items found left
   moved_place {items = items} {left = left} {found = found} e is = subst (λ p. IsPieces views most depth p items found left) (sym e) is
 
@@ -285,7 +285,7 @@ module _ {views : WordViews} {most : ℕ} where
         let f = separator_one b (moved_separator e y) in
         (ap (λ w. in_words (words_of (gathered views no_piece w))) same, f)
 
-    pieces_one : {depth : ℕ} {at : Place} {items left behind : List Item} {one other : List Piece} → IsPieces views most depth at items one left
+    pieces_one : {depth : ℕ} {at : Slot} {items left behind : List Item} {one other : List Piece} → IsPieces views most depth at items one left
         → IsPieces views most depth at items other behind → (one ≡ other) × (left ≡ behind)
     pieces_one (g.last_piece none) (g.last_piece other) = (refl, refl)
     pieces_one (g.last_piece none) (g.more_pieces x y) = absurd (piece_none x none)
@@ -295,7 +295,7 @@ module _ {views : WordViews} {most : ℕ} where
         let (same_others, f) = pieces_one b (moved_pieces e (moved_place place_same y)) in
         (ap2 (λ p o. p ∷ o) same same_others, f)
 
-    piece_one : {depth : ℕ} {at one_place other_place : Place} {items left behind : List Item} {one other : Piece}
+    piece_one : {depth : ℕ} {at one_place other_place : Slot} {items left behind : List Item} {one other : Piece}
         → IsPiece views most depth at items one one_place left → IsPiece views most depth at items other other_place behind
         → (one ≡ other) × ((one_place ≡ other_place) × (left ≡ behind))
     piece_one (g.is_assign {at = at} u a) (g.is_assign v x) = let (same, e) = subs_one a x in (ap (assign at) same, (refl, e))

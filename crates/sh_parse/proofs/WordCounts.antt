@@ -33,8 +33,8 @@ use Rattle.sh_lex.specs.declared.tokens.Op.TheVariants as op
 use Rattle.sh_lex.specs.declared.tokens.TokenKind.{TokenKind}
 use Rattle.sh_lex.specs.declared.tokens.TokenKind.TheVariants as kind
 use Rattle.sh_lex.specs.declared.parts.Nest.{Nest}
-use Rattle.sh_lex.specs.declared.parts.Part.{Part}
-use Rattle.sh_lex.specs.declared.parts.Part.TheVariants as part
+use Rattle.sh_lex.specs.declared.parts.Construct.{Construct}
+use Rattle.sh_lex.specs.declared.parts.Construct.TheVariants as part
 use Rattle.sh_lex.specs.declared.parts.Spot.{Spot}
 use Rattle.sh_lex.specs.declared.parts.Spot.TheVariants as spot
 use Rattle.sh_words.specs.Steps.{step}
@@ -140,7 +140,7 @@ module _ (all : List ℕ) where
   begun_none total text word more none = refl
   begun_none total text (offence fault) more none = none
 
-  closing_none : (left : ℕ) (outer : Part) (more : List Mark) → own_subs 0 (items_of all (closing (entry_in left outer) ++ more)) ≡ 0
+  closing_none : (left : ℕ) (outer : Construct) (more : List Mark) → own_subs 0 (items_of all (closing (entry_in left outer) ++ more)) ≡ 0
   closing_none left (part.Commands nest opened spot.Between) more = refl
   closing_none left (part.Commands nest opened spot.Begin) more = refl
   closing_none left (part.Commands nest opened spot.Name) more = refl
@@ -175,14 +175,14 @@ module _ (all : List ℕ) where
   front_none total nest opened text word = inl (λ more. refl)
   front_none total nest opened text (offence fault) = inr (refl, tt)
 
-  opening_none : (total : ℕ) (text rest : List ℕ) (nest : Nest) (opened : ℕ) (inner outer : Part) (more : List Mark)
+  opening_none : (total : ℕ) (text rest : List ℕ) (nest : Nest) (opened : ℕ) (inner outer : Construct) (more : List Mark)
       → inner ≡ part.Commands nest (Some opened) spot.Between → outer ≡ part.Commands nest (Some opened) spot.Between
       → own_subs 0 (items_of all (marks.opening total text rest (entry_of inner outer) ++ more)) ≡ 0
   opening_none total text rest nest opened inner outer more one two =
       ap (λ it. own_subs 0 (items_of all (marks.opening total text rest (entry_of it outer) ++ more))) one
       ∙ ap (λ it. own_subs 0 (items_of all (marks.opening total text rest (entry_in opened it) ++ more))) two
 
-  inner_none : (total : ℕ) (nest : Nest) (opened : ℕ) (text rest : List ℕ) (inner outer : Part) (front more : List Mark) → front ≡ []
+  inner_none : (total : ℕ) (nest : Nest) (opened : ℕ) (text rest : List ℕ) (inner outer : Construct) (front more : List Mark) → front ≡ []
       → (inner ≡ part.Commands nest (Some opened) spot.Between) × (outer ≡ part.Commands nest (Some opened) spot.Between)
       → own_subs 0 (items_of all (front ++ (marks.opening total text rest (entry_of inner outer) ++ more))) ≡ 0
   inner_none total nest opened text rest inner outer front more bare parts =
@@ -190,7 +190,7 @@ module _ (all : List ℕ) where
       ∙ opening_none total text rest nest opened inner outer more parts.0 parts.1
 
   module _ (total : ℕ) (nest : Nest) (opened : ℕ) where
-    tokens_none : {construct : Part} {text left : List ℕ} {found : List Mark} → Marked total construct text found left
+    tokens_none : {construct : Construct} {text left : List ℕ} {found : List Mark} → Marked total construct text found left
         → construct ≡ part.Commands nest (Some opened) spot.Between → (more : List Mark) → own_subs 0 (items_of all more) ≡ 0
         → own_subs 0 (items_of all (found ++ more)) ≡ 0
     tokens_none (marks_on {construct = construct} {next = next} {text = text} {rest = rest} {found = found} e behind) same more none =
@@ -326,7 +326,7 @@ module _ (total : ℕ) (nest : Nest) where
       let (byte, (rest, (front, never))) = subst (LeavesLess text) e (lexeme-LeavesLess text) in
       word_does text rest byte front never ∙ sym (word_does (unspliced text) rest byte (unspliced-twice text ∙ front) never)
 
-  word_less : {construct : Part} {text tail : List ℕ} {found : List Mark} → Marked total construct text found tail
+  word_less : {construct : Construct} {text tail : List ℕ} {found : List Mark} → Marked total construct text found tail
       → construct ≡ part.Commands nest None spot.Begin → lexeme text ≡ word → length tail < length (unspliced text)
   word_less (marks_on {next = next} {text = text} {rest = rest} e more) same is =
       let does = sym (ap (λ it. act it text) same ∙ word_again text is) ∙ e in
@@ -430,7 +430,7 @@ module _ (all : List ℕ) (views : WordViews) (words : AreWordsOf all views) whe
   closed_any within_word more none = none
   closed_any elsewhere more none = tt
 
-  closed_next : (construct next : Part) (text rest : List ℕ) (more : List Mark) (sort : Kind) → kind_of_part construct ≡ sort → act construct text ≡ goes next rest
+  closed_next : (construct next : Construct) (text rest : List ℕ) (more : List Mark) (sort : Kind) → kind_of_part construct ≡ sort → act construct text ≡ goes next rest
       → IsClosed sort more → IsClosed (kind_of_part next) more
   closed_next construct next text rest more among_tokens is e closed = closed_any (kind_of_part next) more closed
   closed_next construct next text rest more within_word is e closed = closed_any (kind_of_part next) more closed
@@ -438,7 +438,7 @@ module _ (all : List ℕ) (views : WordViews) (words : AreWordsOf all views) whe
       let same : kind_of_part next ≡ elsewhere = subst (Does elsewhere (Unit {0})) e (act-quiet construct text is) in
       subst (λ it. IsClosed it more) (sym same) tt
 
-  closed_outer : (construct inner outer : Part) (text rest : List ℕ) (more : List Mark) (sort : Kind) → kind_of_part construct ≡ sort
+  closed_outer : (construct inner outer : Construct) (text rest : List ℕ) (more : List Mark) (sort : Kind) → kind_of_part construct ≡ sort
       → act construct text ≡ enters inner outer rest → IsClosed sort more → IsClosed (kind_of_part outer) more
   closed_outer construct inner outer text rest more among_tokens is e closed = closed_any (kind_of_part outer) more closed
   closed_outer construct inner outer text rest more within_word is e closed = closed_any (kind_of_part outer) more closed
@@ -446,7 +446,7 @@ module _ (all : List ℕ) (views : WordViews) (words : AreWordsOf all views) whe
       let so : Does elsewhere (Unit {0}) (enters inner outer rest) = subst (Does elsewhere (Unit {0})) e (act-quiet construct text is) in
       subst (λ it. IsClosed it more) (sym so.1) tt
 
-  closed_inner : (inner outer : Part) (more : List Mark) → IsClosed (kind_of_part inner) (closing (entry_of inner outer) ++ more)
+  closed_inner : (inner outer : Construct) (more : List Mark) → IsClosed (kind_of_part inner) (closing (entry_of inner outer) ++ more)
   closed_inner (part.Commands nest (Some left) at) outer more =
       closed_any (kind_of_part (part.Commands nest (Some left) at)) (closing (entry_in left outer) ++ more) (closing_none all left outer more)
   closed_inner (part.Commands nest None at) outer more = tt
@@ -460,7 +460,7 @@ module _ (all : List ℕ) (views : WordViews) (words : AreWordsOf all views) whe
   -- what is seen at a step of a `$( )`
   module _ (nest : Nest) (opened : ℕ) (text left : List ℕ) (found more : List Mark) (at_end : IsEnd all text) (none : own_subs 0 (items_of all more) ≡ 0)
       (may : MayCount all views (items_of all (found ++ more))) where
-    abbrev Rebuilt : Part → Type 0
+    abbrev Rebuilt : Construct → Type 0
     Rebuilt other = Marked (length all) other text (seen (length all) other text ++ found) left
 
     begin_may : Marked (length all) (part.Commands nest (Some opened) spot.Begin) text found left → lexeme text ≡ word
@@ -478,7 +478,7 @@ module _ (all : List ℕ) (views : WordViews) (words : AreWordsOf all views) whe
           may,
         )
 
-    module _ (build : (other : Part) → act (part.Commands nest (Some opened) spot.Between) text ≡ act other text → Rebuilt other) where
+    module _ (build : (other : Construct) → act (part.Commands nest (Some opened) spot.Between) text ≡ act other text → Rebuilt other) where
       begun_may : (what : Found) → lexeme text ≡ what → IsOther what → MayCount all views (items_of all (begun (length all) text what ++ (found ++ more)))
       begun_may nothing is other = may
       begun_may (gap rest) is other = may
@@ -495,7 +495,7 @@ module _ (all : List ℕ) (views : WordViews) (words : AreWordsOf all views) whe
       tokens_may : MayCount all views (items_of all (begun (length all) text (lexeme text) ++ (found ++ more)))
       tokens_may = begun_may (lexeme text) refl (lexeme-other text)
 
-    spot_may : (at : Spot) → IsWordSpot at → ((other : Part) → act (part.Commands nest (Some opened) at) text ≡ act other text → Rebuilt other)
+    spot_may : (at : Spot) → IsWordSpot at → ((other : Construct) → act (part.Commands nest (Some opened) at) text ≡ act other text → Rebuilt other)
         → MayCount all views (items_of all (seen (length all) (part.Commands nest (Some opened) at) text ++ (found ++ more)))
     spot_may at is build =
         elim (front-case (length all) nest opened at text is) [
@@ -504,9 +504,9 @@ module _ (all : List ℕ) (views : WordViews) (words : AreWordsOf all views) whe
           | inr on ↦ subst (λ it. MayCount all views (items_of all (it ++ (found ++ more)))) (sym on.sees) may
         ]
 
-  seen_may : (construct : Part) (text left : List ℕ) (found more : List Mark) → IsEnd all text → IsClosed (kind_of_part construct) more
+  seen_may : (construct : Construct) (text left : List ℕ) (found more : List Mark) → IsEnd all text → IsClosed (kind_of_part construct) more
       → MayCount all views (items_of all (found ++ more))
-      → ((other : Part) → act construct text ≡ act other text → Marked (length all) other text (seen (length all) other text ++ found) left)
+      → ((other : Construct) → act construct text ≡ act other text → Marked (length all) other text (seen (length all) other text ++ found) left)
       → MayCount all views (items_of all (seen (length all) construct text ++ (found ++ more)))
   seen_may (part.Commands nest None at) text left found more at_end closed may build = may
   seen_may (part.Commands nest (Some opened) spot.Between) text left found more at_end closed may build =
@@ -529,7 +529,7 @@ module _ (all : List ℕ) (views : WordViews) (words : AreWordsOf all views) whe
   seen_may (part.Parentheses nest start) text left found more at_end closed may build = may
 
   -- a construct that is read
-  marked_may : {construct : Part} {text left : List ℕ} {found : List Mark} → Marked (length all) construct text found left → IsEnd all text
+  marked_may : {construct : Construct} {text left : List ℕ} {found : List Mark} → Marked (length all) construct text found left → IsEnd all text
       → (more : List Mark) → IsClosed (kind_of_part construct) more → MayCount all views (items_of all more) → MayCount all views (items_of all (found ++ more))
   marked_may (marks_on {construct = construct} {next = next} {text = text} {rest = rest} {left = left} {found = found} e behind) at_end more closed may =
       let at_rest : IsEnd all rest = subst (Keeps (IsEnd all)) e (act-kept (IsEnd all) (end_kept all) construct text at_end) in

@@ -15,8 +15,8 @@ use Rattle.sh_parse.specs.declared.items.Span.{Span}
 use Rattle.sh_parse.specs.declared.items.WordKind.{WordKind}
 use Rattle.sh_parse.specs.declared.items.WordKind.TheVariants as word
 use Rattle.sh_parse.specs.declared.items.Reserved.TheVariants as reserved
-use Rattle.sh_parse.specs.declared.pieces.Place.{Place}
-use Rattle.sh_parse.specs.declared.pieces.Place.TheVariants as place
+use Rattle.sh_parse.specs.declared.pieces.Slot.{Slot}
+use Rattle.sh_parse.specs.declared.pieces.Slot.TheVariants as place
 use Rattle.sh_parse.specs.declared.pieces.Use.TheVariants as use_as
 
 -- no item that passes is next
@@ -128,7 +128,7 @@ mutual
 
   -- a simple command, of one piece or more; or a compound command and its redirections
   pub data IsCommand (views : WordViews) (most : ℕ) : ℕ → List Item → CommandTree → List Item → Type 0 where
-    is_simple : {depth : ℕ} {behind : Place} {items middle left : List Item} {first : Piece} {others : List Piece}
+    is_simple : {depth : ℕ} {behind : Slot} {items middle left : List Item} {first : Piece} {others : List Piece}
         → IsPiece views most depth place.First items first behind middle
         → IsPieces views most depth behind middle others left
         → IsCommand views most depth items (simple (gathered views no_piece (first ∷ others))) left
@@ -220,27 +220,27 @@ mutual
         (in_words (words_of (gathered views no_piece among))) left
 
   -- pieces, as many as there are
-  pub data IsPieces (views : WordViews) (most : ℕ) : ℕ → Place → List Item → List Piece → List Item → Type 0 where
-    last_piece : {depth : ℕ} {at : Place} {items : List Item}
+  pub data IsPieces (views : WordViews) (most : ℕ) : ℕ → Slot → List Item → List Piece → List Item → Type 0 where
+    last_piece : {depth : ℕ} {at : Slot} {items : List Item}
         → NoneNext (begins_piece at) items → IsPieces views most depth at items [] items
-    more_pieces : {depth : ℕ} {at behind : Place} {items middle left : List Item} {first : Piece} {others : List Piece}
+    more_pieces : {depth : ℕ} {at behind : Slot} {items middle left : List Item} {first : Piece} {others : List Piece}
         → IsPiece views most depth at items first behind middle → IsPieces views most depth behind middle others left
         → IsPieces views most depth at items (first ∷ others) left
 
   -- an assignment, a word, a redirection; and the place behind it
-  pub data IsPiece (views : WordViews) (most : ℕ) : ℕ → Place → List Item → Piece → Place → List Item → Type 0 where
-    is_assign : {depth : ℕ} {spot : Place} {kind : WordKind} {at : Span} {items left : List Item} {subs : SubTrees}
+  pub data IsPiece (views : WordViews) (most : ℕ) : ℕ → Slot → List Item → Piece → Slot → List Item → Type 0 where
+    is_assign : {depth : ℕ} {spot : Slot} {kind : WordKind} {at : Span} {items left : List Item} {subs : SubTrees}
         → used spot kind ≡ use_as.Assigned → IsSubs views most depth items subs left
         → IsPiece views most depth spot (token.Word kind at ∷ items) (assign at subs) place.BeforeName left
-    is_argument : {depth : ℕ} {spot behind : Place} {kind : WordKind} {at : Span} {items left : List Item} {subs : SubTrees}
+    is_argument : {depth : ℕ} {spot behind : Slot} {kind : WordKind} {at : Span} {items left : List Item} {subs : SubTrees}
         → used spot kind ≡ use_as.Given behind → IsSubs views most depth items subs left
         → IsPiece views most depth spot (token.Word kind at ∷ items) (argument at subs) behind left
-    is_numbered : {depth number before from : ℕ} {spot behind : Place} {how : How} {kind : WordKind} {at : Span} {items left : List Item}
+    is_numbered : {depth number before from : ℕ} {spot behind : Slot} {how : How} {kind : WordKind} {at : Span} {items left : List Item}
         {subs : SubTrees}
         → redirects spot ≡ Some behind → IsSubs views most depth items subs left
         → IsPiece views most depth spot (token.IoNumber number before ∷ token.Redirect how from ∷ token.Word kind at ∷ items)
         (redirection number how at subs) behind left
-    is_redirection : {depth from : ℕ} {spot behind : Place} {how : How} {kind : WordKind} {at : Span} {items left : List Item}
+    is_redirection : {depth from : ℕ} {spot behind : Slot} {how : How} {kind : WordKind} {at : Span} {items left : List Item}
         {subs : SubTrees}
         → redirects spot ≡ Some behind → IsSubs views most depth items subs left
         → IsPiece views most depth spot (token.Redirect how from ∷ token.Word kind at ∷ items)

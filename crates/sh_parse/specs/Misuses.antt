@@ -11,7 +11,7 @@ use Rattle.sh_parse.specs.declared.items.Item.{Item}
 use Rattle.sh_parse.specs.declared.items.Item.TheVariants as item
 use Rattle.sh_parse.specs.declared.items.Span.{Span}
 use Rattle.sh_parse.specs.declared.items.WordKind.{WordKind}
-use Rattle.sh_parse.specs.declared.pieces.Place.TheVariants as place
+use Rattle.sh_parse.specs.declared.pieces.Slot.TheVariants as place
 use Rattle.sh_parse.specs.declared.misuses.Misuse.{Misuse}
 use Rattle.sh_parse.specs.declared.misuses.Misuse.TheVariants as misuse
 

@@ -16,7 +16,7 @@ use Rattle.sh_parse.specs.Misuses.{NoMisuse, IsFirstForm, IsFirstMix}
 use Rattle.sh_parse.specs.Texts.{HasItems}
 use Rattle.sh_parse.specs.declared.items.Item.{Item}
 use Rattle.sh_parse.specs.declared.items.Span.{Span}
-use Rattle.sh_parse.specs.declared.refusals.Refusal.TheVariants as grammar
+use Rattle.sh_parse.specs.declared.refusals.SyntaxRefusal.TheVariants as grammar
 
 -- the bytes of a word
 abbrev pub bytes_at : List ℕ → Span → List ℕ

@@ -8,13 +8,13 @@ use Rattle.sh_parse.specs.declared.items.Item.TheVariants as item
 use Rattle.sh_parse.specs.declared.items.WordKind.{WordKind}
 use Rattle.sh_parse.specs.declared.items.WordKind.TheVariants as word
 use Rattle.sh_parse.specs.declared.items.Reserved.TheVariants as reserved
-use Rattle.sh_parse.specs.declared.pieces.Place.{Place}
-use Rattle.sh_parse.specs.declared.pieces.Place.TheVariants as place
+use Rattle.sh_parse.specs.declared.pieces.Slot.{Slot}
+use Rattle.sh_parse.specs.declared.pieces.Slot.TheVariants as place
 use Rattle.sh_parse.specs.declared.pieces.Use.{Use}
 use Rattle.sh_parse.specs.declared.pieces.Use.TheVariants as use_as
 
 -- a command's first word isn't reserved; assignments stand before the name alone
-abbrev pub used : Place → WordKind → Use
+abbrev pub used : Slot → WordKind → Use
 used place.First (word.Reserved _) = use_as.Unused
 used place.First word.Assign = use_as.Assigned
 used place.First _ = use_as.Given place.BehindName
@@ -25,7 +25,7 @@ used place.Tail _ = use_as.Unused
 used place.Loop _ = use_as.Given place.Loop
 
 -- the place behind a redirection, where one may stand
-abbrev pub redirects : Place → Option Place
+abbrev pub redirects : Slot → Option Slot
 redirects place.First = Some place.BeforeName
 redirects place.BeforeName = Some place.BeforeName
 redirects place.BehindName = Some place.BehindName
@@ -38,7 +38,7 @@ is_used (use_as.Given _) = true
 is_used use_as.Unused = false
 
 -- a piece begins with the item
-abbrev pub begins_piece : Place → Item → Bool
+abbrev pub begins_piece : Slot → Item → Bool
 begins_piece at (item.Word kind _) = is_used (used at kind)
 begins_piece at (item.IoNumber _ _) = is_some (redirects at)
 begins_piece at (item.Redirect _ _) = is_some (redirects at)

@@ -9,8 +9,8 @@ use Rattle.sh_parse.specs.declared.items.Item.TheVariants as item
 use Rattle.sh_parse.specs.declared.items.TheConstants.{MAX_LEVELS}
 use Rattle.sh_parse.specs.declared.refusals.GrammarRefusal.{GrammarRefusal}
 use Rattle.sh_parse.specs.declared.refusals.GrammarRefusal.TheVariants as grammar_refusal
-use Rattle.sh_parse.specs.declared.refusals.Refusal.{Refusal}
-use Rattle.sh_parse.specs.declared.refusals.Refusal.TheVariants as refusal
+use Rattle.sh_parse.specs.declared.refusals.SyntaxRefusal.{SyntaxRefusal}
+use Rattle.sh_parse.specs.declared.refusals.SyntaxRefusal.TheVariants as refusal
 
 -- some list that has these items as its beginning is a script of at most `most` levels
 abbrev pub Begins : WordViews → ℕ → List Item → Type 0
@@ -57,7 +57,7 @@ offset_left [] left = 0
 offset_left (first ∷ rest) left = if length rest + 1 == left then offset_of first else offset_left rest left
 
 -- the items are refused so: at the first of them that no script goes on with (there `left` are left), or that opens a level too many
-abbrev pub Stop : WordViews → List Item → Refusal → Type 0
+abbrev pub Stop : WordViews → List Item → SyntaxRefusal → Type 0
 Stop views items refusal.BadSyntax = (left : ℕ) × StopsBad views MAX_LEVELS items left
 Stop views items (refusal.TooDeep offset) = (left : ℕ) × (StopsDeep views MAX_LEVELS items left × (offset ≡ offset_left items left))
 
@@ -65,17 +65,17 @@ Stop views items (refusal.TooDeep offset) = (left : ℕ) × (StopsDeep views MAX
 pub record HasScript (views : WordViews) (items : List Item) (script : ScriptTree) : Type 0 where
   pub reads : Reads views MAX_LEVELS items script
   pub only : (other : ScriptTree) → Reads views MAX_LEVELS items other → other ≡ script
-  pub not_stopped : (refusal : Refusal) → Stop views items refusal → ⊥
+  pub not_stopped : (refusal : SyntaxRefusal) → Stop views items refusal → ⊥
 
 -- the items are refused so, not otherwise, and are no script
-pub record HasStop (views : WordViews) (items : List Item) (refusal : Refusal) : Type 0 where
+pub record HasStop (views : WordViews) (items : List Item) (refusal : SyntaxRefusal) : Type 0 where
   pub stops : Stop views items refusal
-  pub only : (other : Refusal) → Stop views items other → other ≡ refusal
+  pub only : (other : SyntaxRefusal) → Stop views items other → other ≡ refusal
   pub not_read : (script : ScriptTree) → Reads views MAX_LEVELS items script → ⊥
 
 -- every list of items is exactly one script or has exactly one refusal, and not both
 abbrev pub HasOneOutcome : WordViews → List Item → Type 0
-HasOneOutcome views items = ((script : ScriptTree) × HasScript views items script) ⊎ ((refusal : Refusal) × HasStop views items refusal)
+HasOneOutcome views items = ((script : ScriptTree) × HasScript views items script) ⊎ ((refusal : SyntaxRefusal) × HasStop views items refusal)
 
 -- the items are some script
 abbrev pub IsSomeScript : WordViews → List Item → Type 0

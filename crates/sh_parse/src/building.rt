@@ -6,9 +6,9 @@ ghost use Rattle.sh_parse.specs.Inner.Built.{construct_of, level_of, levels_of, 
 ghost use Rattle.sh_parse.specs.Pieces.{default_number};
 
 use crate::items::{Item, Reserved, Span, WordKind};
-use crate::levels::{Construct, Level, Listing, Making};
-use crate::parts::Part;
-use crate::pieces::{Place, Use, used};
+use crate::levels::{Compound, Level, Listing, Making};
+use crate::parts::Pending;
+use crate::pieces::{Slot, Use, used};
 use crate::readers::WordReader;
 use ps_lines::Memory;
 use sh_tree::{How, Script};
@@ -19,7 +19,7 @@ use std::mem;
 #[derive(Clone, Copy, Debug, PartialEq, Eq)]
 pub enum Role {
     /// A piece, where one stands at this place; else a reserved word.
-    Piece(Place),
+    Piece(Slot),
     /// Nothing: an operator is owed.
     Operator,
     /// The word of a redirection.
@@ -29,21 +29,21 @@ pub enum Role {
 }
 
 /// What a word is at a part.
-pub fn role_of(part: Part) -> Role
+pub fn role_of(part: Pending) -> Role
     ensures { result ≡ role_of part }
 {
     match part {
-        Part::Pieces(place) => Role::Piece(place),
-        Part::Operator => Role::Operator,
-        Part::Target => Role::Target,
-        Part::LoopName => Role::Name,
-        Part::Pipeline
-        | Part::Command
-        | Part::NextCommand
-        | Part::NextPipeline
-        | Part::Again
-        | Part::Body => Role::Piece(Place::First),
-        _ => Role::Piece(Place::Tail),
+        Pending::Pieces(place) => Role::Piece(place),
+        Pending::Operator => Role::Operator,
+        Pending::Target => Role::Target,
+        Pending::LoopName => Role::Name,
+        Pending::Pipeline
+        | Pending::Command
+        | Pending::NextCommand
+        | Pending::NextPipeline
+        | Pending::Again
+        | Pending::Body => Role::Piece(Slot::First),
+        _ => Role::Piece(Slot::Tail),
     }
 }
 
@@ -62,7 +62,7 @@ impl Building {
         ensures { state_of result ≡ start }
     {
         Building {
-            level: Level::opened(alloc, Construct::Whole),
+            level: Level::opened(alloc, Compound::Whole),
             outer: Vec::new(alloc),
         }
     }
@@ -80,7 +80,7 @@ impl Building {
 
     /// Opens a construct.
     #[tactic(auto, using(crate::proofs::Arounds::levels_last))]
-    fn open(&mut self, alloc: Global, construct: Construct) -> Result<(), Memory>
+    fn open(&mut self, alloc: Global, construct: Compound) -> Result<(), Memory>
         ensures { OnOk result (state_of self.new ≡ opened (construct_of construct) (state_of self.old)) }
     {
         let outside = mem::replace(&mut self.level, Level::opened(alloc, construct));
@@ -129,23 +129,23 @@ impl Building {
         ensures { OnOk result (state_of self.new ≡ turns name (state_of self.old)) }
     {
         let list = mem::replace(&mut self.level.list, Listing::nothing(alloc));
-        let construct = mem::replace(&mut self.level.construct, Construct::Whole);
+        let construct = mem::replace(&mut self.level.construct, Compound::Whole);
         self.level.construct = construct.turned(name, list.into_list())?;
         Ok(())
     }
 
     /// Leaves out the rest of a part that is owed, and so ends what it belongs to.
-    pub fn leave_out(&mut self, alloc: Global, part: Part) -> Result<(), Memory>
+    pub fn leave_out(&mut self, alloc: Global, part: Pending) -> Result<(), Memory>
         ensures { OnOk result (state_of self.new ≡ left_out part (state_of self.old)) }
     {
         match part {
-            Part::Pieces(Place::Loop) => {
+            Pending::Pieces(Slot::Loop) => {
                 self.level.end_words(alloc);
                 Ok(())
             }
-            Part::Pieces(_) => self.level.end_command(alloc),
-            Part::Pipes => self.level.list.end_pipeline(alloc),
-            Part::Joins => self.level.list.end_and_or(),
+            Pending::Pieces(_) => self.level.end_command(alloc),
+            Pending::Pipes => self.level.list.end_pipeline(alloc),
+            Pending::Joins => self.level.list.end_and_or(),
             _ => Ok(()),
         }
     }
@@ -174,12 +174,12 @@ impl Building {
                 self.level.list.sign = sign;
                 Ok(())
             }
-            Item::Open(_) => self.open(alloc, Construct::Subshell),
+            Item::Open(_) => self.open(alloc, Compound::Subshell),
             Item::Close => {
                 self.close();
                 Ok(())
             }
-            Item::SubOpen(_) => self.open(alloc, Construct::Whole),
+            Item::SubOpen(_) => self.open(alloc, Compound::Whole),
             Item::SubClose => self.close_sub(),
             Item::Newline | Item::Semi | Item::Pipe => Ok(()),
         }
@@ -202,7 +202,7 @@ impl Building {
             Role::Target => self.level.command.push_target(alloc, reader, span),
             Role::Name => {
                 let name = reader.name(alloc, span)?;
-                self.level.construct = Construct::For(name, None);
+                self.level.construct = Compound::For(name, None);
                 Ok(())
             }
         }
@@ -245,11 +245,11 @@ impl Building {
                 self.level.list.negated = true;
                 Ok(())
             }
-            Reserved::OpenBrace => self.open(alloc, Construct::Group),
-            Reserved::If => self.open(alloc, Construct::Condition(Vec::new(alloc))),
-            Reserved::While => self.open(alloc, Construct::While),
-            Reserved::Until => self.open(alloc, Construct::Until),
-            Reserved::For => self.open(alloc, Construct::Unnamed),
+            Reserved::OpenBrace => self.open(alloc, Compound::Group),
+            Reserved::If => self.open(alloc, Compound::Condition(Vec::new(alloc))),
+            Reserved::While => self.open(alloc, Compound::While),
+            Reserved::Until => self.open(alloc, Compound::Until),
+            Reserved::For => self.open(alloc, Compound::Unnamed),
             Reserved::CloseBrace | Reserved::Fi | Reserved::Done => {
                 self.close();
                 Ok(())

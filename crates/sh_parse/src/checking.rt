@@ -7,8 +7,8 @@ ghost use Rattle.sh_parse.specs.declared.checking.Stop.TheVariants as stop_kind;
 ghost use Rattle.sh_parse.specs.Stops.{IsSomeScript, Refuses, offset_of, offset_left};
 
 use crate::items::{Item, MAX_LEVELS};
-use crate::parts::{Move, Part, Parts, is_level, is_option, move_at};
-use crate::refusals::{GrammarRefusal, Refusal};
+use crate::parts::{Move, Parts, Pending, is_level, is_option, move_at};
+use crate::refusals::{GrammarRefusal, SyntaxRefusal};
 use std::alloc::Global;
 
 /// Whether the items are a script, and if not why: one pass over them.
@@ -20,9 +20,9 @@ pub fn check(alloc: Global, items: &[Item]) -> Result<(), GrammarRefusal>
 {
     match judge(alloc, items) {
         Ok(()) => Ok(()),
-        Err(Stop::Bad(_)) => Err(GrammarRefusal::Refused(Refusal::BadSyntax)),
+        Err(Stop::Bad(_)) => Err(GrammarRefusal::Refused(SyntaxRefusal::BadSyntax)),
         Err(Stop::Deep(left)) => {
-            Err(GrammarRefusal::Refused(Refusal::TooDeep(offset_left(items, left))))
+            Err(GrammarRefusal::Refused(SyntaxRefusal::TooDeep(offset_left(items, left))))
         }
         Err(Stop::Memory) => Err(GrammarRefusal::Memory),
     }
@@ -44,7 +44,7 @@ fn judge(alloc: Global, items: &[Item]) -> Result<(), Stop>
     ensures fine { OnOk result (verdict MAX_LEVELS items.now (again ∷ []) ≡ fine) }
     ensures stop { IfErr result (λ stop. Tells stop (verdict MAX_LEVELS items.now (again ∷ []))) }
 {
-    let mut stack = owe(Vec::new(alloc), Part::Again)?;
+    let mut stack = owe(Vec::new(alloc), Pending::Again)?;
     let mut rest = items;
     while let Some((first, left)) = front(rest) {
         stack = step(stack, first, rest.len())?;
@@ -66,7 +66,7 @@ pub fn front(items: &[Item]) -> Option<(Item, &[Item])>
 }
 
 /// What is owed behind an item, at which so many are left.
-fn step(stack: Vec<Part>, first: Item, left: usize) -> Result<Vec<Part>, Stop>
+fn step(stack: Vec<Pending>, first: Item, left: usize) -> Result<Vec<Pending>, Stop>
     ensures steps { IfOk result (λ behind. StepsTo first (stacked stack.items) (stacked behind.items)) }
     ensures stop { IfErr result (λ stop. StopsStep first (stacked stack.items) left stop) }
 {
@@ -93,7 +93,7 @@ fn step(stack: Vec<Part>, first: Item, left: usize) -> Result<Vec<Part>, Stop>
 }
 
 /// The stack with more on top: these parts, and the others behind them.
-pub fn owe_all(stack: Vec<Part>, parts: Parts, behind: Parts) -> Result<Vec<Part>, Stop>
+pub fn owe_all(stack: Vec<Pending>, parts: Parts, behind: Parts) -> Result<Vec<Pending>, Stop>
     ensures owed { IfOk result (λ r. stacked r.items ≡ (parts_of parts ++ parts_of behind) ++ stacked stack.items) }
     ensures memory { IfErr result (λ stop. stop ≡ stop_kind.Memory) }
 {
@@ -102,7 +102,7 @@ pub fn owe_all(stack: Vec<Part>, parts: Parts, behind: Parts) -> Result<Vec<Part
 }
 
 /// The stack with these parts on top.
-fn owe_parts(stack: Vec<Part>, parts: Parts) -> Result<Vec<Part>, Stop>
+fn owe_parts(stack: Vec<Pending>, parts: Parts) -> Result<Vec<Pending>, Stop>
     ensures owed { IfOk result (λ r. stacked r.items ≡ parts_of parts ++ stacked stack.items) }
     ensures memory { IfErr result (λ stop. stop ≡ stop_kind.Memory) }
 {
@@ -116,7 +116,7 @@ fn owe_parts(stack: Vec<Part>, parts: Parts) -> Result<Vec<Part>, Stop>
 
 /// The stack with this part on top.
 #[tactic(auto, using(crate::proofs::Movings::stacked_last))]
-pub fn owe(stack: Vec<Part>, part: Part) -> Result<Vec<Part>, Stop>
+pub fn owe(stack: Vec<Pending>, part: Pending) -> Result<Vec<Pending>, Stop>
     ensures owed { IfOk result (λ r. stacked r.items ≡ part ∷ stacked stack.items) }
     ensures memory { IfErr result (λ stop. stop ≡ stop_kind.Memory) }
 {
@@ -129,7 +129,7 @@ pub fn owe(stack: Vec<Part>, part: Part) -> Result<Vec<Part>, Stop>
 
 /// How many levels are open.
 #[tactic(auto, using(crate::proofs::Movings::levels_stacked))]
-fn levels(stack: &[Part]) -> usize
+fn levels(stack: &[Pending]) -> usize
     ensures { result ≡ levels (stacked stack.now) }
 {
     let mut count = 0;
@@ -145,7 +145,7 @@ fn levels(stack: &[Part]) -> usize
 
 /// Whether all that is owed may be left out.
 #[tactic(auto, using(crate::proofs::Movings::may_end_stacked))]
-fn may_end(stack: &[Part]) -> bool
+fn may_end(stack: &[Pending]) -> bool
     ensures { result ≡ may_end (stacked stack.now) }
 {
     let mut rest = stack;

@@ -19,7 +19,7 @@ use std::mem;
 
 /// A construct that is open, with its parts that are read.
 #[derive(Drop)]
-pub enum Construct {
+pub enum Compound {
     /// A script, or a command substitution.
     Whole,
     /// `{ list }`
@@ -86,14 +86,14 @@ pub struct Making {
     /// How the next redirection is.
     pub how: How,
     /// The compound command before its redirections, with its last list.
-    pub compound: Option<(Construct, List)>,
+    pub compound: Option<(Compound, List)>,
 }
 
 /// A construct that is open.
 #[derive(Drop)]
 pub struct Level {
     /// What it is.
-    pub construct: Construct,
+    pub construct: Compound,
     /// The list in it that is read.
     pub list: Listing,
     /// The command that is read.
@@ -102,7 +102,7 @@ pub struct Level {
 
 impl Level {
     /// A construct of which nothing is read.
-    pub fn opened(alloc: Global, construct: Construct) -> Level
+    pub fn opened(alloc: Global, construct: Compound) -> Level
         ensures { level_of result ≡ level (construct_of construct) nothing fresh }
     {
         Level {
@@ -113,7 +113,7 @@ impl Level {
     }
 
     /// What is open, and its list.
-    pub fn into_parts(self) -> (Construct, List)
+    pub fn into_parts(self) -> (Compound, List)
         ensures construct { construct_of result.0 ≡ construct_of self.construct }
         ensures list { list_tree result.1 ≡ list_of (listing_of self.list) }
     {
@@ -138,33 +138,33 @@ impl Level {
         ensures { level_of self.new ≡ words_done (level_of self.old) }
     {
         let command = mem::replace(&mut self.command, Making::fresh(alloc));
-        let construct = mem::replace(&mut self.construct, Construct::Whole);
+        let construct = mem::replace(&mut self.construct, Compound::Whole);
         self.construct = construct.with_words(command.into_words());
     }
 }
 
-impl Construct {
+impl Compound {
     /// The compound command, behind its last list.
     pub fn into_command(self, list: List, tail: Tail) -> Result<Command, Memory>
         ensures { IfOk result (λ command. command_tree command
             ≡ compound (construct_of self) (list_tree list) (tail_tree tail)) }
     {
         match self {
-            Construct::Subshell => Ok(Command::Subshell(list, tail)),
-            Construct::Branch(branches, condition) => {
+            Compound::Subshell => Ok(Command::Subshell(list, tail)),
+            Compound::Branch(branches, condition) => {
                 let branches = with_branch(branches, condition, list)?;
                 Ok(if_command(branches, None, tail))
             }
-            Construct::Otherwise(branches) => Ok(if_command(branches, Some(list), tail)),
-            Construct::WhileBody(condition) => Ok(Command::While(condition, list, tail)),
-            Construct::UntilBody(condition) => Ok(Command::Until(condition, list, tail)),
-            Construct::For(name, words) => Ok(Command::For(name, words, list, tail)),
+            Compound::Otherwise(branches) => Ok(if_command(branches, Some(list), tail)),
+            Compound::WhileBody(condition) => Ok(Command::While(condition, list, tail)),
+            Compound::UntilBody(condition) => Ok(Command::Until(condition, list, tail)),
+            Compound::For(name, words) => Ok(Command::For(name, words, list, tail)),
             _other => Ok(Command::Group(list, tail)),
         }
     }
 
     /// The construct behind a reserved word inside it.
-    pub fn turned(self, name: Reserved, list: List) -> Result<Construct, Memory>
+    pub fn turned(self, name: Reserved, list: List) -> Result<Compound, Memory>
         ensures { IfOk result (λ next. construct_of next ≡ turned (construct_of self) name (list_tree list)) }
     {
         match name {
@@ -176,55 +176,55 @@ impl Construct {
         }
     }
 
-    fn then(self, list: List) -> Construct
+    fn then(self, list: List) -> Compound
         ensures { construct_of result ≡ turned (construct_of self) reserved.Then (list_tree list) }
     {
         match self {
-            Construct::Condition(branches) => Construct::Branch(branches, list),
+            Compound::Condition(branches) => Compound::Branch(branches, list),
             other => other,
         }
     }
 
-    fn behind_elif(self, list: List) -> Result<Construct, Memory>
+    fn behind_elif(self, list: List) -> Result<Compound, Memory>
         ensures { IfOk result (λ next. construct_of next ≡ turned (construct_of self) reserved.Elif (list_tree list)) }
     {
         match self {
-            Construct::Branch(branches, condition) => {
+            Compound::Branch(branches, condition) => {
                 let branches = with_branch(branches, condition, list)?;
-                Ok(Construct::Condition(branches))
+                Ok(Compound::Condition(branches))
             }
             other => Ok(other),
         }
     }
 
-    fn behind_else(self, list: List) -> Result<Construct, Memory>
+    fn behind_else(self, list: List) -> Result<Compound, Memory>
         ensures { IfOk result (λ next. construct_of next ≡ turned (construct_of self) reserved.Else (list_tree list)) }
     {
         match self {
-            Construct::Branch(branches, condition) => {
+            Compound::Branch(branches, condition) => {
                 let branches = with_branch(branches, condition, list)?;
-                Ok(Construct::Otherwise(branches))
+                Ok(Compound::Otherwise(branches))
             }
             other => Ok(other),
         }
     }
 
-    fn behind_do(self, list: List) -> Construct
+    fn behind_do(self, list: List) -> Compound
         ensures { construct_of result ≡ turned (construct_of self) reserved.Do (list_tree list) }
     {
         match self {
-            Construct::While => Construct::WhileBody(list),
-            Construct::Until => Construct::UntilBody(list),
+            Compound::While => Compound::WhileBody(list),
+            Compound::Until => Compound::UntilBody(list),
             other => other,
         }
     }
 
     /// The `for` with these words behind its `in`.
-    pub fn with_words(self, words: Words) -> Construct
+    pub fn with_words(self, words: Words) -> Compound
         ensures { construct_of result ≡ with_words (construct_of self) (words_tree words) }
     {
         match self {
-            Construct::For(name, _before) => Construct::For(name, Some(words)),
+            Compound::For(name, _before) => Compound::For(name, Some(words)),
             other => other,
         }
     }

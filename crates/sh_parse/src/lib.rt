@@ -32,6 +32,6 @@ pub use kinds::word_kind;
 pub use misuses::{Misuse, first_misuse};
 pub use parsing::parse_items;
 pub use readers::{Look, WordReader};
-pub use refusals::{GrammarRefusal, Refusal};
+pub use refusals::{GrammarRefusal, SyntaxRefusal};
 pub use scripts::{ParseRefusal, parse};
 pub use texts::{items_of, read_items};

@@ -5,11 +5,11 @@ ghost use Rattle.sh_parse.specs.Misuses.{FirstMisuse, own_items, substitutes, it
 ghost use Rattle.sh_parse.specs.Inner.Moves.{stacked};
 ghost use Rattle.sh_parse.specs.Places.{begins_piece};
 ghost use Rattle.sh_parse.specs.Inner.Seeking.{earliest, form_at, first_form, may_open, owed_behind, mix_at, first_mix, earlier, stays, inside_behind};
-ghost use Rattle.sh_parse.specs.declared.pieces.Place.TheVariants as place;
+ghost use Rattle.sh_parse.specs.declared.pieces.Slot.TheVariants as place;
 
 use crate::checking::{front, offset_of, owe, owe_all};
 use crate::items::{Item, WordKind};
-use crate::parts::{Move, Part, move_at};
+use crate::parts::{Move, Pending, move_at};
 use crate::readers::WordReader;
 use ps_lines::Memory;
 use std::alloc::Global;
@@ -109,7 +109,7 @@ fn first_mix<W: WordReader>(
 ) -> Result<Option<u32>, Memory>
     ensures { IfOk result (λ found. found ≡ first_mix (W.views reader.now) items.now (again ∷ [])) }
 {
-    let Ok(owed) = owe(Vec::new(alloc), Part::Again) else {
+    let Ok(owed) = owe(Vec::new(alloc), Pending::Again) else {
         return Err(Memory);
     };
     let mut stack = owed;
@@ -124,7 +124,7 @@ fn first_mix<W: WordReader>(
 }
 
 /// What is owed behind an item: nothing where no rule goes on with it. How many levels are open doesn't matter here.
-fn step(stack: Vec<Part>, first: Item) -> Result<Vec<Part>, Memory>
+fn step(stack: Vec<Pending>, first: Item) -> Result<Vec<Pending>, Memory>
     ensures { IfOk result (λ behind. stacked behind.items ≡ owed_behind (step (stacked stack.items) first)) }
 {
     let mut stack = stack;
@@ -151,7 +151,7 @@ fn step(stack: Vec<Part>, first: Item) -> Result<Vec<Part>, Memory>
 fn mix_at<W: WordReader>(
     alloc: Global,
     reader: &W,
-    stack: &[Part],
+    stack: &[Pending],
     items: &[Item],
 ) -> Result<Option<u32>, Memory>
     ensures { IfOk result (λ found. found ≡ mix_at (W.views reader.now) (stacked stack.now) items.now) }
@@ -182,7 +182,7 @@ fn begins_piece(first: Item) -> bool
 }
 
 /// Whether a `(` may stand where so much is owed: a command may begin there.
-fn may_open(stack: &[Part]) -> bool
+fn may_open(stack: &[Pending]) -> bool
     ensures { result ≡ may_open (stacked stack.now) }
 {
     let mut rest = stack;

@@ -11,7 +11,7 @@ ghost use Rattle.sh_parse.specs.Stops.{HasScript, Refuses};
 use crate::building::{Building, role_of};
 use crate::checking::{check, front, owe, owe_all};
 use crate::items::Item;
-use crate::parts::{Move, Part, move_at};
+use crate::parts::{Move, Pending, move_at};
 use crate::readers::WordReader;
 use crate::refusals::GrammarRefusal;
 use ps_lines::Memory;
@@ -45,7 +45,7 @@ pub fn build<W: WordReader>(alloc: Global, reader: &W, items: &[Item]) -> Result
         ≡ script_built (build (W.views reader.now) items.now (again ∷ []) start)) }
 {
     let mut building = Building::start(alloc);
-    let Ok(owed) = owe(Vec::new(alloc), Part::Again) else {
+    let Ok(owed) = owe(Vec::new(alloc), Pending::Again) else {
         return Err(Memory);
     };
     let mut stack = owed;
@@ -62,10 +62,10 @@ pub fn build<W: WordReader>(alloc: Global, reader: &W, items: &[Item]) -> Result
 fn walk<W: WordReader>(
     alloc: Global,
     reader: &W,
-    stack: Vec<Part>,
+    stack: Vec<Pending>,
     first: Item,
     building: &mut Building,
-) -> Result<Vec<Part>, Memory>
+) -> Result<Vec<Pending>, Memory>
     ensures { IfOk result (λ behind. walked (W.views reader.now) (stacked stack.items) first (state_of building.old)
         ≡ (stacked behind.items, state_of building.new)) }
 {
@@ -88,7 +88,7 @@ fn walk<W: WordReader>(
 }
 
 /// Leaves out all that is still owed.
-fn end(alloc: Global, stack: Vec<Part>, building: &mut Building) -> Result<(), Memory>
+fn end(alloc: Global, stack: Vec<Pending>, building: &mut Building) -> Result<(), Memory>
     ensures { OnOk result (state_of building.new ≡ ended (stacked stack.items) (state_of building.old)) }
 {
     let mut stack = stack;

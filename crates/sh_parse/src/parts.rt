@@ -6,13 +6,13 @@ ghost use Rattle.sh_parse.specs.declared.items.Item.TheVariants as token;
 ghost use Rattle.sh_parse.specs.declared.items.Span.{Span};
 
 use crate::items::{Item, Reserved, WordKind};
-use crate::pieces::{Place, Use, is_name, redirects, used};
+use crate::pieces::{Slot, Use, is_name, redirects, used};
 
 /// The rest of a rule that is open.
 #[derive(Clone, Copy, Debug, PartialEq, Eq)]
-pub enum Part {
+pub enum Pending {
     /// Further pieces of a command, from this place on.
-    Pieces(Place),
+    Pieces(Slot),
     /// A redirection operator and its word, behind an IoNumber.
     Operator,
     /// The word of a redirection.
@@ -71,11 +71,11 @@ pub enum Parts {
     /// None.
     Empty,
     /// One.
-    One(Part),
+    One(Pending),
     /// Two.
-    Two(Part, Part),
+    Two(Pending, Pending),
     /// Three.
-    Three(Part, Part, Part),
+    Three(Pending, Pending, Pending),
 }
 
 /// What a part makes of an item.
@@ -101,38 +101,38 @@ pub struct Owing {
 }
 
 /// Whether the part stands for an open level.
-pub fn is_level(part: Part) -> bool
+pub fn is_level(part: Pending) -> bool
     ensures { result ≡ is_level part }
 {
     match part {
-        Part::CloseBrace
-        | Part::CloseParenthesis
-        | Part::CloseSubstitution
-        | Part::ThenBody
-        | Part::Branches
-        | Part::EndIf
-        | Part::DoBody
-        | Part::EndLoop
-        | Part::LoopName
-        | Part::LoopHead
-        | Part::LoopLines
-        | Part::LoopSeparator
-        | Part::LoopDo => true,
+        Pending::CloseBrace
+        | Pending::CloseParenthesis
+        | Pending::CloseSubstitution
+        | Pending::ThenBody
+        | Pending::Branches
+        | Pending::EndIf
+        | Pending::DoBody
+        | Pending::EndLoop
+        | Pending::LoopName
+        | Pending::LoopHead
+        | Pending::LoopLines
+        | Pending::LoopSeparator
+        | Pending::LoopDo => true,
         _ => false,
     }
 }
 
 /// Whether the part may be left out.
-pub fn is_option(part: Part) -> bool
+pub fn is_option(part: Pending) -> bool
     ensures { result ≡ is_option part }
 {
     match part {
-        Part::Pieces(_)
-        | Part::Substitutions
-        | Part::Pipes
-        | Part::Joins
-        | Part::Separator
-        | Part::Again => true,
+        Pending::Pieces(_)
+        | Pending::Substitutions
+        | Pending::Pipes
+        | Pending::Joins
+        | Pending::Separator
+        | Pending::Again => true,
         _ => false,
     }
 }
@@ -143,26 +143,26 @@ fn compound_by(name: Reserved) -> Move
 {
     match name {
         Reserved::OpenBrace => Move::Opens(Parts::Three(
-            Part::Body,
-            Part::CloseBrace,
-            Part::Pieces(Place::Tail),
+            Pending::Body,
+            Pending::CloseBrace,
+            Pending::Pieces(Slot::Tail),
         )),
         Reserved::If => Move::Opens(Parts::Three(
-            Part::Body,
-            Part::ThenBody,
-            Part::Pieces(Place::Tail),
+            Pending::Body,
+            Pending::ThenBody,
+            Pending::Pieces(Slot::Tail),
         )),
         Reserved::While => Move::Opens(Parts::Three(
-            Part::Body,
-            Part::DoBody,
-            Part::Pieces(Place::Tail),
+            Pending::Body,
+            Pending::DoBody,
+            Pending::Pieces(Slot::Tail),
         )),
         Reserved::Until => Move::Opens(Parts::Three(
-            Part::Body,
-            Part::DoBody,
-            Part::Pieces(Place::Tail),
+            Pending::Body,
+            Pending::DoBody,
+            Pending::Pieces(Slot::Tail),
         )),
-        Reserved::For => Move::Opens(Parts::Two(Part::LoopName, Part::Pieces(Place::Tail))),
+        Reserved::For => Move::Opens(Parts::Two(Pending::LoopName, Pending::Pieces(Slot::Tail))),
         _ => Move::Stuck,
     }
 }
@@ -173,32 +173,35 @@ fn word_by(word: Use) -> Move
 {
     match word {
         Use::Assigned => Move::Push(Parts::Two(
-            Part::Substitutions,
-            Part::Pieces(Place::BeforeName),
+            Pending::Substitutions,
+            Pending::Pieces(Slot::BeforeName),
         )),
-        Use::Given(behind) => Move::Push(Parts::Two(Part::Substitutions, Part::Pieces(behind))),
+        Use::Given(behind) => Move::Push(Parts::Two(
+            Pending::Substitutions,
+            Pending::Pieces(behind),
+        )),
         Use::Unused => Move::Skip,
     }
 }
 
 /// A redirection, behind its first item.
-fn redirection_by(part: Part, behind: Option<Place>) -> Move
+fn redirection_by(part: Pending, behind: Option<Slot>) -> Move
     ensures { move_of result ≡ redirection_by part behind }
 {
     match behind {
-        Some(behind) => Move::Push(Parts::Two(part, Part::Pieces(behind))),
+        Some(behind) => Move::Push(Parts::Two(part, Pending::Pieces(behind))),
         None => Move::Skip,
     }
 }
 
 /// A piece, behind its first item.
-fn piece_by(place: Place, item: Item) -> Move
+fn piece_by(place: Slot, item: Item) -> Move
     ensures { move_of result ≡ piece_by place item }
 {
     match item {
         Item::Word(kind, _) => word_by(used(place, kind)),
-        Item::IoNumber(..) => redirection_by(Part::Operator, redirects(place)),
-        Item::Redirect(..) => redirection_by(Part::Target, redirects(place)),
+        Item::IoNumber(..) => redirection_by(Pending::Operator, redirects(place)),
+        Item::Redirect(..) => redirection_by(Pending::Target, redirects(place)),
         _ => Move::Skip,
     }
 }
@@ -210,11 +213,11 @@ fn command_by_word(kind: WordKind) -> Move
     match kind {
         WordKind::Reserved(name) => compound_by(name),
         WordKind::Assign => Move::Push(Parts::Two(
-            Part::Substitutions,
-            Part::Pieces(Place::BeforeName),
+            Pending::Substitutions,
+            Pending::Pieces(Slot::BeforeName),
         )),
         WordKind::In | WordKind::Name | WordKind::Other => {
-            Move::Push(Parts::Two(Part::Substitutions, Part::Pieces(Place::BehindName)))
+            Move::Push(Parts::Two(Pending::Substitutions, Pending::Pieces(Slot::BehindName)))
         }
     }
 }
@@ -226,14 +229,17 @@ fn command_by(item: Item) -> Move
     match item {
         Item::Word(kind, _) => command_by_word(kind),
         Item::IoNumber(..) => Move::Push(Parts::Two(
-            Part::Operator,
-            Part::Pieces(Place::BeforeName),
+            Pending::Operator,
+            Pending::Pieces(Slot::BeforeName),
         )),
-        Item::Redirect(..) => Move::Push(Parts::Two(Part::Target, Part::Pieces(Place::BeforeName))),
+        Item::Redirect(..) => Move::Push(Parts::Two(
+            Pending::Target,
+            Pending::Pieces(Slot::BeforeName),
+        )),
         Item::Open(_) => Move::Opens(Parts::Three(
-            Part::Body,
-            Part::CloseParenthesis,
-            Part::Pieces(Place::Tail),
+            Pending::Body,
+            Pending::CloseParenthesis,
+            Pending::Pieces(Slot::Tail),
         )),
         _ => Move::Stuck,
     }
@@ -245,7 +251,7 @@ fn pipeline_by(item: Item) -> Move
     ensures { move_of result ≡ pipeline_by item }
 {
     if is_bang(item) {
-        return Move::Push(Parts::One(Part::Command));
+        return Move::Push(Parts::One(Pending::Command));
     }
     command_by(item)
 }
@@ -288,14 +294,14 @@ fn alone(what: Move) -> Owing
 }
 
 /// One part that is owed in place of another.
-fn owes(part: Part) -> Owing
+fn owes(part: Pending) -> Owing
     ensures { owing_of result ≡ push (part ∷ []) }
 {
     alone(Move::Push(Parts::One(part)))
 }
 
 /// Two parts that are owed in place of another.
-fn owes_both(part: Part, behind: Part) -> Owing
+fn owes_both(part: Pending, behind: Pending) -> Owing
     ensures { owing_of result ≡ push (part ∷ behind ∷ []) }
 {
     alone(Move::Push(Parts::Two(part, behind)))
@@ -323,107 +329,113 @@ fn done() -> Owing
 }
 
 /// What a part makes of an item.
-pub fn move_at(part: Part, item: Item) -> Owing
+pub fn move_at(part: Pending, item: Item) -> Owing
     ensures { owing_of result ≡ move part item }
 {
     match part {
-        Part::Pieces(place) => alone(piece_by(place, item)),
-        Part::Operator => match item {
-            Item::Redirect(..) => owes(Part::Target),
+        Pending::Pieces(place) => alone(piece_by(place, item)),
+        Pending::Operator => match item {
+            Item::Redirect(..) => owes(Pending::Target),
             _ => stuck(),
         },
-        Part::Target => match item {
-            Item::Word(_, _) => owes(Part::Substitutions),
+        Pending::Target => match item {
+            Item::Word(_, _) => owes(Pending::Substitutions),
             _ => stuck(),
         },
-        Part::Substitutions => match item {
+        Pending::Substitutions => match item {
             Item::SubOpen(_) => alone(Move::Opens(Parts::Three(
-                Part::Again,
-                Part::CloseSubstitution,
-                Part::Substitutions,
+                Pending::Again,
+                Pending::CloseSubstitution,
+                Pending::Substitutions,
             ))),
             _ => skip(),
         },
-        Part::Pipeline => followed(pipeline_by(item), Parts::One(Part::Pipes), false),
-        Part::Command => alone(command_by(item)),
-        Part::Pipes => match item {
-            Item::Pipe => owes_both(Part::NextCommand, Part::Pipes),
+        Pending::Pipeline => followed(pipeline_by(item), Parts::One(Pending::Pipes), false),
+        Pending::Command => alone(command_by(item)),
+        Pending::Pipes => match item {
+            Item::Pipe => owes_both(Pending::NextCommand, Pending::Pipes),
             _ => skip(),
         },
-        Part::NextCommand => match item {
-            Item::Newline => owes(Part::NextCommand),
+        Pending::NextCommand => match item {
+            Item::Newline => owes(Pending::NextCommand),
             _ => alone(command_by(item)),
         },
-        Part::Joins => match item {
-            Item::Join(_) => owes_both(Part::NextPipeline, Part::Joins),
+        Pending::Joins => match item {
+            Item::Join(_) => owes_both(Pending::NextPipeline, Pending::Joins),
             _ => skip(),
         },
-        Part::NextPipeline => match item {
-            Item::Newline => owes(Part::NextPipeline),
-            _ => followed(pipeline_by(item), Parts::One(Part::Pipes), false),
+        Pending::NextPipeline => match item {
+            Item::Newline => owes(Pending::NextPipeline),
+            _ => followed(pipeline_by(item), Parts::One(Pending::Pipes), false),
         },
-        Part::Separator => match item {
-            Item::Semi | Item::Newline => owes(Part::Again),
+        Pending::Separator => match item {
+            Item::Semi | Item::Newline => owes(Pending::Again),
             _ => skip(),
         },
-        Part::Again => match item {
-            Item::Newline => owes(Part::Again),
+        Pending::Again => match item {
+            Item::Newline => owes(Pending::Again),
             _ => followed(
                 pipeline_by(item),
-                Parts::Three(Part::Pipes, Part::Joins, Part::Separator),
+                Parts::Three(Pending::Pipes, Pending::Joins, Pending::Separator),
                 true,
             ),
         },
-        Part::Body => match item {
-            Item::Newline => owes(Part::Body),
+        Pending::Body => match item {
+            Item::Newline => owes(Pending::Body),
             _ => followed(
                 pipeline_by(item),
-                Parts::Three(Part::Pipes, Part::Joins, Part::Separator),
+                Parts::Three(Pending::Pipes, Pending::Joins, Pending::Separator),
                 false,
             ),
         },
-        Part::CloseParenthesis => match item {
+        Pending::CloseParenthesis => match item {
             Item::Close => done(),
             _ => stuck(),
         },
-        Part::CloseSubstitution => match item {
+        Pending::CloseSubstitution => match item {
             Item::SubClose => done(),
             _ => stuck(),
         },
-        Part::CloseBrace => match item {
+        Pending::CloseBrace => match item {
             Item::Word(WordKind::Reserved(Reserved::CloseBrace), _) => done(),
             _ => stuck(),
         },
-        Part::ThenBody => match item {
+        Pending::ThenBody => match item {
             Item::Word(WordKind::Reserved(Reserved::Then), _) => owes_both(
-                Part::Body,
-                Part::Branches,
+                Pending::Body,
+                Pending::Branches,
             ),
             _ => stuck(),
         },
-        Part::Branches => branch_at(item),
-        Part::EndIf => match item {
+        Pending::Branches => branch_at(item),
+        Pending::EndIf => match item {
             Item::Word(WordKind::Reserved(Reserved::Fi), _) => done(),
             _ => stuck(),
         },
-        Part::DoBody => match item {
-            Item::Word(WordKind::Reserved(Reserved::Do), _) => owes_both(Part::Body, Part::EndLoop),
+        Pending::DoBody => match item {
+            Item::Word(WordKind::Reserved(Reserved::Do), _) => owes_both(
+                Pending::Body,
+                Pending::EndLoop,
+            ),
             _ => stuck(),
         },
-        Part::EndLoop => match item {
+        Pending::EndLoop => match item {
             Item::Word(WordKind::Reserved(Reserved::Done), _) => done(),
             _ => stuck(),
         },
-        Part::LoopName => loop_name_at(item),
-        Part::LoopHead => loop_head_at(item),
-        Part::LoopLines => loop_lines_at(item),
-        Part::LoopSeparator => match item {
-            Item::Semi | Item::Newline => owes(Part::LoopDo),
+        Pending::LoopName => loop_name_at(item),
+        Pending::LoopHead => loop_head_at(item),
+        Pending::LoopLines => loop_lines_at(item),
+        Pending::LoopSeparator => match item {
+            Item::Semi | Item::Newline => owes(Pending::LoopDo),
             _ => stuck(),
         },
-        Part::LoopDo => match item {
-            Item::Newline => owes(Part::LoopDo),
-            Item::Word(WordKind::Reserved(Reserved::Do), _) => owes_both(Part::Body, Part::EndLoop),
+        Pending::LoopDo => match item {
+            Item::Newline => owes(Pending::LoopDo),
+            Item::Word(WordKind::Reserved(Reserved::Do), _) => owes_both(
+                Pending::Body,
+                Pending::EndLoop,
+            ),
             _ => stuck(),
         },
     }
@@ -434,8 +446,14 @@ fn branch_at(item: Item) -> Owing
     ensures { owing_of result ≡ branch_by item }
 {
     match item {
-        Item::Word(WordKind::Reserved(Reserved::Elif), _) => owes_both(Part::Body, Part::ThenBody),
-        Item::Word(WordKind::Reserved(Reserved::Else), _) => owes_both(Part::Body, Part::EndIf),
+        Item::Word(WordKind::Reserved(Reserved::Elif), _) => owes_both(
+            Pending::Body,
+            Pending::ThenBody,
+        ),
+        Item::Word(WordKind::Reserved(Reserved::Else), _) => owes_both(
+            Pending::Body,
+            Pending::EndIf,
+        ),
         Item::Word(WordKind::Reserved(Reserved::Fi), _) => done(),
         _ => stuck(),
     }
@@ -448,7 +466,7 @@ fn loop_name_at(item: Item) -> Owing
     match item {
         Item::Word(kind, _) => {
             if is_name(kind) {
-                owes(Part::LoopHead)
+                owes(Pending::LoopHead)
             } else {
                 stuck()
             }
@@ -462,10 +480,16 @@ fn loop_head_at(item: Item) -> Owing
     ensures { owing_of result ≡ move loop_head item }
 {
     match item {
-        Item::Word(WordKind::Reserved(Reserved::Do), _) => owes_both(Part::Body, Part::EndLoop),
-        Item::Word(WordKind::In, _) => owes_both(Part::Pieces(Place::Loop), Part::LoopSeparator),
-        Item::Newline => owes(Part::LoopLines),
-        Item::Semi => owes(Part::LoopDo),
+        Item::Word(WordKind::Reserved(Reserved::Do), _) => owes_both(
+            Pending::Body,
+            Pending::EndLoop,
+        ),
+        Item::Word(WordKind::In, _) => owes_both(
+            Pending::Pieces(Slot::Loop),
+            Pending::LoopSeparator,
+        ),
+        Item::Newline => owes(Pending::LoopLines),
+        Item::Semi => owes(Pending::LoopDo),
         _ => stuck(),
     }
 }
@@ -475,9 +499,15 @@ fn loop_lines_at(item: Item) -> Owing
     ensures { owing_of result ≡ move loop_lines item }
 {
     match item {
-        Item::Word(WordKind::Reserved(Reserved::Do), _) => owes_both(Part::Body, Part::EndLoop),
-        Item::Word(WordKind::In, _) => owes_both(Part::Pieces(Place::Loop), Part::LoopSeparator),
-        Item::Newline => owes(Part::LoopLines),
+        Item::Word(WordKind::Reserved(Reserved::Do), _) => owes_both(
+            Pending::Body,
+            Pending::EndLoop,
+        ),
+        Item::Word(WordKind::In, _) => owes_both(
+            Pending::Pieces(Slot::Loop),
+            Pending::LoopSeparator,
+        ),
+        Item::Newline => owes(Pending::LoopLines),
         _ => stuck(),
     }
 }

@@ -6,7 +6,7 @@ use crate::items::{Reserved, WordKind};
 
 /// Where a piece of a command may stand.
 #[derive(Clone, Copy, Debug, PartialEq, Eq)]
-pub enum Place {
+pub enum Slot {
     /// Where a command begins.
     First,
     /// Before the name of a simple command.
@@ -25,40 +25,40 @@ pub enum Use {
     /// An assignment.
     Assigned,
     /// A command's name, an argument or a word of a `for`. The next piece stands at this place.
-    Given(Place),
+    Given(Slot),
     /// No piece.
     Unused,
 }
 
 /// What a word is at a place: a command's first word isn't reserved, and assignments stand before the name alone.
-pub fn used(place: Place, kind: WordKind) -> Use
+pub fn used(place: Slot, kind: WordKind) -> Use
     ensures { result ≡ used place kind }
 {
     match place {
-        Place::First => match kind {
+        Slot::First => match kind {
             WordKind::Reserved(_) => Use::Unused,
             WordKind::Assign => Use::Assigned,
-            _ => Use::Given(Place::BehindName),
+            _ => Use::Given(Slot::BehindName),
         },
-        Place::BeforeName => match kind {
+        Slot::BeforeName => match kind {
             WordKind::Assign => Use::Assigned,
-            _ => Use::Given(Place::BehindName),
+            _ => Use::Given(Slot::BehindName),
         },
-        Place::BehindName => Use::Given(Place::BehindName),
-        Place::Tail => Use::Unused,
-        Place::Loop => Use::Given(Place::Loop),
+        Slot::BehindName => Use::Given(Slot::BehindName),
+        Slot::Tail => Use::Unused,
+        Slot::Loop => Use::Given(Slot::Loop),
     }
 }
 
 /// The place behind a redirection, where one may stand.
-pub fn redirects(place: Place) -> Option<Place>
+pub fn redirects(place: Slot) -> Option<Slot>
     ensures { result ≡ redirects place }
 {
     match place {
-        Place::First | Place::BeforeName => Some(Place::BeforeName),
-        Place::BehindName => Some(Place::BehindName),
-        Place::Tail => Some(Place::Tail),
-        Place::Loop => None,
+        Slot::First | Slot::BeforeName => Some(Slot::BeforeName),
+        Slot::BehindName => Some(Slot::BehindName),
+        Slot::Tail => Some(Slot::Tail),
+        Slot::Loop => None,
     }
 }
 

@@ -2,7 +2,7 @@
 
 /// Why items are no script.
 #[derive(Clone, Copy, Debug, PartialEq, Eq)]
-pub enum Refusal {
+pub enum SyntaxRefusal {
     /// No script goes on so.
     BadSyntax,
     /// A level too many opens at this offset.
@@ -13,7 +13,7 @@ pub enum Refusal {
 #[derive(Clone, Copy, Debug, PartialEq, Eq)]
 pub enum GrammarRefusal {
     /// The items are refused.
-    Refused(Refusal),
+    Refused(SyntaxRefusal),
     /// Memory was wanted and refused.
     Memory,
 }

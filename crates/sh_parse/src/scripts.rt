@@ -13,7 +13,7 @@ use crate::items::Item;
 use crate::misuses::{Misuse, first_misuse};
 use crate::parsing::build;
 use crate::readers::WordReader;
-use crate::refusals::{GrammarRefusal, Refusal};
+use crate::refusals::{GrammarRefusal, SyntaxRefusal};
 use crate::text_words::TextWords;
 use crate::texts::read_items;
 use ps_lines::Memory;
@@ -99,8 +99,10 @@ fn of_grammar(refusal: GrammarRefusal) -> ParseRefusal
     ensures { result ≡ of_grammar refusal }
 {
     match refusal {
-        GrammarRefusal::Refused(Refusal::BadSyntax) => ParseRefusal::Refused(Static::BadSyntax),
-        GrammarRefusal::Refused(Refusal::TooDeep(offset)) => {
+        GrammarRefusal::Refused(SyntaxRefusal::BadSyntax) => ParseRefusal::Refused(
+            Static::BadSyntax,
+        ),
+        GrammarRefusal::Refused(SyntaxRefusal::TooDeep(offset)) => {
             ParseRefusal::Refused(Static::TooDeep(offset))
         }
         GrammarRefusal::Memory => ParseRefusal::Memory,

@@ -9,8 +9,8 @@ use Rattle.sh_lex.proofs.EndLemmas.{substitution_ends}
 use Rattle.sh_lex.proofs.Readings.{Reads-same, Reads-some}
 use Rattle.sh_lex.specs.declared.bytes.TheConstants.{CLOSE}
 use Rattle.sh_lex.specs.declared.Nest.{Nest}
-use Rattle.sh_lex.specs.declared.Part.{Part}
-use Rattle.sh_lex.specs.declared.Part.TheVariants as construct
+use Rattle.sh_lex.specs.declared.Construct.{Construct}
+use Rattle.sh_lex.specs.declared.Construct.TheVariants as construct
 use Rattle.sh_lex.specs.declared.Spot.TheVariants as spot
 use Rattle.sh_words.specs.Words.{left_by, Passes, in_commands}
 use Rattle.sh_words.specs.Inner.Extents.{left_behind, EndsItself}
@@ -48,22 +48,22 @@ stripped bytes here None Otherwise itself is = tt
 stripped bytes here (Some rest) Otherwise itself is = passes_behind bytes here rest.now itself is
 
 -- the constructs that are open, the innermost first: what is read of the one that goes on is read of the innermost, and so on outward
-abbrev pub Holds : List Opened → Part → List ℕ → Type 0
+abbrev pub Holds : List Opened → Construct → List ℕ → Type 0
 Holds [] part rest = Unit {0}
 Holds (opened ∷ «open») part rest =
     ((end : lex.Outcome) → Reads part rest end → Reads opened.inner opened.text.now end)
     × ((after : List ℕ) → Reads opened.inner opened.text.now (past after) → Holds «open» opened.outer after)
 
-Holds-on : («open» : List Opened) (part next : Part) (rest left : List ℕ)
+Holds-on : («open» : List Opened) (part next : Construct) (rest left : List ℕ)
     → ((end : lex.Outcome) → Reads next left end → Reads part rest end) → Holds «open» part rest → Holds «open» next left
 Holds-on [] part next rest left on h = tt
 Holds-on (opened ∷ «open») part next rest left on (innermost, outward) = (λ end reads. innermost end (on end reads), outward)
 
-pub Holds-goes : («open» : List Opened) (part next : Part) (rest left : List ℕ) → act part rest ≡ goes next left
+pub Holds-goes : («open» : List Opened) (part next : Construct) (rest left : List ℕ) → act part rest ≡ goes next left
     → Holds «open» part rest → Holds «open» next left
 Holds-goes «open» part next rest left e h = Holds-on «open» part next rest left (λ end reads. goes_on e reads) h
 
-pub Holds-enters : («open» more : List Opened) (opened : Opened) (part : Part) (rest : List ℕ)
+pub Holds-enters : («open» more : List Opened) (opened : Opened) (part : Construct) (rest : List ℕ)
     → act part rest ≡ enters opened.inner opened.outer opened.text.now → more ≡ «open» ++ opened ∷ []
     → Holds (reverse «open») part rest → Holds (reverse more) opened.inner opened.text.now
 Holds-enters «open» more opened part rest e same h =
@@ -76,7 +76,7 @@ pub record Closes («open» : List Opened) (opened : Opened) (after : List ℕ) 
   pub read : Reads opened.inner opened.text.now (past after)
   pub around : Holds (reverse «open») opened.outer after
 
-pub Holds-ends : («open» fewer : List Opened) (opened : Opened) (part : Part) (rest after : List ℕ) → act part rest ≡ ends after
+pub Holds-ends : («open» fewer : List Opened) (opened : Opened) (part : Construct) (rest after : List ℕ) → act part rest ≡ ends after
     → «open» ≡ fewer ++ opened ∷ [] → Holds (reverse «open») part rest → Closes fewer opened after
 Holds-ends «open» fewer opened part rest after e same h =
     let (innermost, outward) = subst (λ x. Holds x part rest) (ap reverse same ∙ reverse-append fewer (opened ∷ [])) h in

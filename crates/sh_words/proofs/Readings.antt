@@ -4,7 +4,7 @@ use Rattle.sh_tree.specs.Trees.{no_part, PartTree, parameter, substitution}
 use Rattle.sh_tree.specs.declared.words.Param.{Param}
 use Rattle.sh_lex.specs.Reads as lex
 use Rattle.sh_lex.specs.Texts.{unspliced}
-use Rattle.sh_lex.specs.declared.Part.{Part}
+use Rattle.sh_lex.specs.declared.Construct.{Construct}
 use Rattle.sh_lex.proofs.Fronts.{length-unspliced}
 use Rattle.sh_lex.proofs.Readings as lexed
 use Rattle.sh_words.specs.Inner.Built.{open_in}
@@ -49,7 +49,7 @@ left_by-Leaves : (count : ℕ) (end : lex.Outcome) → lexed.Leaves count end �
 left_by-Leaves count (lex.past rest) h = h
 left_by-Leaves count (lex.refused fault) h = omega arith
 
-pub Passes-less : (construct : Part) (text rest : List ℕ) → Passes construct text rest → length rest ≤ length text
+pub Passes-less : (construct : Construct) (text rest : List ℕ) → Passes construct text rest → length rest ≤ length text
 Passes-less construct text rest (end, (reads, is)) =
     subst (λ r. length r ≤ length text) (sym is) (left_by-Leaves (length text) end (lexed.Reads-Leaves reads))
 
@@ -205,7 +205,7 @@ dollar_follows {most = zero} {left = left} {number = number} {is_quoted = is_quo
 dollar_follows {most = zero} {left = left} {number = number} {is_quoted = is_quoted} {text = text} {part = part} (arithmetic_too_deep e) =
     subst (λ x. FollowsDollar zero is_quoted left number text x part) (sym e) refl
 
-passed_same : (construct : Part) (text one other : List ℕ) → Passes construct text one → Passes construct text other → other ≡ one
+passed_same : (construct : Construct) (text one other : List ℕ) → Passes construct text one → Passes construct text other → other ≡ one
 passed_same construct text one other (end, (reads, is)) (second, (again, same)) =
     same ∙ (ap left_by (lexed.Reads-same again reads) ∙ sym is)
 

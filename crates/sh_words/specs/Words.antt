@@ -10,8 +10,8 @@ use Rattle.ps_lines.specs.Bytes.{is_name_byte}
 use Rattle.sh_lex.specs.Texts.{unspliced, run, behind_run}
 use Rattle.sh_lex.specs.Heads.{trims}
 use Rattle.sh_lex.specs.Reads as lex
-use Rattle.sh_lex.specs.declared.Part.{Part}
-use Rattle.sh_lex.specs.declared.Part.TheVariants as construct
+use Rattle.sh_lex.specs.declared.Construct.{Construct}
+use Rattle.sh_lex.specs.declared.Construct.TheVariants as construct
 use Rattle.sh_lex.specs.declared.Spot.TheVariants as spot
 use Rattle.sh_tree.specs.declared.words.Param.{Param}
 use Rattle.sh_words.specs.Pieces.{before, found_before}
@@ -53,15 +53,15 @@ left_by (lex.past rest) = rest
 left_by (lex.refused fault) = []
 
 -- what is left behind a construct that opens before the text
-abbrev pub Passes : Part → List ℕ → List ℕ → Type 0
+abbrev pub Passes : Construct → List ℕ → List ℕ → Type 0
 Passes construct text rest = (end : lex.Outcome) × (lex.Reads construct text end × (rest ≡ left_by end))
 
 -- a `$( )` (XCU 2.6.3)
-abbrev pub in_commands : Part
+abbrev pub in_commands : Construct
 in_commands = construct.Commands (record { levels = 0; in_braces = false }) (Some 0) spot.Between
 
 -- a `${ }` (XCU 2.6.2), at whose `$` so many bytes are left
-abbrev pub in_braces : Bool → ℕ → Part
+abbrev pub in_braces : Bool → ℕ → Construct
 in_braces is_quoted left = construct.BraceHead (record { levels = 0; in_braces = true }) left is_quoted
 
 -- what is left behind the first byte

@@ -424,7 +424,7 @@ fn behind_tokens<'a>(alloc: Global, known: Known<'_>, text: &'a [u8]) -> Result<
         levels: 0,
         in_braces: false,
     };
-    let tokens = sh_lex::Part::Commands(nest, Some(0), Spot::Between);
+    let tokens = sh_lex::Construct::Commands(nest, Some(0), Spot::Between);
     past(alloc, tokens, text)
 }
 
@@ -452,18 +452,18 @@ fn without_form(
         levels: 0,
         in_braces: true,
     };
-    let head = sh_lex::Part::BraceHead(nest, left, quoted);
+    let head = sh_lex::Construct::BraceHead(nest, left, quoted);
     let rest = past(alloc, head, behind_byte(text))?;
     Ok(no_part(left, number, rest))
 }
 
 /// What is left behind a construct that opens before the text; nothing, where it isn't closed.
-fn past(alloc: Global, construct: sh_lex::Part, text: &[u8]) -> Result<&[u8], Memory>
+fn past(alloc: Global, construct: sh_lex::Construct, text: &[u8]) -> Result<&[u8], Memory>
     ensures { IfOk result (λ rest. Passes construct text.now rest.now) }
 {
     match past_construct(alloc, construct, text) {
         Ok(rest) => Ok(rest),
-        Err(sh_lex::Stop::Refused(_)) => Ok(&[]),
-        Err(sh_lex::Stop::Memory) => Err(Memory),
+        Err(sh_lex::ScanStop::Refused(_)) => Ok(&[]),
+        Err(sh_lex::ScanStop::Memory) => Err(Memory),
     }
 }

@@ -5,7 +5,7 @@ ghost use Rattle.sh_words.specs.Words.{Passes, in_commands};
 ghost use Rattle.sh_words.specs.Inner.Extents.{EndsItself};
 
 use ps_lines::Memory;
-use sh_lex::{Nest, Part, Spot, Step, step};
+use sh_lex::{Construct, Nest, Spot, Step, step};
 use std::alloc::Global;
 
 /// The tokens of a command substitution, with its `)`.
@@ -29,15 +29,15 @@ pub struct Substitutions<'a> {
 #[derive(Clone, Copy, Debug)]
 struct Opened<'a> {
     /// The other one, as it goes on.
-    outer: Part,
+    outer: Construct,
     /// The construct.
-    inner: Part,
+    inner: Construct,
     /// What is left of the text where it opened.
     text: &'a [u8],
 }
 
 /// The tokens of a text, as those of a command substitution that doesn't end.
-const TOKENS: Part = Part::Commands(
+const TOKENS: Construct = Construct::Commands(
     Nest {
         levels: 0,
         in_braces: false,
@@ -120,9 +120,9 @@ fn extent_of<'a>(total: usize, opened: Opened<'a>, behind: &[u8]) -> Option<Exte
     requires { Reads opened.inner opened.text.now (past behind.now) }
 {
     match opened.outer {
-        Part::Commands(_, _, Spot::Between) => None,
+        Construct::Commands(_, _, Spot::Between) => None,
         _ => match opened.inner {
-            Part::Commands(_, Some(_), Spot::Between) => {
+            Construct::Commands(_, Some(_), Spot::Between) => {
                 let count = opened.text.len().saturating_sub(behind.len());
                 Some(Extent {
                     from: total.saturating_sub(opened.text.len()),

@@ -19,7 +19,7 @@ use Rattle.std.proofs.lemmas.List.Sorted.{sum_by-IsPermutation}
 use Rattle.ps_lines.specs.Lines.{CutsLine, has_newline, text_of_lines}
 use Rattle.ut_args.specs.declared.Key.{Key}
 use Rattle.ut_args.specs.declared.KeyEnd.{KeyEnd}
-use Rattle.ut_sort.specs.declared.places.Place.{Place}
+use Rattle.ut_sort.specs.declared.places.LinePlace.{LinePlace}
 use Rattle.ut_sort.specs.declared.line_orders.LineOrder.{LineOrder}
 use Rattle.ut_sort.specs.Keys.{bytes_cmp, directed, folded, key_in, keys_cmp, letters_of, letters_with, texts_cmp}
 use Rattle.ut_sort.specs.Numbers.{numbers_cmp}
@@ -90,31 +90,31 @@ rest-at text left line rest within from cut =
     ∙ ap (λ count. drop count text) (omega (arith, size, within))
 
 -- places that are appended
-pub places-push : (order : LineOrder) (text : List ℕ) (places : List Place) (place : Place) → ArePlaces order text places → IsPlace order text place
+pub places-push : (order : LineOrder) (text : List ℕ) (places : List LinePlace) (place : LinePlace) → ArePlaces order text places → IsPlace order text place
     → ArePlaces order text (places ++ place ∷ [])
 places-push order text [] place are is = (is, tt)
 places-push order text (first ∷ places) place are is = (are.0, places-push order text places place are.1 is)
 
-behind-push : (span : ℕ) (places : List Place) (place : Place) → StandBehind span places → span < place.span → StandBehind span (places ++ place ∷ [])
+behind-push : (span : ℕ) (places : List LinePlace) (place : LinePlace) → StandBehind span places → span < place.span → StandBehind span (places ++ place ∷ [])
 behind-push span [] place behind after = (after, tt)
 behind-push span (first ∷ places) place behind after = (behind.0, behind-push span places place behind.1 after)
 
-pub rise-push : (end end' : ℕ) (places : List Place) (place : Place) → RiseTo end places → end ≤ place.span → place.span < end' → RiseTo end' (places ++ place ∷ [])
+pub rise-push : (end end' : ℕ) (places : List LinePlace) (place : LinePlace) → RiseTo end places → end ≤ place.span → place.span < end' → RiseTo end' (places ++ place ∷ [])
 rise-push end end' [] place rise after before = (before, (tt, tt))
 rise-push end end' (first ∷ places) place rise after before =
     let low = rise.0 in
     (omega (arith, low, after, before), (behind-push first.span places place rise.1.0 (omega (arith, low, after)), rise-push end end' places place rise.1.1 after before))
 
-pub rise-more : (end end' : ℕ) (places : List Place) → RiseTo end places → end ≤ end' → RiseTo end' places
+pub rise-more : (end end' : ℕ) (places : List LinePlace) → RiseTo end places → end ≤ end' → RiseTo end' places
 rise-more end end' [] rise more = tt
 rise-more end end' (first ∷ places) rise more = let low = rise.0 in (omega (arith, low, more), (rise.1.0, rise-more end end' places rise.1.1 more))
 
-pub lines-push : (text : List ℕ) (places : List Place) (place : Place) (line : List ℕ) → line_in text place.span ≡ line
+pub lines-push : (text : List ℕ) (places : List LinePlace) (place : LinePlace) (line : List ℕ) → line_in text place.span ≡ line
     → lines_in text (places ++ place ∷ []) ≡ lines_in text places ++ line ∷ []
 lines-push text [] place line is = ap (λ line. line ∷ []) is
 lines-push text (first ∷ places) place line is = ap (λ lines. line_in text first.span ∷ lines) (lines-push text places place line is)
 
-pub place-is : (order : LineOrder) (text : List ℕ) (place : Place) (line : List ℕ) → line_in text place.span ≡ line → place.number ≡ number_by order line
+pub place-is : (order : LineOrder) (text : List ℕ) (place : LinePlace) (line : List ℕ) → line_in text place.span ≡ line → place.number ≡ number_by order line
     → FirstKey order.separator order.keys.items line → IsPlace order text place
 place-is order text place line is number key =
     record { number = number ∙ ap (number_by order) (sym is); key = subst (FirstKey order.separator order.keys.items) (sym is) key }
@@ -182,11 +182,11 @@ tied_total order number =
 
 tie_total : (order : LineOrder) (text : List ℕ) → IsTotalOrder (tie_cmp order text)
 tie_total order text =
-    by_number_total (λ (place : Place). place.number) (λ number one other. tied_by order number (line_in text one.span) (line_in text other.span))
-    (λ number. on_total (λ (place : Place). line_in text place.span) (tied_total order number))
+    by_number_total (λ (place : LinePlace). place.number) (λ number one other. tied_by order number (line_in text one.span) (line_in text other.span))
+    (λ number. on_total (λ (place : LinePlace). line_in text place.span) (tied_total order number))
 
 place_total : (order : LineOrder) (text : List ℕ) → IsTotalOrder (place_cmp order text)
-place_total order text = then_total (tie_total order text) (on_total (λ (place : Place). place.span) nat_cmp_total)
+place_total order text = then_total (tie_total order text) (on_total (λ (place : LinePlace). place.span) nat_cmp_total)
 
 pub place_ranks : (order : LineOrder) (text : List ℕ) → IsStrictWeakOrder (λ one other. is_lt (place_cmp order text one other))
 place_ranks order text = ranks_by (place_total order text) (λ place. place)
@@ -199,7 +199,7 @@ then_parts Less p is = absurd (true≢false (sym (ap is_eq is)))
 then_parts Equal p is = (refl, is)
 then_parts Greater p is = absurd (true≢false (sym (ap is_eq is)))
 
-same_place : (order : LineOrder) (text : List ℕ) (one other : Place) → place_cmp order text one other ≡ Equal → one ≡ other
+same_place : (order : LineOrder) (text : List ℕ) (one other : LinePlace) → place_cmp order text one other ≡ Equal → one ≡ other
 same_place order text one other is =
     let parts = then_parts (tie_cmp order text one other) (nat_cmp one.span other.span) is in
     let number =
@@ -255,7 +255,7 @@ module _ (order : LineOrder) (one other : List ℕ) (is : FirstKey order.separat
           ap (λ o. ordering_then o (last_cmp order.unique order.reverse one other)) (sym (same_keys order.separator order.keys.items one other is is' same exact))
 
 -- places of lines are in the order of these
-tie-is : (order : LineOrder) (text : List ℕ) (one other : Place) → IsPlace order text one → IsPlace order text other
+tie-is : (order : LineOrder) (text : List ℕ) (one other : LinePlace) → IsPlace order text one → IsPlace order text other
     → tie_cmp order text one other ≡ cmp_by order (line_in text one.span) (line_in text other.span)
 tie-is order text one other is is' = by_number (nat_cmp one.number other.number) (ranked one.number other.number _ refl)
   where
@@ -351,11 +351,11 @@ module _ {Item : Type 0} (Holds : Item → Type 0) (cmp cmp' : Item → Item →
       ∙ ap (insert cmp' item) (others-alike unique item (sorted cmp unique items) each.0 there ∙ ap (others_of cmp' unique item) (sorted-alike unique items each.1))
 
 -- of places that rise, those that are equal but for where they stand keep their order
-behind-each : (span : ℕ) (places : List Place) → StandBehind span places → Each (λ (place : Place). span < place.span) places
+behind-each : (span : ℕ) (places : List LinePlace) → StandBehind span places → Each (λ (place : LinePlace). span < place.span) places
 behind-each span [] behind = tt
 behind-each span (place ∷ places) behind = (behind.0, behind-each span places behind.1)
 
-are-each : (order : LineOrder) (text : List ℕ) (places : List Place) → ArePlaces order text places → Each (IsPlace order text) places
+are-each : (order : LineOrder) (text : List ℕ) (places : List LinePlace) → ArePlaces order text places → Each (IsPlace order text) places
 are-each order text [] are = tt
 are-each order text (place ∷ places) are = (are.0, are-each order text places are.1)
 
@@ -365,21 +365,21 @@ later Equal one other after = ap is_lt (sym (nat_cmp_is other one Greater after)
 later Greater one other after = refl
 
 module _ (order : LineOrder) (text : List ℕ) where
-  rise-sorted : (end : ℕ) (places : List Place) → RiseTo end places → sorted (place_cmp order text) false places ≡ sorted (tie_cmp order text) false places
+  rise-sorted : (end : ℕ) (places : List LinePlace) → RiseTo end places → sorted (place_cmp order text) false places ≡ sorted (tie_cmp order text) false places
   rise-sorted end [] rise = refl
   rise-sorted end (place ∷ places) rise =
       ap (insert (place_cmp order text) place) (rise-sorted end places rise.1.1)
       ∙ insert-alike (place_cmp order text) (tie_cmp order text) place (sorted (tie_cmp order text) false places)
-      (each-map (λ (other : Place). place.span < other.span) (λ other. is_lt (place_cmp order text other place) ≡ is_lt (tie_cmp order text other place))
+      (each-map (λ (other : LinePlace). place.span < other.span) (λ other. is_lt (place_cmp order text other place) ≡ is_lt (tie_cmp order text other place))
       (sorted (tie_cmp order text) false places) (λ other after. later (tie_cmp order text other place) place.span other.span after)
-      (each-sorted (λ (other : Place). place.span < other.span) (tie_cmp order text) false places (behind-each place.span places rise.1.0)))
+      (each-sorted (λ (other : LinePlace). place.span < other.span) (tie_cmp order text) false places (behind-each place.span places rise.1.0)))
 
   -- what an unstable sort leaves
-  all_same : (item : Place) (items : List Place) → equals (place_cmp order text) item items ≡ replicate (length (equals (place_cmp order text) item items)) item
+  all_same : (item : LinePlace) (items : List LinePlace) → equals (place_cmp order text) item items ≡ replicate (length (equals (place_cmp order text) item items)) item
   all_same item [] = refl
   all_same item (x ∷ items) = by_eq (is_eq (place_cmp order text item x)) refl (all_same item items)
     where
-      Others : List Place
+      Others : List LinePlace
       Others = equals (place_cmp order text) item items
 
       by_eq : (eq : Bool) → is_eq (place_cmp order text item x) ≡ eq → Others ≡ replicate (length Others) item
@@ -388,7 +388,7 @@ module _ (order : LineOrder) (text : List ℕ) where
           λ i. sym (same_place order text item x (tied (place_cmp order text) (place_total order text) item x eq)) i ∷ rest i
       by_eq false eq rest = rest
 
-  equals-moved : (item : Place) (items list : List Place) → IsPermutation items list → equals (place_cmp order text) item list ≡ equals (place_cmp order text) item items
+  equals-moved : (item : LinePlace) (items list : List LinePlace) → IsPermutation items list → equals (place_cmp order text) item list ≡ equals (place_cmp order text) item items
   equals-moved item items list moved =
       all_same item list
       ∙ ap (λ count. replicate count item)
@@ -396,27 +396,27 @@ module _ (order : LineOrder) (text : List ℕ) where
       ∙ sym (length-filter (λ x. is_eq (place_cmp order text item x)) items))
       ∙ sym (all_same item items)
 
-  unstable-is : (old new : List Place) → IsPermutation old new → IsSortedBy (λ one other. is_lt (place_cmp order text one other)) new
+  unstable-is : (old new : List LinePlace) → IsPermutation old new → IsSortedBy (λ one other. is_lt (place_cmp order text one other)) new
       → new ≡ sorted (place_cmp order text) false old
   unstable-is old new moved up =
       only_sorted (place_cmp order text) (place_total order text) false old new
       (record { order = in_order-from (place_cmp order text) (place_total order text) new up; each = λ item. equals-moved item old new moved })
 
-  lines-sorted : (unique : Bool) (old : List Place) → ArePlaces order text old
+  lines-sorted : (unique : Bool) (old : List LinePlace) → ArePlaces order text old
       → lines_in text (sorted (tie_cmp order text) unique old) ≡ sorted (cmp_by order) unique (lines_in text old)
   lines-sorted unique old are =
       ap (lines_in text)
-      (sorted-alike (IsPlace order text) (tie_cmp order text) (on (λ (place : Place). line_in text place.span) (cmp_by order))
+      (sorted-alike (IsPlace order text) (tie_cmp order text) (on (λ (place : LinePlace). line_in text place.span) (cmp_by order))
       (λ one other is is'. tie-is order text one other is is') unique old (are-each order text old are))
-      ∙ map-sorted (λ (place : Place). line_in text place.span) (cmp_by order) unique old
+      ∙ map-sorted (λ (place : LinePlace). line_in text place.span) (cmp_by order) unique old
 
-  pub all_places : (end : ℕ) (old new : List Place) → order.unique ≡ false → ArePlaces order text old → RiseTo end old → IsPermutation old new
+  pub all_places : (end : ℕ) (old new : List LinePlace) → order.unique ≡ false → ArePlaces order text old → RiseTo end old → IsPermutation old new
       → IsSortedBy (λ one other. is_lt (place_cmp order text one other)) new → lines_in text new ≡ sorted_by order (lines_in text old)
   all_places end old new all are rise moved up =
       ap (lines_in text) (unstable-is old new moved up ∙ rise-sorted end old rise) ∙ lines-sorted false old are
       ∙ ap (λ unique. sorted (cmp_by order) unique (lines_in text old)) (sym all)
 
-  pub first_places : (end : ℕ) (old half new : List Place) → order.unique ≡ true → ArePlaces order text old → RiseTo end old → IsPermutation old half
+  pub first_places : (end : ℕ) (old half new : List LinePlace) → order.unique ≡ true → ArePlaces order text old → RiseTo end old → IsPermutation old half
       → IsSortedBy (λ one other. is_lt (place_cmp order text one other)) half → new ≡ dedup (eq_by_cmp (tie_cmp order text)) half
       → lines_in text new ≡ sorted_by order (lines_in text old)
   first_places end old half new unique are rise moved up is =
@@ -428,33 +428,33 @@ module _ (order : LineOrder) (text : List ℕ) where
       ap (lines_in text) first ∙ lines-sorted true old are ∙ ap (λ unique. sorted (cmp_by order) unique (lines_in text old)) (sym unique)
 
 -- lines that are written
-text-append : (text : List ℕ) (front back : List Place)
+text-append : (text : List ℕ) (front back : List LinePlace)
     → text_of_lines (lines_in text (front ++ back)) ≡ text_of_lines (lines_in text front) ++ text_of_lines (lines_in text back)
 text-append text [] back = refl
 text-append text (place ∷ front) back =
     ap (λ rest. line_in text place.span ++ 10 ∷ rest) (text-append text front back)
     ∙ sym (append_assoc (line_in text place.span) (10 ∷ text_of_lines (lines_in text front)) (text_of_lines (lines_in text back)))
 
-pub text-next : (text : List ℕ) (places : List Place) (count : ℕ) (d : Place) → count < length places
+pub text-next : (text : List ℕ) (places : List LinePlace) (count : ℕ) (d : LinePlace) → count < length places
     → text_of_lines (lines_in text (take (count + 1) places)) ≡ text_of_lines (lines_in text (take count places)) ++ (line_in text (get_or places count d).span ++ 10 ∷ [])
 text-next text places count d low =
     ap (λ front. text_of_lines (lines_in text front)) (take_more places count d low) ∙ text-append text (take count places) (get_or places count d ∷ [])
 
-pub text-parts : (text : List ℕ) (places : List Place) (count : ℕ)
+pub text-parts : (text : List ℕ) (places : List LinePlace) (count : ℕ)
     → text_of_lines (lines_in text places) ≡ text_of_lines (lines_in text (take count places)) ++ text_of_lines (lines_in text (drop count places))
 text-parts text places count =
     ap (λ places. text_of_lines (lines_in text places)) (sym (take-append-drop count places)) ∙ text-append text (take count places) (drop count places)
 
 -- nothing is left where no line is
-some-line : (text : List ℕ) (place : Place) (places : List Place) → 0 < length (text_of_lines (lines_in text (place ∷ places)))
+some-line : (text : List ℕ) (place : LinePlace) (places : List LinePlace) → 0 < length (text_of_lines (lines_in text (place ∷ places)))
 some-line text place places =
     let size = length-append (line_in text place.span) (10 ∷ text_of_lines (lines_in text places)) in omega (arith, size)
 
 -- a piece of what is left
-pub left-is : (places : List Place) (given from : ℕ) → from ≡ min given (length places) → take (length places - from) (drop from places) ≡ drop given places
+pub left-is : (places : List LinePlace) (given from : ℕ) → from ≡ min given (length places) → take (length places - from) (drop from places) ≡ drop given places
 left-is places given from is = take_rest places from ∙ ap (λ from. drop from places) is ∙ drop_min given places
 
-pub left-parts : (text : List ℕ) (places : List Place) (given from count : ℕ) → from ≡ min given (length places)
+pub left-parts : (text : List ℕ) (places : List LinePlace) (given from count : ℕ) → from ≡ min given (length places)
     → left_behind text places given ≡ text_of_lines (lines_in text (take count (take (length places - from) (drop from places)))) ++ left_behind text places (from + count)
 left-parts text places given from count is =
     ap (λ left. text_of_lines (lines_in text left)) (sym (left-is places given from is))
@@ -463,13 +463,13 @@ left-parts text places given from count is =
     ∙ ap (λ left. text_of_lines (lines_in text (take count (take (length places - from) (drop from places)))) ++ text_of_lines (lines_in text left)) (drop-drop count from places)
 
 -- and where some is left, a piece has some
-front-some : (text : List ℕ) (left : List Place) (count : ℕ) → 0 < length (text_of_lines (lines_in text left)) → (0 < length left → 0 < count)
+front-some : (text : List ℕ) (left : List LinePlace) (count : ℕ) → 0 < length (text_of_lines (lines_in text left)) → (0 < length left → 0 < count)
     → 0 < length (text_of_lines (lines_in text (take count left)))
 front-some text [] count some more = absurd (omega (arith, some))
 front-some text (place ∷ left) zero some more = let none = more (omega arith) in absurd (omega (arith, none))
 front-some text (place ∷ left) (suc count) some more = some-line text place (take count left)
 
-pub piece-grows : (text : List ℕ) (places : List Place) (given from count : ℕ) (old new : List ℕ) → from ≡ min given (length places)
+pub piece-grows : (text : List ℕ) (places : List LinePlace) (given from count : ℕ) (old new : List ℕ) → from ≡ min given (length places)
     → (0 < length (take (length places - from) (drop from places)) → 0 < count)
     → Put (text_of_lines (lines_in text (take count (take (length places - from) (drop from places))))) old new true
     → 0 < length (left_behind text places given) → length old < length new
@@ -490,7 +490,7 @@ put-broken was front now now' old new is put =
     let wrote : Wrote {Input = List ℕ} (λ _. was) (λ _. now) old new false = Wrote-put (λ _. was) (λ _. now) front old new false (λ _. is) put in
     record { kept = wrote.kept; grew = λ ok. absurd (true≢false (sym ok)); part = wrote.part [] }
 
-pub done-is : (text : List ℕ) (places : List Place) (given : ℕ) → Decides (nat_le (length places) given) (left_behind text places given ≡ [])
+pub done-is : (text : List ℕ) (places : List LinePlace) (given : ℕ) → Decides (nat_le (length places) given) (left_behind text places given ≡ [])
 done-is text places given = (all, none (nat_le (length places) given) refl)
   where
     all : nat_le (length places) given ≡ true → left_behind text places given ≡ []
@@ -506,7 +506,7 @@ done-is text places given = (all, none (nat_le (length places) given) refl)
         let size : length (left_behind text places given) ≡ 0 = ap length empty in
         absurd (omega (arith, some, size))
       where
-        some_left : (places : List Place) (given : ℕ) → given < length places → 0 < length (left_behind text places given)
+        some_left : (places : List LinePlace) (given : ℕ) → given < length places → 0 < length (left_behind text places given)
         some_left [] given low = absurd (omega (arith, low))
         some_left (place ∷ places) zero low = some-line text place places
         some_left (place ∷ places) (suc given) low = some_left places given (omega (arith, low))

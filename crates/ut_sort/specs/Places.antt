@@ -3,7 +3,7 @@ use Rattle.std.specs.Prelude.{◌≡◌, ℕ, ◌/◌, ◌%◌, ◌<◌, ◌==�
 use Rattle.std.specs.declared.cmp.Ordering.{Ordering}
 use Rattle.std.specs.Ordering.{nat_cmp, ordering_then}
 use Rattle.ps_lines.specs.declared.newlines.TheConstants.{NEWLINE}
-use Rattle.ut_sort.specs.declared.places.Place.{Place}
+use Rattle.ut_sort.specs.declared.places.LinePlace.{LinePlace}
 use Rattle.ut_sort.specs.declared.places.TheConstants.{LONG, SIZES}
 use Rattle.ut_sort.specs.declared.line_orders.LineOrder.{LineOrder}
 use Rattle.ut_sort.specs.LineOrders.{number_by, tied_by}
@@ -19,37 +19,37 @@ abbrev pub line_in : List ℕ → ℕ → List ℕ
 line_in text span =
     if nat_lt (span % SIZES) LONG then take (span % SIZES) (drop (span / SIZES) text) else first_line (drop (span / SIZES) text)
 
-abbrev pub lines_in : List ℕ → List Place → List (List ℕ)
+abbrev pub lines_in : List ℕ → List LinePlace → List (List ℕ)
 lines_in text places = map (λ place. line_in text place.span) places
 
 -- the same line with another number
-abbrev pub with_number : ℕ → Place → Place
+abbrev pub with_number : ℕ → LinePlace → LinePlace
 with_number number place = record { number = number; span = place.span }
 
 -- the order of the lines at two places: by their numbers, and then as lines
-abbrev pub tie_cmp : LineOrder → List ℕ → Place → Place → Ordering
+abbrev pub tie_cmp : LineOrder → List ℕ → LinePlace → LinePlace → Ordering
 tie_cmp order text one other =
     ordering_then (nat_cmp one.number other.number) (tied_by order one.number (line_in text one.span) (line_in text other.span))
 
 -- and at last by where they stand
-abbrev pub place_cmp : LineOrder → List ℕ → Place → Place → Ordering
+abbrev pub place_cmp : LineOrder → List ℕ → LinePlace → LinePlace → Ordering
 place_cmp order text one other = ordering_then (tie_cmp order text one other) (nat_cmp one.span other.span)
 
 -- the number is that of the line there
-pub record IsPlace (order : LineOrder) (text : List ℕ) (place : Place) : Type 0 where
+pub record IsPlace (order : LineOrder) (text : List ℕ) (place : LinePlace) : Type 0 where
   pub number : place.number ≡ number_by order (line_in text place.span)
   pub key : FirstKey order.separator order.keys.items (line_in text place.span)
 
-abbrev pub ArePlaces : LineOrder → List ℕ → List Place → Type 0
+abbrev pub ArePlaces : LineOrder → List ℕ → List LinePlace → Type 0
 ArePlaces order text [] = ⊤
 ArePlaces order text (place ∷ others) = IsPlace order text place × ArePlaces order text others
 
 -- each of these stands behind this place
-abbrev pub StandBehind : ℕ → List Place → Type 0
+abbrev pub StandBehind : ℕ → List LinePlace → Type 0
 StandBehind span [] = ⊤
 StandBehind span (place ∷ others) = (span < place.span) × StandBehind span others
 
 -- each stands behind those before it, and before an end
-abbrev pub RiseTo : ℕ → List Place → Type 0
+abbrev pub RiseTo : ℕ → List LinePlace → Type 0
 RiseTo end [] = ⊤
 RiseTo end (place ∷ others) = (place.span < end) × (StandBehind place.span others × RiseTo end others)

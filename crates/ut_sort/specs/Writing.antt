@@ -3,11 +3,11 @@ use Rattle.std.specs.Prelude.{◌≡◌, ℕ, List, ◌++◌, drop, Bool, true}
 use Rattle.ps_lines.specs.Lines.{text_of_lines}
 use Rattle.ps_lines.specs.Texts.{BeginsWith}
 use Rattle.ut_sort.specs.Places.{lines_in}
-use Rattle.ut_sort.specs.declared.places.Place.{Place}
+use Rattle.ut_sort.specs.declared.places.LinePlace.{LinePlace}
 use Rattle.ut_sort.specs.declared.writing.SortedLines.{SortedLines}
 
 -- what is still to be written, where so many lines are
-abbrev pub left_behind : List ℕ → List Place → ℕ → List ℕ
+abbrev pub left_behind : List ℕ → List LinePlace → ℕ → List ℕ
 left_behind text places given = text_of_lines (lines_in text (drop given places))
 
 abbrev pub left_of : SortedLines → List ℕ

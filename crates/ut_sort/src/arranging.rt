@@ -8,7 +8,7 @@ ghost use Rattle.ut_sort.specs.Places.{with_number};
 
 use crate::keys::{behind_bytes, key_in, letters_of};
 use crate::line_orders::LineOrder;
-use crate::places::{Place, line_in};
+use crate::places::{LinePlace, line_in};
 use crate::prefixes::{directed_number, is_exact, letters_number};
 use std::cmp::Ordering;
 use ut_args::{Key, Ordering as Letters};
@@ -32,7 +32,7 @@ struct Stage<'o> {
 
 /// Puts places in the order of their lines, where keys have to be sought in them and the first isn't a number. With `-u` no line is looked
 /// at where the number of its only key says all, so places are left as they are.
-pub(crate) fn arrange(order: &LineOrder, text: &[u8], places: &mut [Place])
+pub(crate) fn arrange(order: &LineOrder, text: &[u8], places: &mut [LinePlace])
     ensures { IsPermutation places.old places.new }
 {
     if order.whole || order.letters.numeric || order.unique {
@@ -47,7 +47,13 @@ pub(crate) fn arrange(order: &LineOrder, text: &[u8], places: &mut [Place])
 
 /// Puts places in order that have the numbers of a stage.
 #[cycle(arranging)]
-fn arrange_numbered(order: &LineOrder, text: &[u8], stage: Stage, stages: u32, places: &mut [Place])
+fn arrange_numbered(
+    order: &LineOrder,
+    text: &[u8],
+    stage: Stage,
+    stages: u32,
+    places: &mut [LinePlace],
+)
     ensures { IsPermutation places.old places.new }
 {
     places.sort_unstable_by(|one, other| one.number.cmp(&other.number));
@@ -61,7 +67,7 @@ fn arrange_numbered(order: &LineOrder, text: &[u8], stage: Stage, stages: u32, p
 }
 
 /// How many places in front have this number.
-fn count_numbered(number: u64, places: &[Place]) -> usize
+fn count_numbered(number: u64, places: &[LinePlace]) -> usize
     ensures within { result ≤ length places.now }
     ensures equal { map (with_number number) (take result places.now) ≡ take result places.now }
 {
@@ -83,7 +89,7 @@ fn arrange_equal(
     stage: Stage,
     stages: u32,
     number: u64,
-    places: &mut [Place],
+    places: &mut [LinePlace],
 )
     requires { map (with_number number) places.old ≡ places.old }
     ensures { IsPermutation places.old places.new }
@@ -145,7 +151,7 @@ fn number_at(order: &LineOrder, stage: Stage, line: &[u8]) -> u64 {
 }
 
 /// Gives places the numbers of a stage.
-fn number_places(order: &LineOrder, text: &[u8], stage: Stage, places: &mut [Place])
+fn number_places(order: &LineOrder, text: &[u8], stage: Stage, places: &mut [LinePlace])
     ensures { (number : ℕ) → map (with_number number) places.new ≡ map (with_number number) places.old }
 {
     for place in places.iter_mut() {
@@ -154,7 +160,7 @@ fn number_places(order: &LineOrder, text: &[u8], stage: Stage, places: &mut [Pla
 }
 
 /// Gives places one number.
-fn set_numbers(number: u64, places: &mut [Place])
+fn set_numbers(number: u64, places: &mut [LinePlace])
     ensures { places.new ≡ map (with_number number) places.old }
 {
     for place in places.iter_mut() {
@@ -163,7 +169,7 @@ fn set_numbers(number: u64, places: &mut [Place])
 }
 
 /// The order of the lines at two places, and of equal lines of their places.
-fn compare_lines(order: &LineOrder, text: &[u8], one: &Place, other: &Place) -> Ordering {
+fn compare_lines(order: &LineOrder, text: &[u8], one: &LinePlace, other: &LinePlace) -> Ordering {
     match order.compare(line_in(text, one.span), line_in(text, other.span)) {
         Ordering::Equal => one.span.cmp(&other.span),
         decided => decided,

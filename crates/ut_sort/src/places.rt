@@ -22,7 +22,7 @@ const MOST_BYTES: u64 = 281_474_976_710_656;
 
 /// A line: 16 bytes, whatever it holds.
 #[derive(Clone, Copy)]
-pub(crate) struct Place {
+pub(crate) struct LinePlace {
     /// What its first key begins with.
     pub(crate) number: u64,
     /// Where it begins, times `SIZES`, and its length or `LONG`.
@@ -34,7 +34,7 @@ pub(crate) fn sorted_places(
     order: &LineOrder,
     alloc: Global,
     text: &[u8],
-) -> Result<Vec<Place>, Memory>
+) -> Result<Vec<LinePlace>, Memory>
     ensures { IfOk result (λ places. lines_in text.now places.items ≡ sorted_by order.now (lines_def text.now)) }
 {
     let mut places = places_of(order, alloc, text)?;
@@ -43,7 +43,7 @@ pub(crate) fn sorted_places(
 }
 
 /// The places of the lines of a text; a last line that no newline ends counts too.
-fn places_of(order: &LineOrder, alloc: Global, text: &[u8]) -> Result<Vec<Place>, Memory>
+fn places_of(order: &LineOrder, alloc: Global, text: &[u8]) -> Result<Vec<LinePlace>, Memory>
     ensures lines { IfOk result (λ places. lines_in text.now places.items ≡ lines_def text.now) }
     ensures places { IfOk result (λ places. ArePlaces order.now text.now places.items) }
     ensures rise { IfOk result (λ places. RiseTo (SIZES * (length text.now + 1)) places.items) }
@@ -67,7 +67,7 @@ fn push_place(
     text: &[u8],
     left: &[u8],
     line: &[u8],
-    places: &mut Vec<Place>,
+    places: &mut Vec<LinePlace>,
 ) -> Result<(), Memory>
     requires within { length left.now ≤ length text.now }
     requires left { left.now ≡ drop (length text.now - length left.now) text.now }
@@ -81,7 +81,7 @@ fn push_place(
     if at >= MOST_BYTES {
         return Err(Memory);
     }
-    places.push(Place {
+    places.push(LinePlace {
         number: order.number_of(line),
         span: at * SIZES + (line.len() as u64).min(LONG),
     })?;
@@ -89,7 +89,7 @@ fn push_place(
 }
 
 /// Puts the places in the order of their lines; with `-u` of equal lines that of the first is kept.
-fn sort_places(order: &LineOrder, text: &[u8], places: &mut Vec<Place>)
+fn sort_places(order: &LineOrder, text: &[u8], places: &mut Vec<LinePlace>)
     requires places { ArePlaces order.now text.now places.old.items }
     requires rise { RiseTo (SIZES * (length text.now + 1)) places.old.items }
     ensures { lines_in text.now places.new.items ≡ sorted_by order.now (lines_in text.now places.old.items) }
@@ -102,7 +102,7 @@ fn sort_places(order: &LineOrder, text: &[u8], places: &mut Vec<Place>)
 }
 
 /// The order of the lines at two places, and of equal lines of their places.
-fn compare_places(order: &LineOrder, text: &[u8], one: &Place, other: &Place) -> Ordering
+fn compare_places(order: &LineOrder, text: &[u8], one: &LinePlace, other: &LinePlace) -> Ordering
     ensures { result ≡ place_cmp order.now text.now one.now other.now }
 {
     match compare_ties(order, text, one, other) {
@@ -113,7 +113,7 @@ fn compare_places(order: &LineOrder, text: &[u8], one: &Place, other: &Place) ->
 
 /// The order of the lines at two places: most are told apart by their numbers.
 #[inline]
-fn compare_ties(order: &LineOrder, text: &[u8], one: &Place, other: &Place) -> Ordering
+fn compare_ties(order: &LineOrder, text: &[u8], one: &LinePlace, other: &LinePlace) -> Ordering
     ensures { result ≡ tie_cmp order.now text.now one.now other.now }
 {
     match one.number.cmp(&other.number) {

@@ -7,7 +7,7 @@ ghost use Rattle.ut_streams.specs.Streams.{Put};
 ghost use Rattle.ut_sort.specs.Places.{lines_in};
 ghost use Rattle.ut_sort.specs.Writing.{PutSome, left_behind, left_of};
 
-use crate::places::{Place, SIZES, line_in};
+use crate::places::{LinePlace, SIZES, line_in};
 use ps_lines::Memory;
 use std::alloc::Global;
 use ut_streams::put_line;
@@ -20,7 +20,7 @@ const PIECE: u64 = 65_536;
 #[derive(Drop)]
 pub struct SortedLines {
     text: Vec<u8>,
-    places: Vec<Place>,
+    places: Vec<LinePlace>,
     /// How many lines are written.
     given: usize,
 }
@@ -38,7 +38,7 @@ impl SortedLines {
     }
 
     /// These places of a text, of which nothing is written yet.
-    pub(crate) fn new(text: Vec<u8>, places: Vec<Place>) -> SortedLines
+    pub(crate) fn new(text: Vec<u8>, places: Vec<LinePlace>) -> SortedLines
         ensures { left_of result ≡ text_of_lines (lines_in text.items places.items) }
     {
         SortedLines {
@@ -76,7 +76,12 @@ impl SortedLines {
 }
 
 /// Appends the lines behind so many, as many as make a piece; the number of lines that are written then.
-fn put_next(text: &[u8], places: &[Place], given: usize, out: &mut Vec<u8>) -> Result<usize, Memory>
+fn put_next(
+    text: &[u8],
+    places: &[LinePlace],
+    given: usize,
+    out: &mut Vec<u8>,
+) -> Result<usize, Memory>
     ensures ok { IfOk result (λ next. PutSome (left_behind text.now places.now given) (left_behind text.now places.now next) out.old.items out.new.items true) }
     ensures err { OnErr result (PutSome (left_behind text.now places.now given) (left_behind text.now places.now given) out.old.items out.new.items false) }
     ensures some { 0 < length (left_behind text.now places.now given) → OnOk result (length out.old.items < length out.new.items) }
@@ -91,7 +96,7 @@ fn put_next(text: &[u8], places: &[Place], given: usize, out: &mut Vec<u8>) -> R
 }
 
 /// How many lines make a piece. It looks at none.
-fn piece_of(places: &[Place]) -> usize
+fn piece_of(places: &[LinePlace]) -> usize
     ensures within { result ≤ length places.now }
     ensures some { 0 < length places.now → 0 < result }
 {
@@ -108,7 +113,7 @@ fn piece_of(places: &[Place]) -> usize
 }
 
 /// Appends the lines at these places, each with a newline.
-pub(crate) fn put_lines(text: &[u8], places: &[Place], out: &mut Vec<u8>) -> Result<(), Memory>
+pub(crate) fn put_lines(text: &[u8], places: &[LinePlace], out: &mut Vec<u8>) -> Result<(), Memory>
     ensures { Put (text_of_lines (lines_in text.now places.now)) out.old.items out.new.items (is_ok result) }
 {
     for place in places {

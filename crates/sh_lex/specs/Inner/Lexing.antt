@@ -8,8 +8,8 @@ use Rattle.sh_lex.specs.declared.acts.Lexeme.{Lexeme}
 use Rattle.sh_lex.specs.declared.acts.Lexeme.TheVariants as lexeme
 use Rattle.sh_lex.specs.declared.lexing.Next.{Next}
 use Rattle.sh_lex.specs.declared.lexing.Next.TheVariants as next
-use Rattle.sh_lex.specs.declared.reading.Stop.{Stop}
-use Rattle.sh_lex.specs.declared.reading.Stop.TheVariants as stop
+use Rattle.sh_lex.specs.declared.reading.ScanStop.{ScanStop}
+use Rattle.sh_lex.specs.declared.reading.ScanStop.TheVariants as stop
 use Rattle.sh_lex.specs.declared.parts.Fault.{Fault}
 use Rattle.sh_lex.specs.declared.tokens.Token.{Token}
 
@@ -35,6 +35,6 @@ Advances text (next.Token kind rest) =
     → Tokens total text (after_token (token_between total kind text rest.now) end))
 
 -- why the scan stopped: for want of memory, which is free, or for this refusal
-abbrev pub StopsAt : ℕ → List ℕ → Stop → Type 0
+abbrev pub StopsAt : ℕ → List ℕ → ScanStop → Type 0
 StopsAt total text (stop.Refused fault) = Tokens total text (Err fault)
 StopsAt total text stop.Memory = Unit {0}

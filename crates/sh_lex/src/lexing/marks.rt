@@ -9,14 +9,14 @@ ghost use Rattle.sh_lex.specs.Inner.Lexing.{StopsAt};
 ghost use Rattle.sh_lex.specs.Lexes.{Refuses};
 ghost use Rattle.sh_lex.specs.Inner.Marking.{marks_of, word_marks, LeadsOn};
 ghost use Rattle.sh_lex.specs.declared.lexing.marks.Mark.TheVariants as mark;
-ghost use Rattle.sh_lex.specs.declared.reading.Stop.TheVariants as stop_kind;
+ghost use Rattle.sh_lex.specs.declared.reading.ScanStop.TheVariants as stop_kind;
 
 use super::{MAX_SCRIPT, ONE_WORD, token_between, told};
 use crate::acts::{Lexeme, Step};
 use crate::bytes::ends_word;
 use crate::operators::lexeme;
-use crate::parts::{Part, Spot};
-use crate::reading::{Stop, step};
+use crate::parts::{Construct, Spot};
+use crate::reading::{ScanStop, step};
 use crate::refusals::{LexRefusal, Static};
 use crate::texts::front;
 use crate::tokens::{Op, Token, TokenKind};
@@ -51,20 +51,20 @@ pub enum Entry {
 }
 
 /// How the first construct opens in the second one.
-fn entry_of(inner: Part, outer: Part) -> Entry
+fn entry_of(inner: Construct, outer: Construct) -> Entry
     ensures { result ≡ entry_of inner outer }
 {
     match inner {
-        Part::Commands(_, Some(left), _) => entry_in(left, outer),
+        Construct::Commands(_, Some(left), _) => entry_in(left, outer),
         _ => Entry::Other,
     }
 }
 
-fn entry_in(left: usize, outer: Part) -> Entry
+fn entry_in(left: usize, outer: Construct) -> Entry
     ensures { result ≡ entry_in left outer }
 {
     match outer {
-        Part::Commands(_, _, Spot::Between) => Entry::Parenthesis,
+        Construct::Commands(_, _, Spot::Between) => Entry::Parenthesis,
         _ => Entry::Substitution(left),
     }
 }
@@ -130,12 +130,12 @@ fn begun(total: usize, text: &[u8]) -> Option<Mark>
 }
 
 /// The marks at one step of a construct.
-fn seen(total: usize, part: Part, text: &[u8]) -> (Option<Mark>, Option<Mark>)
+fn seen(total: usize, part: Construct, text: &[u8]) -> (Option<Mark>, Option<Mark>)
     requires { total ≤ MAX_SCRIPT }
     ensures { marks_of result.0 ++ marks_of result.1 ≡ seen total part text.now }
 {
     match part {
-        Part::Commands(_, Some(_), spot) => seen_at(total, spot, text),
+        Construct::Commands(_, Some(_), spot) => seen_at(total, spot, text),
         _ => (None, None),
     }
 }
@@ -170,7 +170,7 @@ fn behind_word(total: usize, text: &[u8]) -> (Option<Mark>, Option<Mark>)
 }
 
 /// The marks with one more, where there is one.
-fn with_mark(marks: Vec<Mark>, more: Option<Mark>) -> Result<Vec<Mark>, Stop>
+fn with_mark(marks: Vec<Mark>, more: Option<Mark>) -> Result<Vec<Mark>, ScanStop>
     ensures marks { IfOk result (λ all. all.items ≡ marks.items ++ marks_of more) }
     ensures memory { IfErr result (λ stop. stop ≡ stop_kind.Memory) }
 {
@@ -179,13 +179,18 @@ fn with_mark(marks: Vec<Mark>, more: Option<Mark>) -> Result<Vec<Mark>, Stop>
         None => Ok(marks),
         Some(mark) => match marks.push(mark) {
             Ok(()) => Ok(marks),
-            Err(_) => Err(Stop::Memory),
+            Err(_) => Err(ScanStop::Memory),
         },
     }
 }
 
 /// The marks with those of one step.
-fn with_seen(marks: Vec<Mark>, total: usize, part: Part, text: &[u8]) -> Result<Vec<Mark>, Stop>
+fn with_seen(
+    marks: Vec<Mark>,
+    total: usize,
+    part: Construct,
+    text: &[u8],
+) -> Result<Vec<Mark>, ScanStop>
     requires { total ≤ MAX_SCRIPT }
     ensures marks { IfOk result (λ all. all.items ≡ marks.items ++ seen total part text.now) }
     ensures memory { IfErr result (λ stop. stop ≡ stop_kind.Memory) }
@@ -198,7 +203,7 @@ fn with_seen(marks: Vec<Mark>, total: usize, part: Part, text: &[u8]) -> Result<
 }
 
 /// The marks in the word that begins at the text, and what is left behind it.
-fn walk(alloc: Global, total: usize, text: &[u8]) -> Result<(Vec<Mark>, &[u8]), Stop>
+fn walk(alloc: Global, total: usize, text: &[u8]) -> Result<(Vec<Mark>, &[u8]), ScanStop>
     requires { total ≤ MAX_SCRIPT }
     ensures marked { IfOk result (λ found. Marked total one_word text.now found.0.items found.1.now) }
     ensures refused { IfErr result (λ stop. StopsReading one_word text.now stop) }
@@ -210,7 +215,7 @@ fn walk(alloc: Global, total: usize, text: &[u8]) -> Result<(Vec<Mark>, &[u8]), 
     loop {
         match with_seen(marks, total, part, rest) {
             Ok(more) => marks = more,
-            Err(_) => return Err(Stop::Memory),
+            Err(_) => return Err(ScanStop::Memory),
         }
         match step(part, rest) {
             Step::Goes(next, after) => {
@@ -221,10 +226,10 @@ fn walk(alloc: Global, total: usize, text: &[u8]) -> Result<(Vec<Mark>, &[u8]), 
                 let entry = entry_of(inner, outer);
                 match with_mark(marks, opening(total, rest, after, entry)) {
                     Ok(more) => marks = more,
-                    Err(_) => return Err(Stop::Memory),
+                    Err(_) => return Err(ScanStop::Memory),
                 }
                 let Ok(()) = open.push((entry, outer)) else {
-                    return Err(Stop::Memory);
+                    return Err(ScanStop::Memory);
                 };
                 part = inner;
                 rest = after;
@@ -234,7 +239,7 @@ fn walk(alloc: Global, total: usize, text: &[u8]) -> Result<(Vec<Mark>, &[u8]), 
                     Some((entry, outer)) => {
                         match with_mark(marks, closing(entry)) {
                             Ok(more) => marks = more,
-                            Err(_) => return Err(Stop::Memory),
+                            Err(_) => return Err(ScanStop::Memory),
                         }
                         part = outer;
                     }
@@ -242,7 +247,7 @@ fn walk(alloc: Global, total: usize, text: &[u8]) -> Result<(Vec<Mark>, &[u8]), 
                 }
                 rest = after;
             }
-            Step::Offends(fault) => return Err(Stop::Refused(fault)),
+            Step::Offends(fault) => return Err(ScanStop::Refused(fault)),
         }
     }
 }
@@ -259,16 +264,16 @@ pub fn read_marks(alloc: Global, text: &[u8]) -> Result<Vec<Mark>, LexRefusal>
     }
     match all_marks(alloc, text) {
         Ok(marks) => Ok(marks),
-        Err(Stop::Refused(fault)) => match told(alloc, text, fault) {
+        Err(ScanStop::Refused(fault)) => match told(alloc, text, fault) {
             Ok(refusal) => Err(LexRefusal::Refused(refusal)),
             Err(_) => Err(LexRefusal::Memory),
         },
-        Err(Stop::Memory) => Err(LexRefusal::Memory),
+        Err(ScanStop::Memory) => Err(LexRefusal::Memory),
     }
 }
 
 /// The marks of a script that isn't too long.
-fn all_marks(alloc: Global, text: &[u8]) -> Result<Vec<Mark>, Stop>
+fn all_marks(alloc: Global, text: &[u8]) -> Result<Vec<Mark>, ScanStop>
     requires { length text.now ≤ MAX_SCRIPT }
     ensures marks { IfOk result (λ marks. Marks (length text.now) text.now marks.items) }
     ensures refused { IfErr result (λ stop. StopsAt (length text.now) text.now stop) }
@@ -282,14 +287,14 @@ fn all_marks(alloc: Global, text: &[u8]) -> Result<Vec<Mark>, Stop>
             Ok(Found::Token(mark, after)) => {
                 match with_mark(marks, Some(mark)) {
                     Ok(more) => marks = more,
-                    Err(_) => return Err(Stop::Memory),
+                    Err(_) => return Err(ScanStop::Memory),
                 }
                 rest = after;
             }
             Ok(Found::Word(inside, after)) => {
                 match with_word(marks, text.len(), rest, inside, after) {
                     Ok(more) => marks = more,
-                    Err(_) => return Err(Stop::Memory),
+                    Err(_) => return Err(ScanStop::Memory),
                 }
                 rest = after;
             }
@@ -312,7 +317,7 @@ enum Found<'a> {
 }
 
 /// What begins at the text.
-fn next(alloc: Global, total: usize, text: &[u8]) -> Result<Found<'_>, Stop>
+fn next(alloc: Global, total: usize, text: &[u8]) -> Result<Found<'_>, ScanStop>
     requires { total ≤ MAX_SCRIPT }
     ensures leads { IfOk result (λ found. LeadsOn total text.now found) }
     ensures refused { IfErr result (λ stop. StopsAt total text.now stop) }
@@ -336,7 +341,7 @@ fn next(alloc: Global, total: usize, text: &[u8]) -> Result<Found<'_>, Stop>
             Ok((inside, rest)) => Ok(Found::Word(inside, rest)),
             Err(stop) => Err(stop),
         },
-        Lexeme::Offence(fault) => Err(Stop::Refused(fault)),
+        Lexeme::Offence(fault) => Err(ScanStop::Refused(fault)),
     }
 }
 
@@ -355,7 +360,7 @@ fn with_word(
     before: &[u8],
     inside: Vec<Mark>,
     behind: &[u8],
-) -> Result<Vec<Mark>, Stop>
+) -> Result<Vec<Mark>, ScanStop>
     requires { total ≤ MAX_SCRIPT }
     ensures marks { IfOk result (λ all. all.items ≡ marks.items ++ word_marks total before.now inside.items behind.now) }
     ensures memory { IfErr result (λ stop. stop ≡ stop_kind.Memory) }
@@ -372,13 +377,13 @@ fn with_word(
 }
 
 /// The marks with more behind them.
-fn with_marks(marks: Vec<Mark>, more: Vec<Mark>) -> Result<Vec<Mark>, Stop>
+fn with_marks(marks: Vec<Mark>, more: Vec<Mark>) -> Result<Vec<Mark>, ScanStop>
     ensures marks { IfOk result (λ all. all.items ≡ marks.items ++ more.items) }
     ensures memory { IfErr result (λ stop. stop ≡ stop_kind.Memory) }
 {
     let mut marks = marks;
     match marks.extend_from_slice(more.as_slice()) {
         Ok(()) => Ok(marks),
-        Err(_) => Err(Stop::Memory),
+        Err(_) => Err(ScanStop::Memory),
     }
 }

@@ -13,7 +13,7 @@ use Rattle.sh_tree.specs.Numbering.{sub_count}
 use Rattle.sh_parse.specs.Pieces.{WordViews, subs_then, no_piece, tail_of, words_of, default_number}
 use Rattle.sh_parse.specs.Places.{used}
 use Rattle.sh_parse.specs.Grammar.{script_of}
-use Rattle.sh_parse.specs.Inner.Owed.{Part, Move, push, opens, skip, stuck, move, pieces, operator, target, pipes, joins, a_pipeline, a_command, next_command, next_pipeline, again, body, loop_name}
+use Rattle.sh_parse.specs.Inner.Owed.{Pending, Move, push, opens, skip, stuck, move, pieces, operator, target, pipes, joins, a_pipeline, a_command, next_command, next_pipeline, again, body, loop_name}
 use Rattle.sh_parse.specs.declared.items.Item.{Item}
 use Rattle.sh_parse.specs.declared.items.Item.TheVariants as token
 use Rattle.sh_parse.specs.declared.items.Span.{Span}
@@ -21,27 +21,27 @@ use Rattle.sh_parse.specs.declared.items.WordKind.{WordKind}
 use Rattle.sh_parse.specs.declared.items.WordKind.TheVariants as word
 use Rattle.sh_parse.specs.declared.items.Reserved.{Reserved}
 use Rattle.sh_parse.specs.declared.items.Reserved.TheVariants as reserved
-use Rattle.sh_parse.specs.declared.pieces.Place.{Place}
-use Rattle.sh_parse.specs.declared.pieces.Place.TheVariants as place
+use Rattle.sh_parse.specs.declared.pieces.Slot.{Slot}
+use Rattle.sh_parse.specs.declared.pieces.Slot.TheVariants as place
 use Rattle.sh_parse.specs.declared.building.Role.{Role}
 use Rattle.sh_parse.specs.declared.building.Role.TheVariants as at_role
 use Rattle.sh_parse.specs.declared.pieces.Use.{Use}
 use Rattle.sh_parse.specs.declared.pieces.Use.TheVariants as use_as
 
 -- what is open, with its parts that are read
-pub data Construct : Type 0 where
-  whole : Construct
-  in_group : Construct
-  in_subshell : Construct
-  in_condition : List (ListTree × ListTree) → Construct
-  in_branch : List (ListTree × ListTree) → ListTree → Construct
-  in_else : List (ListTree × ListTree) → Construct
-  in_while : Construct
-  in_while_body : ListTree → Construct
-  in_until : Construct
-  in_until_body : ListTree → Construct
-  unnamed : Construct
-  in_for : List ℕ → InTree → Construct
+pub data Compound : Type 0 where
+  whole : Compound
+  in_group : Compound
+  in_subshell : Compound
+  in_condition : List (ListTree × ListTree) → Compound
+  in_branch : List (ListTree × ListTree) → ListTree → Compound
+  in_else : List (ListTree × ListTree) → Compound
+  in_while : Compound
+  in_while_body : ListTree → Compound
+  in_until : Compound
+  in_until_body : ListTree → Compound
+  unnamed : Compound
+  in_for : List ℕ → InTree → Compound
 
 -- a list that is read: its and-or lists; the pipelines of the next one; the operator before, the `!` and the commands of the next of these
 pub data Listing : Type 0 where
@@ -49,14 +49,14 @@ pub data Listing : Type 0 where
 
 -- a command that is read: its pieces; the number and the operator of a redirection; the compound command before them, with its last list
 pub data Making : Type 0 where
-  making : SimpleTree → ℕ → How → Option (Construct × ListTree) → Making
+  making : SimpleTree → ℕ → How → Option (Compound × ListTree) → Making
 
 pub data Level : Type 0 where
-  level : Construct → Listing → Making → Level
+  level : Compound → Listing → Making → Level
 
 -- the innermost construct, and those around it
 pub data State : Type 0 where
-  state : Construct → Listing → Making → List Level → State
+  state : Compound → Listing → Making → List Level → State
 
 abbrev pub nothing : Listing
 nothing = listing no_item None join.And false []
@@ -75,7 +75,7 @@ abbrev pub list_of : Listing → ListTree
 list_of (listing list chain sign negated stages) = list
 
 -- a compound command, behind its last list
-abbrev pub compound : Construct → ListTree → TailTree → CommandTree
+abbrev pub compound : Compound → ListTree → TailTree → CommandTree
 compound in_subshell list redirs = subshell list redirs
 compound (in_branch branches condition) list redirs =
     if_branches (branches_onto (branches ++ (condition, list) ∷ []) no_branch) no_else redirs
@@ -85,7 +85,7 @@ compound (in_until_body condition) list redirs = until_loop condition list redir
 compound (in_for name among) list redirs = for_loop name among list redirs
 compound _ list redirs = group list redirs
 
-abbrev pub command_made : SimpleTree → Option (Construct × ListTree) → CommandTree
+abbrev pub command_made : SimpleTree → Option (Compound × ListTree) → CommandTree
 command_made read None = simple read
 command_made read (Some made) = compound made.0 made.1 (tail_of read)
 
@@ -142,11 +142,11 @@ with_number number (making read _ by made) = making read number by made
 abbrev pub with_how : How → Making → Making
 with_how by (making read number _ made) = making read number by made
 
-abbrev pub with_compound : Construct → ListTree → Making → Making
+abbrev pub with_compound : Compound → ListTree → Making → Making
 with_compound construct list (making read number by made) = making read number by (Some (construct, list))
 
 -- a construct behind a reserved word inside it, and behind the words of a `for`
-abbrev pub turned : Construct → Reserved → ListTree → Construct
+abbrev pub turned : Compound → Reserved → ListTree → Compound
 turned (in_condition branches) reserved.Then list = in_branch branches list
 turned (in_branch branches condition) reserved.Elif list = in_condition (branches ++ (condition, list) ∷ [])
 turned (in_branch branches condition) reserved.Else list = in_else (branches ++ (condition, list) ∷ [])
@@ -154,7 +154,7 @@ turned in_while reserved.Do list = in_while_body list
 turned in_until reserved.Do list = in_until_body list
 turned construct _ list = construct
 
-abbrev pub with_words : Construct → WordsTree → Construct
+abbrev pub with_words : Compound → WordsTree → Compound
 with_words (in_for name _) among = in_for name (in_words among)
 with_words construct among = construct
 
@@ -172,7 +172,7 @@ abbrev pub named : List ℕ → State → State
 named name (state construct list command outer) = state (in_for name no_in) list command outer
 
 -- a construct opens, and the innermost ends
-abbrev pub opened : Construct → State → State
+abbrev pub opened : Compound → State → State
 opened inner (state construct list command outer) = state inner nothing fresh (level construct list command ∷ outer)
 
 abbrev pub closed : State → State
@@ -199,18 +199,18 @@ abbrev pub pieces_over : Bool → State → State
 pieces_over false (state construct list command outer) = innermost (command_done (level construct list command)) outer
 pieces_over true (state construct list command outer) = innermost (words_done (level construct list command)) outer
 
-abbrev pub is_loop : Place → Bool
+abbrev pub is_loop : Slot → Bool
 is_loop place.Loop = true
 is_loop _ = false
 
-abbrev pub left_out : Part → State → State
+abbrev pub left_out : Pending → State → State
 left_out (pieces at) now = pieces_over (is_loop at) now
 left_out pipes now = on_listing pipeline_done now
 left_out joins now = on_listing and_or_done now
 left_out _ now = now
 
 -- what a word is at a part
-abbrev pub role_of : Part → Role
+abbrev pub role_of : Pending → Role
 role_of (pieces at) = at_role.Piece at
 role_of operator = at_role.Operator
 role_of target = at_role.Target
@@ -269,26 +269,26 @@ acted views at token.SubClose now = sub_closed now
 acted views at _ now = now
 
 -- what is owed behind an item, and what is read then
-abbrev pub walk_by : Move → List Part → State → List Part × State → List Part × State
+abbrev pub walk_by : Move → List Pending → State → List Pending × State → List Pending × State
 walk_by (push parts) stack now otherwise = (parts ++ stack, now)
 walk_by (opens parts) stack now otherwise = (parts ++ stack, now)
 walk_by skip stack now otherwise = otherwise
 walk_by stuck stack now otherwise = otherwise
 
-abbrev pub walked : WordViews → List Part → Item → State → List Part × State
+abbrev pub walked : WordViews → List Pending → Item → State → List Pending × State
 walked views [] first now = ([], now)
 walked views (part ∷ stack) first now =
     walk_by (move part first) stack (acted views (role_of part) first now) (walked views stack first (left_out part now))
 
-abbrev pub ended : List Part → State → State
+abbrev pub ended : List Pending → State → State
 ended [] now = now
 ended (part ∷ stack) now = ended stack (left_out part now)
 
-abbrev pub behind : (List Part → State → State) → List Part × State → State
+abbrev pub behind : (List Pending → State → State) → List Pending × State → State
 behind rest found = rest found.0 found.1
 
 -- what is read of the items
-abbrev pub build : WordViews → List Item → List Part → State → State
+abbrev pub build : WordViews → List Item → List Pending → State → State
 build views [] stack now = ended stack now
 build views (first ∷ rest) stack now = behind (build views rest) (walked views stack first now)
 

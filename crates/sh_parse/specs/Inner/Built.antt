@@ -8,8 +8,8 @@ use Rattle.sh_tree.specs.declared.commands.Join.{Join}
 use Rattle.sh_tree.specs.declared.commands.List as declared_list
 use Rattle.sh_tree.specs.declared.commands.Pipeline.{Pipeline}
 use Rattle.sh_parse.specs.Inner.Building as b
-use Rattle.sh_parse.specs.declared.levels.Construct.{Construct}
-use Rattle.sh_parse.specs.declared.levels.Construct.TheVariants as open_one
+use Rattle.sh_parse.specs.declared.levels.Compound.{Compound}
+use Rattle.sh_parse.specs.declared.levels.Compound.TheVariants as open_one
 use Rattle.sh_parse.specs.declared.levels.Chain.{Chain}
 use Rattle.sh_parse.specs.declared.levels.Listing.{Listing}
 use Rattle.sh_parse.specs.declared.levels.Making.{Making}
@@ -19,7 +19,7 @@ use Rattle.sh_parse.specs.declared.building.Building as declared_building
 abbrev pub branch_of : declared_list.List × declared_list.List → ListTree × ListTree
 branch_of branch = (list_tree branch.0, list_tree branch.1)
 
-abbrev pub construct_of : Construct → b.Construct
+abbrev pub construct_of : Compound → b.Compound
 construct_of open_one.Whole = b.whole
 construct_of open_one.Group = b.in_group
 construct_of open_one.Subshell = b.in_subshell
@@ -47,7 +47,7 @@ listing_of list =
     b.listing (items_tree list.items.items) (chain_of list.chain) list.sign list.negated
     (map command_tree list.stages.items)
 
-abbrev pub made_of : Option (Construct × declared_list.List) → Option (b.Construct × ListTree)
+abbrev pub made_of : Option (Compound × declared_list.List) → Option (b.Compound × ListTree)
 made_of made = option_map (λ pair. (construct_of pair.0, list_tree pair.1)) made
 
 abbrev pub subs_of : Making → SubTrees

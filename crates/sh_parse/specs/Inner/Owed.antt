@@ -4,15 +4,15 @@ use Rattle.std.specs.Prelude.{ℕ, ◌+◌, nat_le, Bool, true, false, List, [],
 use Rattle.std.specs.declared.option.Option.{Option}
 use Rattle.std.specs.declared.option.Option.TheVariants.{None, Some}
 use Rattle.sh_parse.specs.Places.{used, redirects, is_name}
-pub use Rattle.sh_parse.specs.declared.parts.Part.{Part}
-pub use Rattle.sh_parse.specs.declared.parts.Part.TheVariants.{Pieces as pieces, Operator as operator, Target as target, Substitutions as substitutions, Pipeline as a_pipeline, Command as a_command, Pipes as pipes, NextCommand as next_command, Joins as joins, NextPipeline as next_pipeline, Separator as separator, Again as again, Body as body, CloseBrace as close_brace, CloseParenthesis as close_parenthesis, CloseSubstitution as close_substitution, ThenBody as then_body, Branches as branches, EndIf as end_if, DoBody as do_body, EndLoop as end_loop, LoopName as loop_name, LoopHead as loop_head, LoopLines as loop_lines, LoopSeparator as loop_separator, LoopDo as loop_do}
+pub use Rattle.sh_parse.specs.declared.parts.Pending.{Pending}
+pub use Rattle.sh_parse.specs.declared.parts.Pending.TheVariants.{Pieces as pieces, Operator as operator, Target as target, Substitutions as substitutions, Pipeline as a_pipeline, Command as a_command, Pipes as pipes, NextCommand as next_command, Joins as joins, NextPipeline as next_pipeline, Separator as separator, Again as again, Body as body, CloseBrace as close_brace, CloseParenthesis as close_parenthesis, CloseSubstitution as close_substitution, ThenBody as then_body, Branches as branches, EndIf as end_if, DoBody as do_body, EndLoop as end_loop, LoopName as loop_name, LoopHead as loop_head, LoopLines as loop_lines, LoopSeparator as loop_separator, LoopDo as loop_do}
 use Rattle.sh_parse.specs.declared.items.Item.{Item}
 use Rattle.sh_parse.specs.declared.items.Item.TheVariants as item
 use Rattle.sh_parse.specs.declared.items.WordKind.TheVariants as word
 use Rattle.sh_parse.specs.declared.items.Reserved.{Reserved}
 use Rattle.sh_parse.specs.declared.items.Reserved.TheVariants as reserved
-use Rattle.sh_parse.specs.declared.pieces.Place.{Place}
-use Rattle.sh_parse.specs.declared.pieces.Place.TheVariants as place
+use Rattle.sh_parse.specs.declared.pieces.Slot.{Slot}
+use Rattle.sh_parse.specs.declared.pieces.Slot.TheVariants as place
 use Rattle.sh_parse.specs.declared.pieces.Use.{Use}
 use Rattle.sh_parse.specs.declared.pieces.Use.TheVariants as use_as
 
@@ -22,7 +22,7 @@ is_bang (item.Word (word.Reserved reserved.Bang) _) = true
 is_bang _ = false
 
 -- the parts that stand for an open level
-abbrev pub is_level : Part → Bool
+abbrev pub is_level : Pending → Bool
 is_level close_brace = true
 is_level close_parenthesis = true
 is_level close_substitution = true
@@ -38,14 +38,14 @@ is_level loop_separator = true
 is_level loop_do = true
 is_level _ = false
 
-abbrev pub levels : List Part → ℕ
+abbrev pub levels : List Pending → ℕ
 levels [] = 0
 levels (first ∷ rest) = cond (is_level first) (levels rest + 1) (levels rest)
 
 -- what a part makes of an item: more is owed in its place, or that and a level opens; the part is done; no rule goes on
 pub data Move : Type 0 where
-  push : List Part → Move
-  opens : List Part → Move
+  push : List Pending → Move
+  opens : List Pending → Move
   skip : Move
   stuck : Move
 
@@ -63,12 +63,12 @@ word_by use_as.Assigned = push (substitutions ∷ pieces place.BeforeName ∷ []
 word_by (use_as.Given behind) = push (substitutions ∷ pieces behind ∷ [])
 word_by use_as.Unused = skip
 
-abbrev pub redirection_by : Part → Option Place → Move
+abbrev pub redirection_by : Pending → Option Slot → Move
 redirection_by part (Some behind) = push (part ∷ pieces behind ∷ [])
 redirection_by part None = skip
 
 -- what a piece owes behind its first item
-abbrev pub piece_by : Place → Item → Move
+abbrev pub piece_by : Slot → Item → Move
 piece_by at (item.Word kind _) = word_by (used at kind)
 piece_by at (item.IoNumber _ _) = redirection_by operator (redirects at)
 piece_by at (item.Redirect _ _) = redirection_by target (redirects at)
@@ -89,7 +89,7 @@ pipeline_by (item.Word (word.Reserved reserved.Bang) at) = push (a_command ∷ [
 pipeline_by first = command_by first
 
 -- a move with more owed behind it, and another where no rule goes on
-abbrev pub followed : Move → List Part → Move → Move
+abbrev pub followed : Move → List Pending → Move → Move
 followed (push parts) more otherwise = push (parts ++ more)
 followed (opens parts) more otherwise = opens (parts ++ more)
 followed skip more otherwise = otherwise
@@ -101,7 +101,7 @@ branch_by (item.Word (word.Reserved reserved.Else) at) = push (body ∷ end_if �
 branch_by (item.Word (word.Reserved reserved.Fi) at) = push []
 branch_by _ = stuck
 
-abbrev pub move : Part → Item → Move
+abbrev pub move : Pending → Item → Move
 move (pieces at) first = piece_by at first
 move operator (item.Redirect how _) = push (target ∷ [])
 move operator _ = stuck
@@ -161,22 +161,22 @@ move loop_do _ = stuck
 
 -- the stack behind an item
 pub data Next : Type 0 where
-  goes : List Part → Next
-  deeper : List Part → Next
+  goes : List Pending → Next
+  deeper : List Pending → Next
   fails : Next
 
-abbrev pub moved : Move → List Part → Next → Next
+abbrev pub moved : Move → List Pending → Next → Next
 moved (push parts) stack otherwise = goes (parts ++ stack)
 moved (opens parts) stack otherwise = deeper (parts ++ stack)
 moved skip stack otherwise = otherwise
 moved stuck stack otherwise = fails
 
-abbrev pub step : List Part → Item → Next
+abbrev pub step : List Pending → Item → Next
 step [] first = fails
 step (part ∷ stack) first = moved (move part first) stack (step stack first)
 
 -- the parts that may be left out
-abbrev pub is_option : Part → Bool
+abbrev pub is_option : Pending → Bool
 is_option (pieces _) = true
 is_option substitutions = true
 is_option pipes = true
@@ -185,7 +185,7 @@ is_option separator = true
 is_option again = true
 is_option _ = false
 
-abbrev pub may_end : List Part → Bool
+abbrev pub may_end : List Pending → Bool
 may_end [] = true
 may_end (part ∷ stack) = cond (is_option part) (may_end stack) false
 
@@ -195,12 +195,12 @@ pub data Verdict : Type 0 where
   bad : ℕ → Verdict
   deep : ℕ → Verdict
 
-abbrev pub verdict_behind : ℕ → ℕ → (List Part → Verdict) → Next → Verdict
+abbrev pub verdict_behind : ℕ → ℕ → (List Pending → Verdict) → Next → Verdict
 verdict_behind most left rest (goes stack) = rest stack
 verdict_behind most left rest (deeper stack) = cond (nat_le (levels stack) most) (rest stack) (deep left)
 verdict_behind most left rest fails = bad left
 
 -- how a stack takes items, where at most `most` levels may be open
-abbrev pub verdict : ℕ → List Item → List Part → Verdict
+abbrev pub verdict : ℕ → List Item → List Pending → Verdict
 verdict most [] stack = cond (may_end stack) fine (bad 0)
 verdict most (first ∷ rest) stack = verdict_behind most (length rest + 1) (verdict most rest) (step stack first)

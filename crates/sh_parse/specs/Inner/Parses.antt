@@ -9,7 +9,7 @@ use Rattle.sh_parse.specs.declared.misuses.Misuse.{Misuse}
 use Rattle.sh_parse.specs.declared.misuses.Misuse.TheVariants as misuse
 use Rattle.sh_parse.specs.declared.refusals.GrammarRefusal.{GrammarRefusal}
 use Rattle.sh_parse.specs.declared.refusals.GrammarRefusal.TheVariants as grammar
-use Rattle.sh_parse.specs.declared.refusals.Refusal.TheVariants as refusal
+use Rattle.sh_parse.specs.declared.refusals.SyntaxRefusal.TheVariants as refusal
 use Rattle.sh_parse.specs.declared.scripts.ParseRefusal.{ParseRefusal}
 use Rattle.sh_parse.specs.declared.scripts.ParseRefusal.TheVariants as parse
 

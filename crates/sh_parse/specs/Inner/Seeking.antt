@@ -6,12 +6,12 @@ use Rattle.std.specs.declared.option.Option.TheVariants.{None, Some}
 use Rattle.sh_parse.specs.Pieces.{WordViews}
 use Rattle.sh_parse.specs.Places.{begins_piece}
 use Rattle.sh_parse.specs.Grammar.{is_sub_open}
-use Rattle.sh_parse.specs.Inner.Owed.{Part, Move, push, opens, skip, stuck, move, Next, goes, deeper, fails, step}
+use Rattle.sh_parse.specs.Inner.Owed.{Pending, Move, push, opens, skip, stuck, move, Next, goes, deeper, fails, step}
 use Rattle.sh_parse.specs.Stops.{offset_of}
 use Rattle.sh_parse.specs.Misuses.{goes_on_command, mixes}
 use Rattle.sh_parse.specs.declared.items.Item.{Item}
 use Rattle.sh_parse.specs.declared.items.Item.TheVariants as item
-use Rattle.sh_parse.specs.declared.pieces.Place.TheVariants as place
+use Rattle.sh_parse.specs.declared.pieces.Slot.TheVariants as place
 use Rattle.sh_parse.specs.declared.misuses.Misuse.{Misuse}
 use Rattle.sh_parse.specs.declared.misuses.Misuse.TheVariants as misuse
 
@@ -39,26 +39,26 @@ takes skip below = below
 takes stuck below = false
 
 -- a `(` may stand on top of what is owed, so a command may begin there
-abbrev pub may_open : List Part → Bool
+abbrev pub may_open : List Pending → Bool
 may_open [] = false
 may_open (part ∷ stack) = takes (move part (item.Open 0)) (may_open stack)
 
 -- what is owed behind an item; nothing, so that no command begins any more, where no rule goes on
-abbrev pub owed_behind : Next → List Part
+abbrev pub owed_behind : Next → List Pending
 owed_behind (goes stack) = stack
 owed_behind (deeper stack) = stack
 owed_behind fails = []
 
 -- a mixed command begins with the first of the items
-abbrev pub begins_mixed : WordViews → List Part → Item → List Item → Bool
+abbrev pub begins_mixed : WordViews → List Pending → Item → List Item → Bool
 begins_mixed views stack first items = begins_piece place.First first && (may_open stack && mixes views items)
 
-abbrev pub mix_at : WordViews → List Part → List Item → Option ℕ
+abbrev pub mix_at : WordViews → List Pending → List Item → Option ℕ
 mix_at views stack [] = None
 mix_at views stack (first ∷ rest) = if begins_mixed views stack first (first ∷ rest) then Some (offset_of first) else None
 
 -- the least offset of a mixed command, where so much is owed
-abbrev pub first_mix : WordViews → List Item → List Part → Option ℕ
+abbrev pub first_mix : WordViews → List Item → List Pending → Option ℕ
 first_mix views [] stack = None
 first_mix views (first ∷ rest) stack =
     earliest (mix_at views stack (first ∷ rest)) (first_mix views rest (owed_behind (step stack first)))

@@ -1,6 +1,6 @@
 //! Texts with their items, and whether they are scripts, as `dash -n` has it.
 use sh_lex::LexRefusal;
-use sh_parse::{GrammarRefusal, Item, Refusal, check, read_items};
+use sh_parse::{GrammarRefusal, Item, SyntaxRefusal, check, read_items};
 use std::alloc::{AllocError, Global};
 use std::process::Abort;
 use std::test::Fail;
@@ -152,14 +152,14 @@ enum Verdict {
     /// It is a script.
     Script,
     /// Its items are refused.
-    Refused(Refusal),
+    Refused(SyntaxRefusal),
     /// It has no items.
     NoItems,
     /// Memory was wanted and refused.
     Memory,
 }
 
-const BAD_SYNTAX: Verdict = Verdict::Refused(Refusal::BadSyntax);
+const BAD_SYNTAX: Verdict = Verdict::Refused(SyntaxRefusal::BadSyntax);
 
 fn judged(alloc: Global, text: &[u8]) -> Verdict {
     match read_items(alloc, text) {
@@ -285,7 +285,7 @@ fn sixty_four_levels_of_a_text_are_allowed(rt: HostRuntime) -> Result<(), Fail> 
     }
     for &(opening, inner, closing, levels, offset) in TOO_DEEP.iter() {
         let text = nested(alloc, opening, inner, closing, levels)?;
-        let expected = Verdict::Refused(Refusal::TooDeep(offset));
+        let expected = Verdict::Refused(SyntaxRefusal::TooDeep(offset));
         assert_eq!(rt;
             judged(alloc, text.as_bytes()),
             expected,

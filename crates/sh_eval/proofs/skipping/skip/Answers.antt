@@ -1,6 +1,6 @@
 use Rattle.std.proofs.Common.{subst}
 use Rattle.sh_eval.specs.Reaching.{CanSkip}
-use Rattle.sh_eval.specs.declared.stops.Stop.{Stop}
+use Rattle.sh_eval.specs.declared.stops.RedirectionError.{RedirectionError}
 use Rattle.sh_eval.proofs.SkippingLemmas.{skips-line, skips-tree, skips-memory}
 use Rattle.sh_eval.proofs.skipping.skip.Goals as goal
 
@@ -16,4 +16,4 @@ pub returns-in-Memory-clause-skips : goal.returns-in-Memory-clause-skips
 returns-in-Memory-clause-skips g c = λ drawn input. skips-memory _ c.args.way _ c.in-Memory.is
 
 pub tell-how-requires-clause-sound : goal.tell-how-requires-clause-sound
-tell-how-requires-clause-sound g c κs outlive = subst (λ (it : Stop). CanSkip it c.args.session.now (g.T.Tree.state c.args.tree.now)) c.in-Line.is c.requires.sound
+tell-how-requires-clause-sound g c κs outlive = subst (λ (it : RedirectionError). CanSkip it c.args.session.now (g.T.Tree.state c.args.tree.now)) c.in-Line.is c.requires.sound

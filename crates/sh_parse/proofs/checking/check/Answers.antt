@@ -1,7 +1,7 @@
 use Rattle.std.proofs.Common.{sym, subst}
 use Rattle.sh_parse.specs.Stops.{HasStop}
 use Rattle.sh_parse.specs.declared.items.TheConstants.{MAX_LEVELS}
-use Rattle.sh_parse.specs.declared.refusals.Refusal.TheVariants as refusal
+use Rattle.sh_parse.specs.declared.refusals.SyntaxRefusal.TheVariants as refusal
 use Rattle.sh_parse.proofs.Tops.{fine_reads, has_script, has_bad, has_deep}
 use Rattle.sh_parse.proofs.checking.check.Goals as goal
 

@@ -1,6 +1,6 @@
 use Rattle.std.proofs.Common.{◌≡◌, Some, subst, rules}
 use Rattle.sh_lex.specs.Reads.{Reads, past}
-use Rattle.sh_lex.specs.declared.Part.TheVariants as construct
+use Rattle.sh_lex.specs.declared.Construct.TheVariants as construct
 use Rattle.sh_lex.specs.declared.Spot.TheVariants as spot
 use Rattle.sh_words.proofs.ExtentLemmas.{ends_itself}
 use Rattle.sh_words.proofs.substitutions.extent_of.Goals as goal

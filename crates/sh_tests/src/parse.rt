@@ -15,8 +15,8 @@ mod texts;
 
 use ps_lines::{Memory, Text};
 use sh_parse::{
-    GrammarRefusal, Item, Look, Refusal, Reserved, Span, WordKind, WordReader, check, parse_items,
-    word_kind,
+    GrammarRefusal, Item, Look, Reserved, Span, SyntaxRefusal, WordKind, WordReader, check,
+    parse_items, word_kind,
 };
 use sh_tree::{How, Join, Part, Word};
 use shown::shown;
@@ -363,7 +363,10 @@ fn rows_are_scripts_or_not(rt: HostRuntime) -> Result<(), Fail> {
 fn sixty_four_levels_are_allowed(rt: HostRuntime) -> Result<(), Fail> {
     for (levels, expected) in [
         (64, Ok(())),
-        (65, Err(GrammarRefusal::Refused(Refusal::TooDeep(128)))),
+        (
+            65,
+            Err(GrammarRefusal::Refused(SyntaxRefusal::TooDeep(128))),
+        ),
     ] {
         let mut items = Vec::new(rt.alloc());
         for level in 0..levels {

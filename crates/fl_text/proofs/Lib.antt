@@ -1,3 +1,6 @@
+pub mod MarkLemmas
+pub mod WiringLemmas
+pub mod WritingLemmas
 pub mod ReadLemmas
 pub mod MemberLemmas
 pub mod InverseLemmas

@@ -6,8 +6,9 @@ ghost use Rattle.fl_graph.specs.declared.graphs.Graph.{Graph as Graphs};
 ghost use Rattle.fl_text.specs.Inner.Drafts.{graph_in as graph_in_def};
 ghost use Rattle.fl_text.specs.Texts.{has_other_version as has_other_version_def, is_other_version as is_other_version_def, IsGraph, IsGraphText, IsNoGraph, IsNoJson, IsOfOtherVersion};
 
+use crate::checking::check;
 use crate::nodes::{VERSION, graph_in};
-use fl_graph::{Graph, validate};
+use fl_graph::Graph;
 use ps_lines::Memory;
 use serde_json::Value;
 use std::alloc::Global;
@@ -63,13 +64,11 @@ fn read_value(alloc: Global, value: Value) -> Result<Graph, TextFault>
         return Err(TextFault::BadVersion);
     }
     match graph_in(alloc, value) {
-        Ok(Some(graph)) => {
-            if validate(&graph) {
-                Ok(graph)
-            } else {
-                Err(TextFault::NotGraph)
-            }
-        }
+        Ok(Some(graph)) => match check(alloc, &graph) {
+            Ok(true) => Ok(graph),
+            Ok(false) => Err(TextFault::NotGraph),
+            Err(Memory) => Err(TextFault::Memory),
+        },
         Ok(None) => Err(TextFault::NotGraph),
         Err(Memory) => Err(TextFault::Memory),
     }

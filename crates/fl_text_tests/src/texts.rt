@@ -3,6 +3,7 @@
 //! The rows are those of the format's rules, worked out by hand, and the graphs that pipelines become at a width. In a row `'` stands
 //! for `"`, and its first word is what `read` answers: `same` where it gives a graph whose text is the row's again, `ok` where it gives
 //! another one.
+use fl_graph::validate;
 use fl_text::{TextFault, print, read};
 use std::alloc::Global;
 use std::test::Fail;
@@ -11,12 +12,14 @@ use std::test::Fail;
 fn answer(alloc: Global, text: &[u8]) -> Result<&'static str, Fail> {
     match read(alloc, text) {
         Ok(graph) => {
+            let is_valid = validate(&graph);
             let printed = print(alloc, &graph);
             drop(graph);
-            Ok(if printed?.as_slice() == text {
-                "same"
-            } else {
-                "ok"
+            let is_same = printed?.as_slice() == text;
+            Ok(match (is_valid, is_same) {
+                (true, true) => "same",
+                (true, false) => "ok",
+                (false, _) => "invalid",
             })
         }
         Err(fault) => Ok(name_of(fault)),

@@ -1,0 +1,7 @@
+use Rattle.std.proofs.Common.{◌≡◌, ◌≤◌, ◌+◌, min, drop}
+use Rattle.std.specs.List.{count_by}
+use Rattle.fl_graph.specs.Kinds.{is_input}
+use Rattle.fl_text.proofs.ports.inputs.Given as goal
+
+abbrev pub invariant-loop-node : goal.invariant-loop-node
+invariant-loop-node l = (l.inputs ≤ 2) × (min 2 (l.inputs + count_by (λ cell. is_input cell.kind) (drop l.node-index l.nodes)) ≡ min 2 (count_by (λ cell. is_input cell.kind) l.nodes))

@@ -1,8 +1,9 @@
 -- Stages that are gathered: what each asks for, and what all of them do.
-use Rattle.std.proofs.Common.{◌≡◌, ◌≤◌, ◌<◌, ◌+◌, ℕ, List, [], ◌∷◌, ◌++◌, map, Bool, true, false, ◌&&◌, nat_lt, length, drop, get_or, Option, Some, None, IfSome, Ok, refl, sym, ap, ◌∙◌, subst, append-nil, append_assoc, length-append, add-one, arith, if◌then◌else◌}
+use Rattle.std.proofs.Common.{◌≡◌, ◌≤◌, ◌<◌, ◌+◌, ℕ, List, [], ◌∷◌, ◌++◌, map, Bool, true, false, ◌&&◌, nat_lt, length, drop, get_or, take, Option, Some, None, IfSome, Ok, refl, sym, ap, ◌∙◌, subst, append-nil, append_assoc, length-append, add-one, arith, if◌then◌else◌}
 use Rattle.std.proofs.Math.Seq.{drop-cons}
 use Rattle.std.proofs.Math.ListN.{drop_of_length-le}
 use Rattle.std.proofs.lemmas.Bool.{cond-true, le-ltb}
+use Rattle.std.proofs.lemmas.List.{get_or-take, length-take-le}
 use Rattle.std.specs.List.{flat_map}
 use Rattle.ps_world.specs.Files.{Files}
 use Rattle.ps_world.specs.TreeState.{TreeState}
@@ -27,11 +28,10 @@ use Rattle.sh_expand.specs.Outcomes.{Answer, AreExpansions, Expansions, told_fie
 use Rattle.sh_eval.specs.declared.shell.Shell.{Shell}
 use Rattle.sh_eval.specs.declared.gathering.Segment.{Segment}
 use Rattle.sh_eval.specs.declared.streams.Held.{Held}
-use Rattle.sh_eval.specs.declared.streams.Streams.{Streams}
 use Rattle.sh_eval.specs.Asking.{Asked, asked_as, asked_by, does, utility}
 use Rattle.sh_eval.specs.Commands.{none_substituted}
 use Rattle.sh_eval.specs.Expanding.{given_by, goes_on_with, with_targets}
-use Rattle.sh_eval.specs.Inner.Gathering.{AddsStage, AreGathered, CanBeMember, Gathers, IsFound, IsMember, IsPlain}
+use Rattle.sh_eval.specs.Inner.Gathering.{AddsStage, AreGathered, CanBeMember, IsFound, IsFront, IsMember, IsPlain}
 use Rattle.sh_eval.specs.Inner.Inputs.{called_by, lines_by}
 use Rattle.sh_eval.specs.Redirections.{Use, first_busy, unless_busy}
 use Rattle.sh_eval.specs.Segments.{is_plain_place, lines_for, name_of}
@@ -236,15 +236,24 @@ added-on stages place stage shell held state now old new whole same here below a
     (gathered-on stages place stage shell held state adds.member old.lines.items adds.lines old.members.items whole here below
     (subst (λ (it : TreeState). AreGathered (command (command_tree stage) no_command) shell held it (adds.member ∷ []) adds.lines) same adds.gathered) all more others rest))
 
--- all were
-pub gathers-all : (stages : List Command) (place : ℕ) (shell : Shell) (streams : Streams) (state : TreeState) (segment : Segment) → is_plain_place streams.errors_to ≡ true
-    → length stages ≤ MAX_STAGES → length segment.members.items ≡ place → place ≤ length stages → length stages ≤ place
-    → ((more : List Member) (others : List ℕ) → AreGathered (stages_tree (drop place stages)) shell streams.held state more others
-    → AreGathered (stages_tree stages) shell streams.held state (segment.members.items ++ more) (segment.lines.items ++ others))
-    → Gathers (stages_tree stages) shell streams state segment
-gathers-all stages place shell streams state segment plain most counted within over all =
+-- what is gathered of the stages from a place on is gathered of all, up to any of these, behind what was gathered
+abbrev pub GathersOn : List Command → Shell → List Held → TreeState → ℕ → Segment → Type 0
+GathersOn stages shell held state place segment =
+    (last : ℕ) → place ≤ last → last ≤ length stages → (more : List Member) (others : List ℕ) → AreGathered (stages_tree (drop place (take last stages))) shell held state more others
+    → AreGathered (stages_tree (take last stages)) shell held state (segment.members.items ++ more) (segment.lines.items ++ others)
+
+pub gathers-on : (stages : List Command) (place : ℕ) (stage : Command) (shell : Shell) (held : List Held) (state now : TreeState) (old new : Segment) → now ≡ state → stage ≡ get_or stages place stage
+    → AddsStage (command_tree stage) shell held now old new → GathersOn stages shell held state place old → GathersOn stages shell held state (place + 1) new
+gathers-on stages place stage shell held state now old new same here adds all last low high more others rest =
+    added-on (take last stages) place stage shell held state now old new (AreGathered (stages_tree (take last stages)) shell held state) same
+    (here ∙ sym (get_or-take last stages place stage (omega (arith, low)))) (rw (length-take-le last stages high) (omega (arith, low))) adds (all last (omega (arith, low)) high) more others rest
+
+pub front-gathered : (stages : List Command) (place : ℕ) (shell : Shell) (held : List Held) (state : TreeState) (segment : Segment) → length segment.members.items ≡ place → place ≤ length stages → place ≤ MAX_STAGES
+    → GathersOn stages shell held state place segment → IsFront stages shell held state segment
+front-gathered stages place shell held state segment counted within most all =
     record {
-      plain = plain;
-      most = omega (arith, most, counted, within);
-      gathered = gathered-all stages place shell streams.held state segment.lines.items segment.members.items over all;
+      within = rw counted within;
+      most = rw counted most;
+      gathered = rw counted
+          (gathered-all (take place stages) place shell held state segment.lines.items segment.members.items (rw (length-take-le place stages within) (omega arith)) (all place (omega arith) within));
     }

@@ -361,7 +361,7 @@ grows-puts start bytes state grows = grows-trans start state (puts bytes state) 
 grows-tells : (start : State) (line : List ℕ) (state : State) → Grows start state → Grows start (tells line state)
 grows-tells start line state grows = grows-trans start state (tells line state) grows (grows-write state.session.streams.errors_to line state)
 
-grows-tells_some : (start : State) (lines : List ℕ) (state : State) → Grows start state → Grows start (tells_some lines state)
+pub grows-tells_some : (start : State) (lines : List ℕ) (state : State) → Grows start state → Grows start (tells_some lines state)
 grows-tells_some start [] state grows = grows
 grows-tells_some start (byte ∷ bytes) state grows = grows-tells start (byte ∷ bytes) state grows
 

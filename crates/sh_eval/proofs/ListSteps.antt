@@ -1,5 +1,5 @@
 -- What is evaluated of lists, pipelines and subshells comes of what is evaluated of the commands in them.
-use Rattle.std.proofs.Common.{◌≡◌, ◌<◌, ◌≤◌, ◌+◌, ℕ, List, [], ◌∷◌, true, false, length, get_or, drop, zero, suc, ◌==◌, length-drop, refl, sym, ap, ◌∙◌, subst, add-one, arith}
+use Rattle.std.proofs.Common.{◌≡◌, ◌<◌, ◌≤◌, ◌+◌, ℕ, List, [], ◌∷◌, true, false, length, get_or, drop, zero, suc, ◌-◌, length-drop, refl, sym, ap, ◌∙◌, subst, add-one, arith}
 use Rattle.std.proofs.Math.Seq.{drop-cons}
 use Rattle.std.proofs.Math.ListN.{drop_of_length-le}
 use Rattle.ps_world.specs.TreeState.{TreeState}
@@ -20,18 +20,21 @@ use Rattle.sh_eval.specs.declared.streams.From.{From}
 use Rattle.sh_eval.specs.declared.streams.To.{To}
 use Rattle.sh_eval.specs.declared.shell.Shell.{Shell}
 use Rattle.sh_eval.specs.Shells.{inside, with_status}
-use Rattle.sh_eval.specs.States.{State, Ends, Means, ends, on, after, followed_by, innermost, reading, unpiped}
+use Rattle.sh_eval.specs.States.{State, Ends, Means, ends, on, after, followed_by, innermost, piping, reading, unpiped}
 use Rattle.sh_eval.specs.declared.outcomes.Position.{Position}
-use Rattle.sh_eval.specs.Commands.{apart, handed_on, settled, negated, negated_status, joined_by, goes_on_behind, first_stage, last_stage, staged, position_at}
+use Rattle.sh_eval.specs.declared.outcomes.Position.TheVariants as position
+use Rattle.sh_eval.specs.declared.staging.Aside.{Aside}
+use Rattle.sh_eval.specs.declared.staging.Aside.TheVariants as aside
+use Rattle.sh_eval.specs.Commands.{apart, handed_on, settled, negated, negated_status, joined_by, goes_on_behind, first_stage, its_status, last_stage, reading_piped, staged, position_at, unchanged}
+use Rattle.sh_eval.specs.Inner.Staging.{IsAside, back_to, entering, rest_means, status_kept}
 use Rattle.sh_eval.specs.Growth.{Adds}
 use Rattle.sh_eval.specs.Contract.{Seen, Faults, Point, point_of, Base, Has, Comes, HasCause, IsGone, Keeps, goes_on, settled_how, Meaning, Evaluates}
 use Rattle.sh_eval.specs.Meaning.{list_means, and_or_means, joined_means, pipeline_means, stages_means, later_stages_mean, command_means}
 use Rattle.sh_eval.specs.Table.{pages}
-use Rattle.sh_eval.proofs.Growing.{list-adds, joined-adds, stages-adds, later-adds, adds-negated}
+use Rattle.sh_eval.proofs.Growing.{list-adds, joined-adds, stages-adds, later-adds, adds-negated, adds-staged, same-turns}
 use Rattle.sh_eval.proofs.Steps.{followed, stopped, nothing, wanted, no-fewer, held-none, meant-at}
 use Rattle.ps_world.proofs.TreeStateLemmas.{balanced-none}
-use Rattle.std.proofs.lemmas.Bool.{cond-true, cond-false, eq-eqb}
-use Rattle.std.proofs.lemmas.Bool.{ne_eqb}
+use Rattle.std.proofs.lemmas.Bool.{cond-true, cond-false}
 use Rattle.sh_tree.specs.declared.commands.Command.{Command}
 
 -- LISTS
@@ -164,12 +167,12 @@ pipeline-followed it commands old mid came same is found shell turned =
       lent = balanced-none mid.tree;
     }))
 
--- STAGES. The meaning of the stages from one of them on
-abbrev pub rest_means : Expansions → ℕ → List Command → Means
-rest_means expansions zero stages = stages_means expansions pages (stages_tree stages)
-rest_means expansions (suc place) stages = later_stages_mean expansions pages (stages_tree stages)
+-- STAGES
+pub rest-adds : (expansions : Expansions) (place : ℕ) (stages : List Command) → Adds (rest_means expansions place stages)
+rest-adds expansions zero stages state = stages-adds expansions pages (stages_tree stages) state
+rest-adds expansions (suc place) stages state = later-adds expansions pages (stages_tree stages) state
 
-after-on : (left : Ends) → left ≡ after left on
+pub after-on : (left : Ends) → left ≡ after left on
 after-on left = by_flow left.flow left.state
   where
     by_flow : (it : Flow) (state : State) → ends it state ≡ followed_by on it state
@@ -185,62 +188,59 @@ one-left : (place : ℕ) (one : Command) (rest : List Command) → (length (one 
 one-left place one [] several expansions state = absurd (several refl)
 one-left place one (next ∷ rest) several expansions state = refl
 
-later-left : (place count : ℕ) (one : Command) (rest : List Command) → suc place + length (one ∷ rest) ≡ count → (expansions : Expansions) (state : State)
+pub rest-later : (expansions : Expansions) (place : ℕ) (stages : List Command) → 1 ≤ place → rest_means expansions place stages ≡ later_stages_mean expansions pages (stages_tree stages)
+rest-later expansions zero stages some = absurd (omega (arith, some))
+rest-later expansions (suc place) stages some = refl
+
+later-left : (before : ℕ) (one : Command) (rest : List Command) (expansions : Expansions) (state : State)
     → later_stages_mean expansions pages (stages_tree (one ∷ rest)) state
-    ≡ after (staged (position_at (suc place) count) (command_means expansions pages (command_tree one)) state) (later_stages_mean expansions pages (stages_tree rest))
-later-left place count one [] size expansions state =
-    let last : (suc (suc place) == count) ≡ true = eq-eqb (suc (suc place)) count (omega (arith, size)) in
-    rw last (after-on (last_stage (command_means expansions pages (command_tree one)) state))
-later-left place count one (next ∷ rest) size expansions state =
-    let middle : (suc (suc place) == count) ≡ false = ne_eqb (suc (suc place)) count (λ same. omega (arith, size, same)) in
-    rw middle refl
+    ≡ after (staged (position_at (suc before) (length rest)) (command_means expansions pages (command_tree one)) state) (later_stages_mean expansions pages (stages_tree rest))
+later-left before one [] expansions state = after-on (last_stage (command_means expansions pages (command_tree one)) state)
+later-left before one (next ∷ rest) expansions state = refl
+
+-- how many stand behind those up to a place
+pub behind-those : (stages : List Command) (place count : ℕ) → length (drop (place + count) stages) ≡ length stages - place - count
+behind-those stages place count = let size = length-drop (place + count) stages in omega (arith, size)
 
 stage-step : (stages : List Command) (place : ℕ) (one : Command) → one ≡ get_or stages place one → place < length stages → (length stages ≡ 1 → ⊥) → (expansions : Expansions) (state : State)
     → rest_means expansions place (drop place stages) state
-    ≡ after (staged (position_at place (length stages)) (command_means expansions pages (command_tree one)) state) (rest_means expansions (place + 1) (drop (place + 1) stages))
+    ≡ after (staged (position_at place (length stages - place - 1)) (command_means expansions pages (command_tree one)) state) (rest_means expansions (place + 1) (drop (place + 1) stages))
 stage-step [] zero one here below several expansions state = elim below [ ]
 stage-step (first ∷ rest) zero one here below several expansions state = rw here (one-left 0 first rest several expansions state)
 stage-step stages (suc place) one here below several expansions state =
     let cut : drop (suc place) stages ≡ get_or stages (suc place) one ∷ drop (suc place + 1) stages = rw add-one (drop-cons stages (suc place) one below) in
     let whole : drop (suc place) stages ≡ one ∷ drop (suc place + 1) stages = cut ∙ ap (λ (it : Command). it ∷ drop (suc place + 1) stages) (sym here) in
-    let sizes = length-drop (suc place) stages in
-    let left = ap length whole in
-    let next : suc (suc place) ≡ suc place + 1 = omega arith in
     rw whole
-    (later-left place (length stages) one (drop (suc place + 1) stages) (omega (arith, sizes, left, below)) expansions state
-    ∙ ap (λ (it : ℕ). after (staged (position_at (suc place) (length stages)) (command_means expansions pages (command_tree one)) state) (rest_means expansions it (drop (suc place + 1) stages))) next)
+    (later-left place one (drop (suc place + 1) stages) expansions state
+    ∙ ap (λ (it : ℕ). after (staged (position_at (suc place) it) (command_means expansions pages (command_tree one)) state) (later_stages_mean expansions pages (stages_tree (drop (suc place + 1) stages))))
+    (behind-those stages (suc place) 1)
+    ∙ ap (λ (it : Means). after (staged (position_at (suc place) (length stages - suc place - 1)) (command_means expansions pages (command_tree one)) state) it)
+    (sym (rest-later expansions (suc place + 1) (drop (suc place + 1) stages) (omega arith))))
 
-pub stages-followed : (stages : List Command) (place : ℕ) (one : Command) (old mid new : Point) (came then_how : How) → one ≡ get_or stages place one → place < length stages
-    → (length stages ≡ 1 → ⊥) → goes_on came ≡ true
-    → Evaluates (λ expansions. staged (position_at place (length stages)) (command_means expansions pages (command_tree one))) old came mid
-    → Evaluates (λ expansions. rest_means expansions (place + 1) (drop (place + 1) stages)) mid then_how new
-    → Evaluates (λ expansions. rest_means expansions place (drop place stages)) old then_how new
-stages-followed stages place one old mid new came then_how here below several is stage others =
-    meant (λ expansions state. after (staged (position_at place (length stages)) (command_means expansions pages (command_tree one)) state) (rest_means expansions (place + 1) (drop (place + 1) stages)))
-    (λ expansions. rest_means expansions place (drop place stages)) old new then_how (λ expansions state same. sym (stage-step stages place one here below several expansions state))
-    (followed (λ expansions. staged (position_at place (length stages)) (command_means expansions pages (command_tree one))) (λ expansions. rest_means expansions (place + 1) (drop (place + 1) stages))
-    old mid new came then_how is stage others)
+module _ (stages : List Command) (place : ℕ) (one : Command) (position : Position) (at : position ≡ position_at place (length stages - place - 1)) (here : one ≡ get_or stages place one)
+    (below : place < length stages) (several : length stages ≡ 1 → ⊥) where
+  abbrev stage_means : Meaning
+  stage_means expansions = staged position (command_means expansions pages (command_tree one))
 
-pub staged-at : (position : Position) (place index count : ℕ) (one : Command) (old new : Point) (came : How) → position ≡ position_at place count → place ≡ index
-    → Evaluates (λ expansions. staged position (command_means expansions pages (command_tree one))) old came new
-    → Evaluates (λ expansions. staged (position_at index count) (command_means expansions pages (command_tree one))) old came new
-staged-at position place index count one old new came is counted stage =
-    subst (λ (it : ℕ). Evaluates (λ expansions. staged (position_at it count) (command_means expansions pages (command_tree one))) old came new) counted
-    (subst (λ (it : Position). Evaluates (λ expansions. staged it (command_means expansions pages (command_tree one))) old came new) is stage)
+  abbrev stages_behind : Meaning
+  stages_behind expansions = rest_means expansions (place + 1) (drop (place + 1) stages)
 
-rest-adds : (expansions : Expansions) (place : ℕ) (stages : List Command) → Adds (rest_means expansions place stages)
-rest-adds expansions zero stages state = stages-adds expansions pages (stages_tree stages) state
-rest-adds expansions (suc place) stages state = later-adds expansions pages (stages_tree stages) state
+  step-here : (expansions : Expansions) (state : State) → rest_means expansions place (drop place stages) state ≡ after (stage_means expansions state) (stages_behind expansions)
+  step-here expansions state =
+      stage-step stages place one here below several expansions state
+      ∙ ap (λ (it : Position). after (staged it (command_means expansions pages (command_tree one)) state) (stages_behind expansions)) (sym at)
 
-pub stages-stopped : (stages : List Command) (place : ℕ) (one : Command) (old new : Point) (came : How) → one ≡ get_or stages place one → place < length stages
-    → (length stages ≡ 1 → ⊥) → goes_on came ≡ false
-    → Evaluates (λ expansions. staged (position_at place (length stages)) (command_means expansions pages (command_tree one))) old came new
-    → Evaluates (λ expansions. rest_means expansions place (drop place stages)) old came new
-stages-stopped stages place one old new came here below several is stage =
-    meant (λ expansions state. after (staged (position_at place (length stages)) (command_means expansions pages (command_tree one)) state) (rest_means expansions (place + 1) (drop (place + 1) stages)))
-    (λ expansions. rest_means expansions place (drop place stages)) old new came (λ expansions state same. sym (stage-step stages place one here below several expansions state))
-    (stopped (λ expansions. staged (position_at place (length stages)) (command_means expansions pages (command_tree one))) (λ expansions. rest_means expansions (place + 1) (drop (place + 1) stages))
-    old new came is (λ expansions. rest-adds expansions (place + 1) (drop (place + 1) stages)) stage)
+  pub stages-followed : (old mid new : Point) (came then_how : How) → goes_on came ≡ true → Evaluates stage_means old came mid → Evaluates stages_behind mid then_how new
+      → Evaluates (λ expansions. rest_means expansions place (drop place stages)) old then_how new
+  stages-followed old mid new came then_how is stage others =
+      meant (λ expansions state. after (stage_means expansions state) (stages_behind expansions)) (λ expansions. rest_means expansions place (drop place stages)) old new then_how
+      (λ expansions state same. sym (step-here expansions state)) (followed stage_means stages_behind old mid new came then_how is stage others)
+
+  pub stages-stopped : (old new : Point) (came : How) → goes_on came ≡ false → Evaluates stage_means old came new → Evaluates (λ expansions. rest_means expansions place (drop place stages)) old came new
+  stages-stopped old new came is stage =
+      meant (λ expansions state. after (stage_means expansions state) (stages_behind expansions)) (λ expansions. rest_means expansions place (drop place stages)) old new came
+      (λ expansions state same. sym (step-here expansions state))
+      (stopped stage_means stages_behind old new came is (λ expansions. rest-adds expansions (place + 1) (drop (place + 1) stages)) stage)
 
 pub stages-done : (stages : List Command) (place : ℕ) (at : Point) → length stages ≤ place → Evaluates (λ expansions. rest_means expansions place (drop place stages)) at (how.Gone flow.On) at
 stages-done stages zero at over = rw (drop_of_length-le stages over) (nothing at)
@@ -348,3 +348,33 @@ handed-back old new session place same is = is ∙ ap (λ (it : To). unpiped it 
 -- and the shell reads what it read
 pub read-back : (old new session : Session) (source : From) → source ≡ old.streams.from → session ≡ handed_on old new → reading source session ≡ reading old.streams.from (handed_on old new)
 read-back old new session source same is = ap (λ (it : From). reading it session) same ∙ ap (reading old.streams.from) is
+
+-- A STAGE runs between what enters it and what leaves it
+module _ (means : Meaning) (shell inner shell' : Shell) (session mid session' : Session) (tree : TreeState) (seen : Seen) (faults : Faults) (came last : How) (at : Point) where
+  pub staged-within : (position : Position) (aside : Aside) → inner ≡ inside shell → mid ≡ entering position session → IsAside position session aside
+      → shell' ≡ status_kept aside shell at.shell → session' ≡ back_to aside at.session → last ≡ settled_how came → Evaluates means (point_of inner mid tree seen faults) came at
+      → Evaluates (λ expansions. staged position (means expansions)) (point_of shell session tree seen faults) last (point_of shell' session' at.tree at.seen at.faults)
+  staged-within position.First (aside.First to) inner_is mid_is is shell_is session_is last_is one =
+      within means piping handed_on unchanged shell inner shell' session mid session' tree seen faults came last at inner_is mid_is shell_is (handed-back session at.session session' to is session_is) last_is
+      same-turns (λ old new. same-turns new) (λ old new same. record { output = refl; errors = same.errors }) one
+  staged-within position.First (aside.Middle from to) inner_is mid_is is shell_is session_is last_is one = absurd is
+  staged-within position.First (aside.Last from) inner_is mid_is is shell_is session_is last_is one = absurd is
+  staged-within position.Middle (aside.First to) inner_is mid_is is shell_is session_is last_is one = absurd is
+  staged-within position.Middle (aside.Middle from to) inner_is mid_is is shell_is session_is last_is one =
+      within means (λ session. piping (reading_piped session)) (λ old new. reading old.streams.from (handed_on old new)) unchanged shell inner shell' session mid session' tree seen faults came last at
+      inner_is mid_is shell_is (session_is ∙ read-back session at.session _ from is.0 (handed-back session at.session _ to is.1 refl)) last_is
+      same-turns (λ old new. same-turns new) (λ old new same. record { output = refl; errors = same.errors }) one
+  staged-within position.Middle (aside.Last from) inner_is mid_is is shell_is session_is last_is one = absurd is
+  staged-within position.Last (aside.First to) inner_is mid_is is shell_is session_is last_is one = absurd is
+  staged-within position.Last (aside.Middle from to) inner_is mid_is is shell_is session_is last_is one = absurd is
+  staged-within position.Last (aside.Last from) inner_is mid_is is shell_is session_is last_is one =
+      within means reading_piped (λ old new. reading old.streams.from new) its_status shell inner shell' session mid session' tree seen faults came last at
+      inner_is mid_is shell_is (session_is ∙ ap (λ (it : From). reading it at.session) is) last_is
+      same-turns (λ old new. same-turns new) (λ old new same. record { output = same.output; errors = same.errors }) one
+
+-- memory was wanted as it was to be entered
+pub staged-wanted : (means : Meaning) (position : Position) (shell : Shell) (session session' : Session) (tree : TreeState) (seen : Seen) (faults : Faults) → session'.turns ≡ session.turns
+    → ((expansions : Expansions) → Adds (means expansions))
+    → Evaluates (λ expansions. staged position (means expansions)) (point_of shell session tree seen faults) how.Memory (point_of shell session' tree seen faults)
+staged-wanted means position shell session session' tree seen faults turns adds =
+    wanted-at (λ expansions. staged position (means expansions)) shell session session' tree seen faults (rw turns (omega arith)) (λ expansions. adds-staged position (means expansions) (adds expansions))

@@ -10,6 +10,8 @@ use Rattle.ut_args.specs.Inputs.{is_standard, operands_by}
 use Rattle.fl_segments.specs.Noted.{Noted}
 use Rattle.fl_commands.specs.Inputs.{noted_over, status_of}
 use Rattle.sh_tree.specs.Trees.{CommandTree, CommandTrees, no_command, command}
+use Rattle.sh_tree.specs.Views.{command_tree, stages_tree}
+use Rattle.sh_tree.specs.declared.commands.Command.{Command}
 use Rattle.sh_expand.specs.Outcomes.{Expansions}
 use Rattle.sh_eval.specs.declared.session.Session.{Session}
 use Rattle.sh_eval.specs.declared.shell.Shell.{Shell}
@@ -428,6 +430,25 @@ last-written changes (to.File path) false lines text ran status state = refl
 last-written changes to.Null true lines text ran status state = refl
 last-written changes to.Null false lines text ran status state = refl
 
+-- and nothing else is left in a pipe
+last-emptied : (changes : Shell → Shell) (place : To) (reads : Bool) (lines text : List ℕ) (ran : List Noted) (status : ℕ) (state : State)
+    → last_from state (emptied (on (write place text (ready lines ran status reads (last_in changes state)))))
+    ≡ on (write place text (record {
+      shell = with_status status state.shell;
+      session = record state.session { piped = [] };
+      world = world_behind state.session.streams.errors_to lines ran state.world;
+    }))
+last-emptied changes to.Output true lines text ran status state = refl
+last-emptied changes to.Output false lines text ran status state = refl
+last-emptied changes to.Errors true lines text ran status state = refl
+last-emptied changes to.Errors false lines text ran status state = refl
+last-emptied changes (to.Pipe number) true lines text ran status state = refl
+last-emptied changes (to.Pipe number) false lines text ran status state = refl
+last-emptied changes (to.File path) true lines text ran status state = refl
+last-emptied changes (to.File path) false lines text ran status state = refl
+last-emptied changes to.Null true lines text ran status state = refl
+last-emptied changes to.Null false lines text ran status state = refl
+
 to-taken : (changes : Shell → Shell) (reads : Bool) (lines : List ℕ) (ran : List Noted) (status : ℕ) (state : State) → (ready lines ran status reads (last_in changes state)).session.streams.to ≡ state.session.streams.to
 to-taken changes true lines ran status state = refl
 to-taken changes false lines ran status state = refl
@@ -437,6 +458,12 @@ last-ready : (changes : Shell → Shell) (reads : Bool) (lines text : List ℕ) 
 last-ready changes reads lines text ran status state =
     ap (λ (it : To). last_from state (on (write it text (ready lines ran status reads (last_in changes state))))) (to-taken changes reads lines ran status state)
     ∙ last-written changes state.session.streams.to reads lines text ran status state
+
+emptied-ready : (changes : Shell → Shell) (reads : Bool) (lines text : List ℕ) (ran : List Noted) (status : ℕ) (state : State)
+    → last_from state (emptied (on (puts text (ready lines ran status reads (last_in changes state))))) ≡ on (last_left lines ran status text state)
+emptied-ready changes reads lines text ran status state =
+    ap (λ (it : To). last_from state (emptied (on (write it text (ready lines ran status reads (last_in changes state)))))) (to-taken changes reads lines ran status state)
+    ∙ last-emptied changes state.session.streams.to reads lines text ran status state
 
 plain-same : (one other : State) (files : one.world.files ≡ other.world.files) (home : one.world.home ≡ other.world.home) (member : Called) → IsPlain one member → IsPlain other member
 plain-same one other files home member plain =
@@ -588,7 +615,7 @@ module _ (pages : Pages) where
     handed-at : (member : Called) (state : State) → IsAt state → IsAt (handed_by member state)
     handed-at member state at = record { files_are = at.files_are; home_is = at.home_is; held_are = at.held_are; shell_is = at.shell_is; plain = at.plain }
 
-    later-so : (tree : CommandTree) (trees : CommandTrees) (member : Called) (rest : List Called) (state : State) → Members (command tree trees) (member ∷ rest) → IsAt state → AllPlain state (member ∷ rest)
+    pub later-so : (tree : CommandTree) (trees : CommandTrees) (member : Called) (rest : List Called) (state : State) → Members (command tree trees) (member ∷ rest) → IsAt state → AllPlain state (member ∷ rest)
         → later_stages_mean expansions pages (command tree trees) state ≡ on (later_left (member ∷ rest) state)
     later-so tree no_command member [] state are at all = last-so tree member state are.0 at all.0
     later-so tree no_command member (next ∷ rest) state are at all = absurd are.1
@@ -611,14 +638,48 @@ module _ (pages : Pages) where
         ∙ λ i. world_behind state.session.streams.errors_to (append_assoc (lines_for state member) [] (flat_map (lines_for state) (next ∷ rest)) i)
         (append_assoc (ran_of state member) [] (flat_map (ran_of state) (next ∷ rest)) i) state.world)
 
-    -- later stages run as the last one
-    pub later-as_one : (tree : CommandTree) (trees : CommandTrees) (member : Called) (rest : List Called) (state : State) → Members (command tree trees) (member ∷ rest) → IsAt state → AllPlain state (member ∷ rest)
-        → later_stages_mean expansions pages (command tree trees) state ≡ last_stage (runs_through pages (member ∷ rest)) state
-    later-as_one tree trees member rest state are at all =
-        later-so tree trees member rest state are at all
-        ∙ sym (readied (member ∷ rest) state (last_in (λ it. it) state) refl refl (last_from state) at.plain
-        ∙ last-ready (λ it. it) (reads_first (member ∷ rest)) (flat_map (lines_for state) (member ∷ rest)) (text_through pages state (member ∷ rest) state.session.piped)
-        (flat_map (ran_of state) (member ∷ rest)) (status_through pages state (member ∷ rest) state.session.piped) state)
+    -- STAGES BEHIND WHICH OTHERS STAND leave this for these
+    abbrev left_as : List ℕ → World → State → State
+    left_as text world state = record { shell = state.shell; session = record state.session { piped = text }; world = world }
+
+    abbrev pub handed_all : List Called → State → State
+    handed_all members state =
+        middle_left (flat_map (lines_for state) members) (flat_map (ran_of state) members) (text_through pages state members state.session.piped) state
+
+    handed-more : (member next : Called) (rest : List Called) (state : State) → handed_all (next ∷ rest) (handed_by member state) ≡ handed_all (member ∷ next ∷ rest) state
+    handed-more member next rest state =
+        (λ i. left_as (through-same (handed_by member state) state refl refl pages (next ∷ rest) (written_by pages state member state.session.piped) i)
+        (world_behind state.session.streams.errors_to (all_lines-same (handed_by member state) state refl refl pages (next ∷ rest) i) (all_ran-same (handed_by member state) state refl refl pages (next ∷ rest) i) (handed_by member state).world) state)
+        ∙ ap (λ (it : World). left_as (text_through pages state (member ∷ next ∷ rest) state.session.piped) it state)
+        (behind-more state.session.streams.errors_to (flat_map (lines_for state) (member ∷ [])) (flat_map (lines_for state) (next ∷ rest)) (flat_map (ran_of state) (member ∷ []))
+        (flat_map (ran_of state) (next ∷ rest)) state.world
+        ∙ λ i. world_behind state.session.streams.errors_to (append_assoc (lines_for state member) [] (flat_map (lines_for state) (next ∷ rest)) i)
+        (append_assoc (ran_of state member) [] (flat_map (ran_of state) (next ∷ rest)) i) state.world)
+
+    pub later-front : (one : Command) (front : List Command) (behind : Command) (more : List Command) (member : Called) (rest : List Called) (state : State)
+        → Members (stages_tree (one ∷ front)) (member ∷ rest) → IsAt state → AllPlain state (member ∷ rest)
+        → later_stages_mean expansions pages (stages_tree ((one ∷ front) ++ behind ∷ more)) state ≡ later_stages_mean expansions pages (stages_tree (behind ∷ more)) (handed_all (member ∷ rest) state)
+    later-front one [] behind more member [] state are at all =
+        ap (λ (it : Ends). after it (later_stages_mean expansions pages (stages_tree (behind ∷ more)))) (middle-so (command_tree one) member state are.0 at all.0)
+    later-front one [] behind more member (next ∷ rest) state are at all = absurd are.1
+    later-front one (second ∷ front) behind more member [] state are at all = absurd are.1
+    later-front one (second ∷ front) behind more member (next ∷ rest) state are at all =
+        ap (λ (it : Ends). after it (later_stages_mean expansions pages (stages_tree ((second ∷ front) ++ behind ∷ more)))) (middle-so (command_tree one) member state are.0 at all.0)
+        ∙ later-front second front behind more next rest (handed_by member state) are.1 (handed-at member state at) (all_plain-same state (handed_by member state) refl refl (next ∷ rest) all.1)
+        ∙ ap (later_stages_mean expansions pages (stages_tree (behind ∷ more))) (handed-more member next rest state)
+
+    -- as one they leave the same
+    pub middle-as_one : (members : List Called) (state : State) → IsAt state → middle_stage (λ inner. emptied (runs_through pages members inner)) state ≡ on (handed_all members state)
+    middle-as_one members state at =
+        readied members state (middle_in (λ it. it) state) refl refl (middle_from state) at.plain
+        ∙ middle-ready (λ it. it) (reads_first members) (flat_map (lines_for state) members) (text_through pages state members state.session.piped) (flat_map (ran_of state) members)
+        (status_through pages state members state.session.piped) state
+
+    pub last-as_one : (members : List Called) (state : State) → IsAt state → last_stage (λ inner. emptied (runs_through pages members inner)) state ≡ on (later_left members state)
+    last-as_one members state at =
+        readied members state (last_in (λ it. it) state) refl refl (λ it. last_from state (emptied it)) at.plain
+        ∙ emptied-ready (λ it. it) (reads_first members) (flat_map (lines_for state) members) (text_through pages state members state.session.piped) (flat_map (ran_of state) members)
+        (status_through pages state members state.session.piped) state
 
     first-so : (tree : CommandTree) (member : Called) (state : State) → Member tree member → IsAt state → IsPlain state member
         → first_stage (command_means expansions pages tree) state ≡ on (started_by member state)
@@ -642,6 +703,58 @@ module _ (pages : Pages) where
     started-at member true from.Standard state at = record { files_are = at.files_are; home_is = at.home_is; held_are = at.held_are; shell_is = at.shell_is; plain = at.plain }
     started-at member true (from.Kept text) state at = record { files_are = at.files_are; home_is = at.home_is; held_are = at.held_are; shell_is = at.shell_is; plain = at.plain }
     started-at member false place state at = record { files_are = at.files_are; home_is = at.home_is; held_are = at.held_are; shell_is = at.shell_is; plain = at.plain }
+
+    -- THE FIRST STAGES leave this for those behind them
+    abbrev pub first_handed : List Called → State → State
+    first_handed members state =
+        first_left (flat_map (lines_for state) members) (flat_map (ran_of state) members) (text_through pages state members (to_read state)) (reads_first members) state
+
+    pub first-as_one : (members : List Called) (state : State) → IsAt state → first_stage (λ inner. emptied (runs_through pages members inner)) state ≡ on (first_handed members state)
+    first-as_one members state at =
+        readied members state (first_in (λ it. it) state) refl refl (first_from state) at.plain
+        ∙ first-ready (λ it. it) (reads_first members) (flat_map (lines_for state) members) (text_through pages state members (to_read told)) (flat_map (ran_of state) members)
+        (status_through pages state members (to_read told)) state
+        ∙ ap (λ (it : List ℕ). on (first_left (flat_map (lines_for state) members) (flat_map (ran_of state) members) (text_through pages state members it) (reads_first members) state))
+        (to_read-told state.session.streams.from state.session.streams.errors_to (flat_map (lines_for (first_in (λ it. it) state)) members) state.world)
+      where
+        told : State
+        told = in_world (world_told state.session.streams.errors_to (flat_map (lines_for (first_in (λ it. it) state)) members)) (first_in (λ it. it) state)
+
+    module _ (member next : Called) (rest : List Called) (state : State) where
+      abbrev taken_first : State
+      taken_first = taken_in (reads_first (member ∷ [])) state
+
+      abbrev first_written : List ℕ
+      first_written = written_by pages state member (to_read state)
+
+      files_first : taken_first.world.files ≡ state.world.files
+      files_first = (files-taken (reads_first (member ∷ [])) state.session.streams.from state).0
+
+      home_first : taken_first.world.home ≡ state.world.home
+      home_first = (files-taken (reads_first (member ∷ [])) state.session.streams.from state).1
+
+      abbrev taken_as : List ℕ → World → State
+      taken_as text world = record { shell = state.shell; session = record taken_first.session { piped = text }; world = world }
+
+      started-more : handed_all (next ∷ rest) (started_by member state) ≡ first_handed (member ∷ next ∷ rest) state
+      started-more =
+          (λ i. taken_as (through-same (started_by member state) state files_first home_first pages (next ∷ rest) first_written i)
+          (world_behind ((places-taken (reads_first (member ∷ [])) state.session.streams.from state).1 i) (all_lines-same (started_by member state) state files_first home_first pages (next ∷ rest) i)
+          (all_ran-same (started_by member state) state files_first home_first pages (next ∷ rest) i) (started_by member state).world))
+          ∙ ap (taken_as (text_through pages state (next ∷ rest) first_written))
+          (behind-more state.session.streams.errors_to (flat_map (lines_for state) (member ∷ [])) (flat_map (lines_for state) (next ∷ rest)) (flat_map (ran_of state) (member ∷ []))
+          (flat_map (ran_of state) (next ∷ rest)) taken_first.world
+          ∙ λ i. world_behind state.session.streams.errors_to (append_assoc (lines_for state member) [] (flat_map (lines_for state) (next ∷ rest)) i)
+          (append_assoc (ran_of state member) [] (flat_map (ran_of state) (next ∷ rest)) i) taken_first.world)
+
+    pub first-front : (one second : Command) (front : List Command) (behind : Command) (more : List Command) (member next : Called) (rest : List Called) (state : State)
+        → Members (stages_tree (one ∷ second ∷ front)) (member ∷ next ∷ rest) → IsAt state → AllPlain state (member ∷ next ∷ rest)
+        → stages_means expansions pages (stages_tree ((one ∷ second ∷ front) ++ behind ∷ more)) state ≡ later_stages_mean expansions pages (stages_tree (behind ∷ more)) (first_handed (member ∷ next ∷ rest) state)
+    first-front one second front behind more member next rest state are at all =
+        ap (λ (it : Ends). after it (later_stages_mean expansions pages (stages_tree ((second ∷ front) ++ behind ∷ more)))) (first-so (command_tree one) member state are.0 at all.0)
+        ∙ later-front second front behind more next rest (started_by member state) are.1 (started-at member (reads_first (member ∷ [])) state.session.streams.from state at)
+        (all_plain-same state (started_by member state) (sym (files_first member next rest state)) (sym (home_first member next rest state)) (next ∷ rest) all.1)
+        ∙ ap (later_stages_mean expansions pages (stages_tree (behind ∷ more))) (started-more member next rest state)
 
     -- all stages run as one command
     pub several-as_one : (tree second : CommandTree) (trees : CommandTrees) (first next : Called) (rest : List Called) (state : State) → Members (command tree (command second trees)) (first ∷ next ∷ rest)

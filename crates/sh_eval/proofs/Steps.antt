@@ -8,7 +8,7 @@ use Rattle.ps_world.specs.Told.{then_bytes, GrewByPrefix}
 use Rattle.ps_world.specs.TreeState.{TreeState}
 use Rattle.ps_world.proofs.TreeStateLemmas.{balanced-none, balanced-more}
 use Rattle.fl_commands.proofs.WriterLemmas.{only-within}
-use Rattle.sh_expand.specs.Outcomes.{Expansions}
+use Rattle.sh_expand.specs.Outcomes.{AreExpansions, Expansions}
 use Rattle.sh_eval.specs.declared.flows.Flow.{Flow}
 use Rattle.sh_eval.specs.declared.flows.Flow.TheVariants as flow
 use Rattle.sh_eval.specs.declared.outcomes.How.{How}
@@ -233,17 +233,22 @@ stopped first next old new came off adds one =
     old came came new.shell new.shell new.session new.tree new.seen new.faults off (same-how came) (same-shell came new.shell) one
 
 -- what is meant is the same where it begins
-pub meant-at : (first second : Meaning) (old new : Point) (came : How) → ((expansions : Expansions) (base : Base) (state : State) → Has base old state → first expansions state ≡ second expansions state)
+pub meant-where : (first second : Meaning) (old new : Point) (came : How)
+    → ((expansions : Expansions) → AreExpansions expansions → (base : Base) (state : State) → Has base old state → first expansions state ≡ second expansions state)
     → Evaluates second old came new → Evaluates first old came new
-meant-at first second old new came same one =
+meant-where first second old new came same one =
     record {
-      comes = λ expansions are base state has. subst (λ (left : Ends). Comes base came new left) (sym (same expansions base state has)) (one.comes expansions are base state has);
+      comes = λ expansions are base state has. subst (λ (left : Ends). Comes base came new left) (sym (same expansions are base state has)) (one.comes expansions are base state has);
       keeps = one.keeps;
       turns = one.turns;
       later = one.later;
       cause = one.cause;
       lent = one.lent;
     }
+
+pub meant-at : (first second : Meaning) (old new : Point) (came : How) → ((expansions : Expansions) (base : Base) (state : State) → Has base old state → first expansions state ≡ second expansions state)
+    → Evaluates second old came new → Evaluates first old came new
+meant-at first second old new came same one = meant-where first second old new came (λ expansions are base state has. same expansions base state has) one
 
 -- the shell alone is changed
 pub changed : (it : Flow) (change : Shell → Shell) (shell shell' : Shell) (session : Session) (tree : TreeState) (seen : Seen) (faults : Faults) → shell' ≡ change shell

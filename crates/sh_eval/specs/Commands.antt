@@ -90,10 +90,11 @@ middle_stage means state = apart (λ session. piping (reading_piped session)) (�
 abbrev pub last_stage : Means → Means
 last_stage means state = apart reading_piped (λ old new. reading old.streams.from new) its_status means state
 
--- the place of a stage among several
+-- the place of stages among several, by how many stand before them and behind them
 abbrev pub position_at : ℕ → ℕ → Position
-position_at zero count = position.First
-position_at (suc place) count = if suc (suc place) == count then position.Last else position.Middle
+position_at zero behind = position.First
+position_at (suc before) zero = position.Last
+position_at (suc before) (suc behind) = position.Middle
 
 abbrev pub staged : Position → Means → Means
 staged position.First means state = first_stage means state

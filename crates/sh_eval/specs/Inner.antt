@@ -9,3 +9,4 @@ pub mod Inputs
 pub mod Runs
 pub mod Teeing
 pub mod Gathering
+pub mod Staging

@@ -1,13 +1,13 @@
 //! Utilities of a pipeline that are gathered to run as one.
-ghost use Rattle.std.specs.Prelude.{◌≡◌, ◌≤◌, ◌&&◌, [], ◌∷◌, ◌++◌, List, ℕ, false, length, map, true, IfOk, IfSome, OnOk};
+ghost use Rattle.std.specs.Prelude.{◌≡◌, ◌&&◌, [], ◌∷◌, ◌++◌, List, ℕ, false, map, true, IfOk, IfSome, OnOk};
 ghost use Rattle.ps_lines.specs.Texts.{texts_of};
 ghost use Rattle.ps_world.specs.Counts.{Counts};
 ghost use Rattle.sh_tree.specs.Trees.{no_sub, simple as simple_of, simple_command};
-ghost use Rattle.sh_tree.specs.Views.{command_tree, simple_tree, stages_tree, word_tree};
+ghost use Rattle.sh_tree.specs.Views.{command_tree, simple_tree, word_tree};
 ghost use Rattle.fl_commands.specs.Inner.Stages.{some_lacks};
 ghost use Rattle.ut_args.specs.Inputs.{operands_of};
 ghost use Rattle.ut_args.specs.Invocations.{command_of};
-ghost use Rattle.sh_eval.specs.Inner.Gathering.{AddsStage, CanBeMember, Gathers, GiveFields, IsAskedBy, IsFound, IsFree, IsRead};
+ghost use Rattle.sh_eval.specs.Inner.Gathering.{AddsStage, CanBeMember, GathersFront, GiveFields, IsAskedBy, IsFound, IsFree, IsFront, IsRead};
 ghost use Rattle.sh_eval.specs.Inner.Inputs.{IsLooked, called_by, lines_by};
 ghost use Rattle.sh_eval.specs.Segments.{is_plain_place as is_plain_place_def, name_of as name_of_def};
 ghost use Rattle.sh_eval.specs.Table.{patterns_of};
@@ -37,12 +37,11 @@ pub struct Segment {
     pub(crate) members: Vec<Member>,
 }
 
-/// Gathers the stages of a pipeline, if they can run as one.
+/// Gathers the stages of a pipeline, from the first on and as many as can run as one, if these are two or more.
 ///
 /// Each has to be a utility that runs, and nothing more: no assignment, redirection or substitution stands before it, its words have no fault,
 /// and it isn't refused. What such a stage is to do hangs on nothing that a stage before it does, since none changes a file, and each has a
-/// shell of its own. Else there is None, and the stages are evaluated one after the other. Nothing is told or done here: the tree is as it was.
-/// A fault is the tree's.
+/// shell of its own. Nothing is told or done here: the tree is as it was. A fault is the tree's.
 pub(crate) fn gather<T: Tree>(
     alloc: Global,
     stages: &[Command],
@@ -50,37 +49,54 @@ pub(crate) fn gather<T: Tree>(
     streams: &Streams,
     tree: &mut T,
 ) -> Result<Option<Segment>, WorldErr>
-    ensures gathers { IfOk result (λ found. IfSome found (Gathers (stages_tree stages.now) shell.now streams.now (T.state tree.old))) }
-    ensures several { IfOk result (λ found. IfSome found (λ segment. 2 ≤ length segment.members.items)) }
+    ensures gathers { IfOk result (λ found. IfSome found (GathersFront stages.now shell.now streams.now (T.state tree.old))) }
     ensures state { T.state tree.new ≡ T.state tree.old }
     ensures cause { Counts (T.faults tree.old) (T.faults tree.new) result }
 {
-    if !may_run_as_one(stages, streams) {
+    if !may_run_as_one(stages) || !is_plain_place(&streams.errors_to) {
         return Ok(None);
     }
+    let segment = gather_front(alloc, stages, shell, &streams.held, tree)?;
+    if segment.members.len() < 2 {
+        return Ok(None);
+    }
+    Ok(Some(segment))
+}
+
+/// Whether the first two stages may run as one, by what they look like before their words are expanded.
+fn may_run_as_one(stages: &[Command]) -> bool {
+    match stages {
+        [first, second, ..] => bare_words(first).is_some() && bare_words(second).is_some(),
+        _ => false,
+    }
+}
+
+/// Gathers stages up to the first that isn't a utility that runs, and no more than a graph may have.
+fn gather_front<T: Tree>(
+    alloc: Global,
+    stages: &[Command],
+    shell: &Shell,
+    held: &HeldPaths,
+    tree: &mut T,
+) -> Result<Segment, WorldErr>
+    ensures front { IfOk result (IsFront stages.now shell.now held.now (T.state tree.old)) }
+    ensures state { T.state tree.new ≡ T.state tree.old }
+    ensures cause { Counts (T.faults tree.old) (T.faults tree.new) result }
+{
     let mut segment = Segment {
         lines: Vec::new(alloc),
         members: Vec::new(alloc),
     };
     for stage in stages {
-        let added = add_stage(alloc, stage, shell, &streams.held, &mut segment, tree)?;
+        if segment.members.len() == MAX_STAGES {
+            return Ok(segment);
+        }
+        let added = add_stage(alloc, stage, shell, held, &mut segment, tree)?;
         if !added {
-            return Ok(None);
+            return Ok(segment);
         }
     }
-    Ok(Some(segment))
-}
-
-/// Whether stages may run as one, by what they look like before their words are expanded.
-fn may_run_as_one(stages: &[Command], streams: &Streams) -> bool
-    ensures several { result ≡ true → 2 ≤ length stages.now }
-    ensures most { result ≡ true → length stages.now ≤ MAX_STAGES }
-    ensures plain { result ≡ true → is_plain_place_def streams.now.errors_to ≡ true }
-{
-    2 <= stages.len()
-        && stages.len() <= MAX_STAGES
-        && is_plain_place(&streams.errors_to)
-        && stages.iter().all(|stage| bare_words(stage).is_some())
+    Ok(segment)
 }
 
 /// Whether what is told there changes no file and no pipe.
@@ -123,6 +139,7 @@ fn add_stage<T: Tree>(
     tree: &mut T,
 ) -> Result<bool, WorldErr>
     ensures added { IfOk result (λ added. added ≡ true → AddsStage (command_tree stage.now) shell.now held.now (T.state tree.old) segment.old segment.new) }
+    ensures kept { IfOk result (λ added. added ≡ false → segment.new ≡ segment.old) }
     ensures state { T.state tree.new ≡ T.state tree.old }
     ensures cause { Counts (T.faults tree.old) (T.faults tree.new) result }
 {

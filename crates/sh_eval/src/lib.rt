@@ -10,9 +10,9 @@
 //! Lists, pipelines, groups, subshells, `if`, loops, command substitutions, redirections and simple commands are evaluated. A utility runs
 //! by `fl_commands`, as a graph of its own; the files of `tee` are begun before (`teeing`).
 //!
-//! A pipeline whose stages are all utilities but `tee` is gathered to a segment and runs as one graph, through which its bytes stream
-//! (`gathering`, `segments`; `specs/Segments.antt` says what it does, which is what its stages mean one after the other). Every other
-//! pipeline runs stage by stage, and what a stage writes is kept for the next.
+//! Stages of a pipeline that follow one another and are utilities but `tee`, and nothing more, are gathered to a segment and run as one graph,
+//! through which their bytes stream (`gathering`, `segments`; `specs/Segments.antt` says what it does, which is what its stages mean one after
+//! the other). Every other stage runs by itself (`staging`), and what a stage or a segment writes is kept for the next.
 #![tactic(auto)]
 
 mod builtins;
@@ -39,6 +39,7 @@ mod session;
 mod shell;
 mod simple;
 mod skipping;
+mod staging;
 mod stops;
 mod streams;
 mod targets;

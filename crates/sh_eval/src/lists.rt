@@ -1,12 +1,14 @@
 //! The evaluation of lists, pipelines and compound commands.
-ghost use Rattle.std.specs.Prelude.{◌≡◌, length};
+ghost use Rattle.std.specs.Prelude.{◌≡◌, ◌<◌, ◌≤◌, ◌+◌, drop, false, length, true};
 ghost use Rattle.ps_lines.specs.Texts.{texts_of};
 ghost use Rattle.sh_tree.specs.Views.{list_tree, items_tree, and_or_tree, joined_tree, pipeline_tree, stages_tree, command_tree};
 ghost use Rattle.sh_tree.specs.Views.{simple_tree, subs_tree};
 ghost use Rattle.sh_tree.specs.declared.commands.Command.TheViews.{out-Tail};
-ghost use Rattle.sh_eval.specs.Commands.{all_turns, in_loop, joined_by, noted, subshell, staged, first_stage, middle_stage, last_stage, some_command, substitution};
+ghost use Rattle.sh_eval.specs.Commands.{all_turns, in_loop, joined_by, noted, subshell, staged, some_command, substitution};
 ghost use Rattle.sh_eval.specs.Inner.Bodies.{body_means, round_means, rounds_mean, subs_begun, turn_means};
-ghost use Rattle.sh_eval.specs.Contract.{Evaluates, IsSound, drawn_of, faults_of, point_of, seen_of};
+ghost use Rattle.sh_eval.specs.Inner.Staging.{rest_means};
+ghost use Rattle.sh_eval.specs.Contract.{Evaluates, IsSound, Point, drawn_of, faults_of, goes_on as goes_on_def, point_of, seen_of};
+ghost use Rattle.sh_eval.specs.declared.outcomes.How.{How};
 ghost use Rattle.sh_eval.specs.Meaning.{has_item, list_means, and_or_means, joined_means, pipeline_means, stages_means, command_means, simple_means, subs_mean};
 ghost use Rattle.sh_eval.specs.Table.{pages};
 
@@ -15,14 +17,15 @@ use crate::flows::Flow;
 use crate::gathering::gather;
 use crate::opening::{close, open_tail};
 use crate::outcomes::{
-    How, Played, Position, goes_on, goes_round, has_command, how_of, joins, leave_condition,
+    Front, How, Played, Position, goes_on, goes_round, has_command, how_of, joins, leave_condition,
     left_by, negate, note_body, position_of, settled,
 };
 use crate::refusals::Refusal;
-use crate::segments::run_segment;
+use crate::segments::run_part;
 use crate::session::Session;
 use crate::shell::Shell;
 use crate::simple::run_simple;
+use crate::staging::{enter_stage, leave_stage};
 use fl_engines::Engine;
 use ps_world::{Gate, Sink, Source, Tree};
 use sh_tree::{AndOr, Command, Join, List, Pipeline, Simple, Tail};
@@ -273,8 +276,7 @@ fn eval_pipeline<T: Tree, I: Source + Send, O: Sink + Send, E: Sink, G: Gate, X:
     }
 }
 
-/// Evaluates the commands of a pipeline: one alone in this shell, utilities that can be gathered as one graph, and all others one after the
-/// other, each in a subshell.
+/// Evaluates the commands of a pipeline: one alone in this shell, several each in a subshell.
 #[cycle(evaluation)]
 fn eval_stages<T: Tree, I: Source + Send, O: Sink + Send, E: Sink, G: Gate, X: Engine>(
     stages: &[Command],
@@ -295,24 +297,13 @@ fn eval_stages<T: Tree, I: Source + Send, O: Sink + Send, E: Sink, G: Gate, X: E
         (point_of shell.new session.new (T.state tree.new) (seen_of (drawn_of (I.left result.input) (X.used engine.new)) (O.taken result.out) (E.taken err.new))
         (faults_of (I.faults result.input) (O.faults result.out) (E.faults err.new) (T.faults tree.new))) }
 {
-    let alloc = session.alloc();
     match stages {
         [only] => eval_command(only, shell, session, tree, input, out, err, gate, engine),
-        _ => match gather(alloc, stages, shell, &session.streams, tree) {
-            Ok(Some(segment)) => run_segment(
-                alloc, segment, shell, session, tree, input, out, err, gate, engine,
-            ),
-            Ok(None) => eval_several(stages, shell, session, tree, input, out, err, gate, engine),
-            Err(error) => Played {
-                how: how_of(error),
-                input,
-                out,
-            },
-        },
+        _ => eval_several(stages, shell, session, tree, input, out, err, gate, engine),
     }
 }
 
-/// Evaluates the several commands of a pipeline, one after the other.
+/// Evaluates the several commands of a pipeline, one after the other, but for utilities that can be gathered: these run as one graph.
 #[cycle(evaluation)]
 fn eval_several<T: Tree, I: Source + Send, O: Sink + Send, E: Sink, G: Gate, X: Engine>(
     stages: &[Command],
@@ -337,16 +328,16 @@ fn eval_several<T: Tree, I: Source + Send, O: Sink + Send, E: Sink, G: Gate, X: 
     let mut input = input;
     let mut out = out;
     let mut place = 0;
-    for stage in stages {
-        let position = position_of(place, stages.len());
-        place += 1;
+    while place < stages.len() {
+        let Front { played, taken } = eval_front(
+            place, stages, shell, session, tree, input, out, err, gate, engine,
+        );
         let Played {
             how,
             input: left,
             out: sent,
-        } = eval_stage(
-            position, stage, shell, session, tree, input, out, err, gate, engine,
-        );
+        } = played;
+        place += taken;
         input = left;
         out = sent;
         if !goes_on(&how) {
@@ -357,6 +348,79 @@ fn eval_several<T: Tree, I: Source + Send, O: Sink + Send, E: Sink, G: Gate, X: 
         how: How::Gone(Flow::On),
         input,
         out,
+    }
+}
+
+/// Evaluates the several commands of a pipeline from a place on: as many as can be gathered as one graph, or else the first alone. Gives also
+/// how many these were.
+#[cycle(evaluation)]
+fn eval_front<T: Tree, I: Source + Send, O: Sink + Send, E: Sink, G: Gate, X: Engine>(
+    place: usize,
+    stages: &[Command],
+    shell: &mut Shell,
+    session: &mut Session,
+    tree: &mut T,
+    input: I,
+    out: O,
+    err: &mut E,
+    gate: &G,
+    engine: &mut X,
+) -> Front<I, O>
+    requires below { place < length stages.now }
+    requires several { length stages.now ≡ 1 → ⊥ }
+    requires sound { IsSound session.old (T.state tree.old) }
+    ensures taken { (1 ≤ result.taken) × (place + result.taken ≤ length stages.now) }
+    ensures sound { goes_on_def result.played.how ≡ true → IsSound session.new (T.state tree.new) }
+    ensures stopped { goes_on_def result.played.how ≡ false → Evaluates (λ expansions. rest_means expansions place (drop place stages.now))
+        (point_of shell.old session.old (T.state tree.old) (seen_of (drawn_of (I.left input) (X.used engine.old)) (O.taken out) (E.taken err.old))
+        (faults_of (I.faults input) (O.faults out) (E.faults err.old) (T.faults tree.old)))
+        result.played.how
+        (point_of shell.new session.new (T.state tree.new) (seen_of (drawn_of (I.left result.played.input) (X.used engine.new)) (O.taken result.played.out) (E.taken err.new))
+        (faults_of (I.faults result.played.input) (O.faults result.played.out) (E.faults err.new) (T.faults tree.new))) }
+    ensures followed { goes_on_def result.played.how ≡ true → (came : How) (last : Point)
+        → Evaluates (λ expansions. rest_means expansions (place + result.taken) (drop (place + result.taken) stages.now))
+        (point_of shell.new session.new (T.state tree.new) (seen_of (drawn_of (I.left result.played.input) (X.used engine.new)) (O.taken result.played.out) (E.taken err.new))
+        (faults_of (I.faults result.played.input) (O.faults result.played.out) (E.faults err.new) (T.faults tree.new)))
+        came last
+        → Evaluates (λ expansions. rest_means expansions place (drop place stages.now))
+        (point_of shell.old session.old (T.state tree.old) (seen_of (drawn_of (I.left input) (X.used engine.old)) (O.taken out) (E.taken err.old))
+        (faults_of (I.faults input) (O.faults out) (E.faults err.old) (T.faults tree.old)))
+        came last }
+{
+    let alloc = session.alloc();
+    match gather(alloc, &stages[place..], shell, &session.streams, tree) {
+        Ok(Some(segment)) => {
+            let taken = segment.members.len();
+            let behind = stages.len() - place - taken;
+            let played = run_part(
+                alloc, place, behind, segment, shell, session, tree, input, out, err, gate, engine,
+            );
+            Front { played, taken }
+        }
+        Ok(None) => {
+            let position = position_of(place, stages.len() - place - 1);
+            let played = eval_stage(
+                position,
+                &stages[place],
+                shell,
+                session,
+                tree,
+                input,
+                out,
+                err,
+                gate,
+                engine,
+            );
+            Front { played, taken: 1 }
+        }
+        Err(error) => Front {
+            played: Played {
+                how: how_of(error),
+                input,
+                out,
+            },
+            taken: 1,
+        },
     }
 }
 
@@ -382,49 +446,8 @@ fn eval_stage<T: Tree, I: Source + Send, O: Sink + Send, E: Sink, G: Gate, X: En
         (point_of shell.new session.new (T.state tree.new) (seen_of (drawn_of (I.left result.input) (X.used engine.new)) (O.taken result.out) (E.taken err.new))
         (faults_of (I.faults result.input) (O.faults result.out) (E.faults err.new) (T.faults tree.new))) }
 {
-    match position {
-        Position::First => eval_first_stage(
-            command, shell, session, tree, input, out, err, gate, engine,
-        ),
-        Position::Middle => eval_middle_stage(
-            command, shell, session, tree, input, out, err, gate, engine,
-        ),
-        Position::Last => eval_last_stage(
-            command, shell, session, tree, input, out, err, gate, engine,
-        ),
-    }
-}
-
-/// Evaluates the first command of a pipeline of several: its output is gathered for the next.
-#[cycle(evaluation)]
-fn eval_first_stage<T: Tree, I: Source + Send, O: Sink + Send, E: Sink, G: Gate, X: Engine>(
-    command: &Command,
-    shell: &mut Shell,
-    session: &mut Session,
-    tree: &mut T,
-    input: I,
-    out: O,
-    err: &mut E,
-    gate: &G,
-    engine: &mut X,
-) -> Played<I, O>
-    requires sound { IsSound session.old (T.state tree.old) }
-    ensures { Evaluates (λ expansions. first_stage (command_means expansions pages (command_tree command.now)))
-        (point_of shell.old session.old (T.state tree.old) (seen_of (drawn_of (I.left input) (X.used engine.old)) (O.taken out) (E.taken err.old))
-        (faults_of (I.faults input) (O.faults out) (E.faults err.old) (T.faults tree.old)))
-        result.how
-        (point_of shell.new session.new (T.state tree.new) (seen_of (drawn_of (I.left result.input) (X.used engine.new)) (O.taken result.out) (E.taken err.new))
-        (faults_of (I.faults result.input) (O.faults result.out) (E.faults err.new) (T.faults tree.new))) }
-{
     let alloc = session.alloc();
-    let Ok(mut inner) = shell.inside(alloc) else {
-        return Played {
-            how: How::Memory,
-            input,
-            out,
-        };
-    };
-    let Ok(to) = session.open_pipe(alloc) else {
+    let Ok((mut inner, aside)) = enter_stage(alloc, position, shell, session) else {
         return Played {
             how: How::Memory,
             input,
@@ -434,98 +457,7 @@ fn eval_first_stage<T: Tree, I: Source + Send, O: Sink + Send, E: Sink, G: Gate,
     let Played { how, input, out } = eval_command(
         command, &mut inner, session, tree, input, out, err, gate, engine,
     );
-    session.hand_on(alloc, to);
-    Played {
-        how: settled(how),
-        input,
-        out,
-    }
-}
-
-/// Evaluates a command between two of a pipeline: it reads what the one before has written, and its output is gathered for the next.
-#[cycle(evaluation)]
-fn eval_middle_stage<T: Tree, I: Source + Send, O: Sink + Send, E: Sink, G: Gate, X: Engine>(
-    command: &Command,
-    shell: &mut Shell,
-    session: &mut Session,
-    tree: &mut T,
-    input: I,
-    out: O,
-    err: &mut E,
-    gate: &G,
-    engine: &mut X,
-) -> Played<I, O>
-    requires sound { IsSound session.old (T.state tree.old) }
-    ensures { Evaluates (λ expansions. middle_stage (command_means expansions pages (command_tree command.now)))
-        (point_of shell.old session.old (T.state tree.old) (seen_of (drawn_of (I.left input) (X.used engine.old)) (O.taken out) (E.taken err.old))
-        (faults_of (I.faults input) (O.faults out) (E.faults err.old) (T.faults tree.old)))
-        result.how
-        (point_of shell.new session.new (T.state tree.new) (seen_of (drawn_of (I.left result.input) (X.used engine.new)) (O.taken result.out) (E.taken err.new))
-        (faults_of (I.faults result.input) (O.faults result.out) (E.faults err.new) (T.faults tree.new))) }
-{
-    let alloc = session.alloc();
-    let Ok(mut inner) = shell.inside(alloc) else {
-        return Played {
-            how: How::Memory,
-            input,
-            out,
-        };
-    };
-    let from = session.read_piped(alloc);
-    let Ok(to) = session.open_pipe(alloc) else {
-        return Played {
-            how: How::Memory,
-            input,
-            out,
-        };
-    };
-    let Played { how, input, out } = eval_command(
-        command, &mut inner, session, tree, input, out, err, gate, engine,
-    );
-    session.hand_on(alloc, to);
-    session.read_from(from);
-    Played {
-        how: settled(how),
-        input,
-        out,
-    }
-}
-
-/// Evaluates the last command of a pipeline of several: it reads what the one before has written.
-#[cycle(evaluation)]
-fn eval_last_stage<T: Tree, I: Source + Send, O: Sink + Send, E: Sink, G: Gate, X: Engine>(
-    command: &Command,
-    shell: &mut Shell,
-    session: &mut Session,
-    tree: &mut T,
-    input: I,
-    out: O,
-    err: &mut E,
-    gate: &G,
-    engine: &mut X,
-) -> Played<I, O>
-    requires sound { IsSound session.old (T.state tree.old) }
-    ensures { Evaluates (λ expansions. last_stage (command_means expansions pages (command_tree command.now)))
-        (point_of shell.old session.old (T.state tree.old) (seen_of (drawn_of (I.left input) (X.used engine.old)) (O.taken out) (E.taken err.old))
-        (faults_of (I.faults input) (O.faults out) (E.faults err.old) (T.faults tree.old)))
-        result.how
-        (point_of shell.new session.new (T.state tree.new) (seen_of (drawn_of (I.left result.input) (X.used engine.new)) (O.taken result.out) (E.taken err.new))
-        (faults_of (I.faults result.input) (O.faults result.out) (E.faults err.new) (T.faults tree.new))) }
-{
-    let alloc = session.alloc();
-    let Ok(mut inner) = shell.inside(alloc) else {
-        return Played {
-            how: How::Memory,
-            input,
-            out,
-        };
-    };
-    let from = session.read_piped(alloc);
-    let Played { how, input, out } = eval_command(
-        command, &mut inner, session, tree, input, out, err, gate, engine,
-    );
-    session.read_from(from);
-    shell.take_status(inner);
+    leave_stage(alloc, aside, inner, shell, session);
     Played {
         how: settled(how),
         input,

@@ -34,7 +34,13 @@ pub struct Played<I, O> {
     pub out: O,
 }
 
-/// The place of a stage among the several of a pipeline.
+/// How the evaluation of stages of a pipeline came out, and how many these were.
+pub(crate) struct Front<I, O> {
+    pub(crate) played: Played<I, O>,
+    pub(crate) taken: usize,
+}
+
+/// The place of stages among the several of a pipeline.
 #[derive(Clone, Copy, Debug, PartialEq, Eq)]
 pub enum Position {
     First,
@@ -42,17 +48,14 @@ pub enum Position {
     Last,
 }
 
-/// The place of the stage that is counted from 0, among so many.
-pub(crate) fn position_of(place: usize, count: usize) -> Position
-    requires { place < count }
-    ensures { result ≡ position_at place count }
+/// The place of stages that have so many before them and behind them.
+pub(crate) fn position_of(before: usize, behind: usize) -> Position
+    ensures { result ≡ position_at before behind }
 {
-    if place == 0 {
-        Position::First
-    } else if count - place == 1 {
-        Position::Last
-    } else {
-        Position::Middle
+    match (before, behind) {
+        (0, _) => Position::First,
+        (_, 0) => Position::Last,
+        _ => Position::Middle,
     }
 }
 

@@ -1,5 +1,5 @@
 -- Utilities of a pipeline that are gathered to run as one, for the functions that do so (own).
-use Rattle.std.specs.Prelude.{◌≡◌, ◌≤◌, ◌<◌, ℕ, List, [], ◌∷◌, ◌++◌, ◌&&◌, true, false, length, map, None, Some, IfSome, Ok}
+use Rattle.std.specs.Prelude.{◌≡◌, ◌≤◌, ◌<◌, ℕ, List, [], ◌∷◌, ◌++◌, ◌&&◌, true, false, length, map, take, None, Some, IfSome, Ok}
 use Rattle.std.specs.List.{flat_map, list_any}
 use Rattle.ps_world.specs.Files.{Files}
 use Rattle.ps_world.specs.Paths.{Components}
@@ -16,6 +16,8 @@ use Rattle.fl_commands.specs.Members.{AllCanRun, AllNamesStand, files_teed}
 use Rattle.fl_commands.specs.declared.members.Member.{Member}
 use Rattle.sh_arith.specs.Variables.{Variables}
 use Rattle.sh_tree.specs.Trees.{CommandTree, CommandTrees, WordTree, no_command, command}
+use Rattle.sh_tree.specs.Views.{stages_tree}
+use Rattle.sh_tree.specs.declared.commands.Command.{Command}
 use Rattle.sh_expand.specs.Outcomes.{AreExpansions, Expansions, told_fields}
 use Rattle.sh_eval.specs.Expanding.{given_by}
 use Rattle.sh_eval.specs.declared.gathering.Segment.{Segment}
@@ -93,11 +95,28 @@ pub record AddsStage (tree : CommandTree) (shell : Shell) (held : List Held) (st
   pub lines_are : new.lines.items ≡ old.lines.items ++ lines
   pub gathered : AreGathered (command tree no_command) shell held state (member ∷ []) lines
 
--- the stages are gathered: their members can run as one, and mean what the stages mean
-pub record Gathers (trees : CommandTrees) (shell : Shell) (streams : Streams) (tree : TreeState) (segment : Segment) : Type 0 where
-  pub plain : is_plain_place streams.errors_to ≡ true
+-- stages are gathered from the first on: their members can run as one, and mean what these stages mean
+pub record IsFront (stages : List Command) (shell : Shell) (held : List Held) (tree : TreeState) (segment : Segment) : Type 0 where
+  pub within : length segment.members.items ≤ length stages
   pub most : length segment.members.items ≤ MAX_STAGES
-  pub gathered : AreGathered trees shell streams.held tree segment.members.items segment.lines.items
+  pub gathered : AreGathered (stages_tree (take (length segment.members.items) stages)) shell held tree segment.members.items segment.lines.items
+
+-- a segment that can run: its members can as one, and its lines are theirs, which change no file and no pipe
+pub record IsRunnable (segment : Segment) (streams : Streams) (tree : TreeState) : Type 0 where
+  pub some : 1 ≤ length segment.members.items
+  pub most : length segment.members.items ≤ MAX_STAGES
+  pub ready : AllCanRun segment.members.items
+  pub teeless : files_teed segment.members.items ≡ []
+  pub there : IfSome tree.held (λ files. AllNamesStand files segment.members.items)
+  pub looked : AllLooked tree segment.members.items
+  pub told : AreTold segment.members.items segment.lines.items tree
+  pub plain : is_plain_place streams.errors_to ≡ true
+
+-- and they are several, whose lines change no file and no pipe
+pub record GathersFront (stages : List Command) (shell : Shell) (streams : Streams) (tree : TreeState) (segment : Segment) : Type 0 where
+  pub plain : is_plain_place streams.errors_to ≡ true
+  pub several : 2 ≤ length segment.members.items
+  pub front : IsFront stages shell streams.held tree segment
 
 -- WORDS that ask for a utility. They have these fields, where a tree tells its files
 abbrev pub GiveFields : List WordTree → Shell → TreeState → List (List ℕ) → Type 0

@@ -1,5 +1,5 @@
-use Rattle.std.proofs.Common.{rules, ◌≡◌, ◌+◌, ◌≤◌, not, ℕ, List, length, Option, Some, Err, arith, refl, sym, ap, subst, ◌∙◌}
-use Rattle.sh_eval.specs.Commands.{all_turns, failed, goes_round, in_loop, its_status, some_command, substitution, subshell, succeeded, first_stage, middle_stage, last_stage, handed_on, reading_piped, unchanged, with_kept, with_text}
+use Rattle.std.proofs.Common.{rules, ◌≡◌, ◌+◌, ◌-◌, ◌≤◌, not, ℕ, List, drop, length, Option, Some, Err, arith, refl, sym, ap, subst, ◌∙◌}
+use Rattle.sh_eval.specs.Commands.{all_turns, failed, goes_round, in_loop, its_status, some_command, substitution, subshell, staged, succeeded, with_kept, with_text}
 use Rattle.sh_eval.specs.declared.outcomes.How.TheVariants as how
 use Rattle.sh_eval.specs.declared.gathering.Segment.{Segment}
 use Rattle.sh_eval.specs.declared.session.Session.{Session}
@@ -11,18 +11,19 @@ use Rattle.ps_lines.specs.Texts.{texts_of}
 use Rattle.sh_arith.specs.Variables.{Variables}
 use Rattle.sh_eval.specs.Shells.{with_env}
 use Rattle.sh_eval.specs.States.{piping, reading, unpiped}
-use Rattle.sh_eval.specs.Inner.Gathering.{AreTold, Gathers, calls_of, emptied}
+use Rattle.sh_eval.specs.Inner.Gathering.{GathersFront}
+use Rattle.sh_eval.specs.Inner.Staging.{members_mean, part_means, rest_means}
 use Rattle.ps_world.specs.TreeState.{TreeState}
 use Rattle.sh_eval.specs.Meaning.{has_item, list_means, command_means, stages_means}
 use Rattle.sh_eval.specs.Segments.{runs_through}
 use Rattle.sh_eval.specs.Table.{pages}
 use Rattle.sh_tree.specs.Views.{list_tree, command_tree, stages_tree}
-use Rattle.sh_eval.proofs.Growing.{adds-some_command, adds-substitution, same-turns, list-adds, command-adds, adds-subshell, adds-first_stage, adds-middle_stage, adds-last_stage, stages-adds}
-use Rattle.sh_eval.proofs.ListSteps.{handed-back, read-back, items-followed, items-stopped, items-done, and_or-followed, and_or-stopped, joined-followed, joined-stopped, joined-done, next-runs, next-skipped, pipeline-followed, pipeline-stopped, within, wanted-at, stages-followed, stages-stopped, stages-done, staged-at}
+use Rattle.sh_eval.proofs.Growing.{adds-some_command, adds-substitution, same-turns, list-adds, command-adds, adds-subshell}
+use Rattle.sh_eval.proofs.ListSteps.{items-followed, items-stopped, items-done, and_or-followed, and_or-stopped, joined-followed, joined-stopped, joined-done, next-runs, next-skipped, pipeline-followed, pipeline-stopped, within, wanted-at, stages-followed, stages-stopped, stages-done, staged-wanted, staged-within, rest-adds}
 use Rattle.sh_eval.proofs.CommandSteps.{succeeds-so, fails-so, wanted-behind, subs-followed, subs-stopped, subs-done, substituted-empty, substituted-some, simple-followed, simple-stopped, if-stopped, if-taken, if-passed, if-else, if-none, if-body, compound-stopped, compound-opened, body-adds, while-body, until-body, while-turn, until-turn, turn-adds, turns-add, loop-adds, for-arguments, for-stopped, for-followed, for_behind, for-adds, for-fields, round-adds, rounds-add, round-of}
 use Rattle.sh_eval.proofs.LoopSteps.{over-here, left-here, again-here, done-here, in-loop, turns-over, turns-left, turns-again, turn-left, turn-held, turn-failed, body-noted}
 use Rattle.sh_eval.proofs.OpeningLemmas.{looked-in-vain}
-use Rattle.sh_eval.proofs.SegmentSteps.{stages-ran}
+use Rattle.sh_eval.proofs.SegmentSteps.{gathered-rest, part-followed, part-stopped, runnable}
 use Rattle.sh_eval.proofs.UtilitySteps.{asked-before}
 use Rattle.sh_eval.proofs.Steps.{failed-early, goes-gone, gone-so, no-fewer, wanted, sound-behind}
 use Rattle.sh_tree.specs.declared.commands.Command.TheShapes.{weighed-Command-If-0-at-2}
@@ -97,92 +98,66 @@ eval_subshell-returns-in_default g t c =
     wanted (λ expansions. subshell (list_means expansions pages (list_tree c.args.list.now))) _
     (λ expansions. adds-subshell (list_means expansions pages (list_tree c.args.list.now)) (list-adds expansions pages (list_tree c.args.list.now)))
 
-pub eval_first_stage-returns-in_default : goal.eval_first_stage-returns-in_default
-eval_first_stage-returns-in_default g t c =
-    wanted (λ expansions. first_stage (command_means expansions pages (command_tree c.args.command.now))) _
-    (λ expansions. adds-first_stage (command_means expansions pages (command_tree c.args.command.now)) (command-adds expansions pages (command_tree c.args.command.now)))
-
-pub eval_first_stage-returns-in_default-open_pipe : goal.eval_first_stage-returns-in_default-open_pipe
-eval_first_stage-returns-in_default-open_pipe g t c =
-    wanted-at (λ expansions. first_stage (command_means expansions pages (command_tree c.args.command.now))) _ _ _ _ _ _ (search rules)
-    (λ expansions. adds-first_stage (command_means expansions pages (command_tree c.args.command.now)) (command-adds expansions pages (command_tree c.args.command.now)))
-
-pub eval_first_stage-returns : goal.eval_first_stage-returns
-eval_first_stage-returns g t c =
-    within (λ expansions. command_means expansions pages (command_tree c.args.command.now)) piping handed_on unchanged _ _ _ _ _ _ _ _ _ _ _ _
-    c.in-Ok.ensures c.in-Ok-open_pipe.ensures.ok.1 refl (handed-back c.args.session.now c.eval_command-how.new.session _ _ c.in-Ok-open_pipe.ensures.ok.0 c.hand_on.ensures) c.settled.ensures same-turns (λ old new. same-turns new) (λ old new same. record { output = refl; errors = same.errors }) c.eval_command-how.ensures
-
-pub eval_middle_stage-returns-in_default : goal.eval_middle_stage-returns-in_default
-eval_middle_stage-returns-in_default g t c =
-    wanted (λ expansions. middle_stage (command_means expansions pages (command_tree c.args.command.now))) _
-    (λ expansions. adds-middle_stage (command_means expansions pages (command_tree c.args.command.now)) (command-adds expansions pages (command_tree c.args.command.now)))
-
-pub eval_middle_stage-returns-in_default-open_pipe : goal.eval_middle_stage-returns-in_default-open_pipe
-eval_middle_stage-returns-in_default-open_pipe g t c =
-    wanted-at (λ expansions. middle_stage (command_means expansions pages (command_tree c.args.command.now))) _ _ _ _ _ _ (search rules)
-    (λ expansions. adds-middle_stage (command_means expansions pages (command_tree c.args.command.now)) (command-adds expansions pages (command_tree c.args.command.now)))
-
-pub eval_middle_stage-returns : goal.eval_middle_stage-returns
-eval_middle_stage-returns g t c =
-    within (λ expansions. command_means expansions pages (command_tree c.args.command.now)) (λ session. piping (reading_piped session)) (λ old new. reading old.streams.from (handed_on old new)) unchanged
-    _ _ _ _ _ _ _ _ _ _ _ _
-    c.in-Ok.ensures (c.in-Ok-open_pipe.ensures.ok.1 ∙ ap piping c.read_piped-from.ensures.session) refl
-    (c.read_from.ensures ∙ read-back c.args.session.now c.eval_command-how.new.session _ _ c.read_piped-from.ensures.from (handed-back c.args.session.now c.eval_command-how.new.session _ _ (c.in-Ok-open_pipe.ensures.ok.0 ∙ ap (λ (it : Session). it.streams.to) c.read_piped-from.ensures.session) c.hand_on.ensures))
-    c.settled.ensures same-turns (λ old new. same-turns new) (λ old new same. record { output = refl; errors = same.errors }) c.eval_command-how.ensures
-
-pub eval_last_stage-returns-in_default : goal.eval_last_stage-returns-in_default
-eval_last_stage-returns-in_default g t c =
-    wanted (λ expansions. last_stage (command_means expansions pages (command_tree c.args.command.now))) _
-    (λ expansions. adds-last_stage (command_means expansions pages (command_tree c.args.command.now)) (command-adds expansions pages (command_tree c.args.command.now)))
-
-pub eval_last_stage-returns : goal.eval_last_stage-returns
-eval_last_stage-returns g t c =
-    within (λ expansions. command_means expansions pages (command_tree c.args.command.now)) reading_piped (λ old new. reading old.streams.from new) its_status _ _ _ _ _ _ _ _ _ _ _ _
-    c.in-Ok.ensures c.read_piped-from.ensures.session c.take_status.ensures (c.read_from.ensures ∙ ap (λ (it : From). reading it c.eval_command-how.new.session) c.read_piped-from.ensures.from) c.settled.ensures same-turns (λ old new. same-turns new) (λ old new same. record { output = same.output; errors = same.errors }) c.eval_command-how.ensures
-
-pub eval_stages-run_segment-requires-clause-told : goal.eval_stages-run_segment-requires-clause-told
-eval_stages-run_segment-requires-clause-told g t c κs lent =
-    let gathers : Gathers (stages_tree c.args.stages.now) c.args.shell.now c.args.session.now.streams (g.T.Tree.state c.args.tree.now) c.in-Ok-Some.segment = search rules in
-    subst (λ (it : TreeState). AreTold c.in-Ok-Some.segment.members.items c.in-Ok-Some.segment.lines.items it) (sym c.in-Ok-Some.ensures.state) gathers.gathered.told
-
-pub eval_stages-returns-in-Ok-Some : goal.eval_stages-returns-in-Ok-Some
-eval_stages-returns-in-Ok-Some g t c =
+pub eval_front-run_part-played-requires-clause-segment : goal.eval_front-run_part-played-requires-clause-segment
+eval_front-run_part-played-requires-clause-segment g t c κs lent =
     let found : c.in-Ok-Some.field-0 ≡ Some c.in-Ok-Some.segment = search rules in
-    let gathers : Gathers (stages_tree c.args.stages.now) c.args.shell.now c.args.session.now.streams (g.T.Tree.state c.args.tree.now) c.in-Ok-Some.segment =
-    subst (λ (it : Option Segment). IfSome it (Gathers (stages_tree c.args.stages.now) c.args.shell.now c.args.session.now.streams (g.T.Tree.state c.args.tree.now))) found c.in-Ok-Some.ensures.gathers in
-    let several : 2 ≤ length c.in-Ok-Some.segment.members.items = subst (λ (it : Option Segment). IfSome it (λ (segment : Segment). 2 ≤ length segment.members.items)) found c.in-Ok-Some.ensures.several in
-    stages-ran (stages_tree c.args.stages.now) c.in-Ok-Some.segment.members.items c.in-Ok-Some.segment.lines.items c.args.shell.now c.args.session.now (g.T.Tree.state c.args.tree.now) _ _ _ _
-    several gathers.plain gathers.gathered
-    (asked-before (λ expansions state. emptied (runs_through pages (calls_of c.in-Ok-Some.segment.members.items) state)) _ _ _ _ _ _ _ _ _ _ _ _
-    c.in-Ok-Some.ensures.state c.in-Ok-Some.ensures.cause.ok c.run_segment.ensures)
+    let gathers : GathersFront (drop c.args.place c.args.stages.now) c.args.shell.now c.args.session.now.streams (g.T.Tree.state c.args.tree.now) c.in-Ok-Some.segment =
+    gathered-rest c.args.stages.now c.args.place c.args.shell.now c.args.session.now.streams (g.T.Tree.state c.args.tree.now) c.in-Ok-Some.field-0 c.in-Ok-Some.segment found c.in-Ok-Some.ensures.gathers in
+    runnable (drop c.args.place c.args.stages.now) c.args.shell.now c.args.session.now.streams (g.T.Tree.state c.args.tree.now) _ c.in-Ok-Some.segment c.in-Ok-Some.ensures.state gathers
 
-pub eval_stages-returns-in-Err : goal.eval_stages-returns-in-Err
-eval_stages-returns-in-Err g t c =
-    rw c.how_of.ensures
-    (looked-in-vain c.in-Err.error (λ expansions. stages_means expansions pages (stages_tree c.args.stages.now)) (λ expansions. stages-adds expansions pages (stages_tree c.args.stages.now))
+pub eval_front-returns-in-Ok-Some-clause-stopped : goal.eval_front-returns-in-Ok-Some-clause-stopped
+eval_front-returns-in-Ok-Some-clause-stopped g t c =
+    let found : c.in-Ok-Some.field-0 ≡ Some c.in-Ok-Some.segment = search rules in
+    let gathers : GathersFront (drop c.args.place c.args.stages.now) c.args.shell.now c.args.session.now.streams (g.T.Tree.state c.args.tree.now) c.in-Ok-Some.segment =
+    gathered-rest c.args.stages.now c.args.place c.args.shell.now c.args.session.now.streams (g.T.Tree.state c.args.tree.now) c.in-Ok-Some.field-0 c.in-Ok-Some.segment found c.in-Ok-Some.ensures.gathers in
+    let counted : c.len-taken.result ≡ length c.in-Ok-Some.segment.members.items = search rules in
+    λ off. part-stopped c.args.stages.now c.args.place c.in-Ok-Some.segment c.args.shell.now c.args.session.now (g.T.Tree.state c.args.tree.now) _ _ gathers c.len-taken.result counted _ _ off
+    (asked-before (λ expansions. part_means c.args.place (length c.args.stages.now - c.args.place - c.len-taken.result) (members_mean c.in-Ok-Some.segment.members.items expansions)) _ _ _ _ _ _ _ _ _ _ _ _
+    c.in-Ok-Some.ensures.state c.in-Ok-Some.ensures.cause.ok c.run_part-played.ensures)
+
+pub eval_front-returns-in-Ok-Some-clause-followed : goal.eval_front-returns-in-Ok-Some-clause-followed
+eval_front-returns-in-Ok-Some-clause-followed g t c =
+    let found : c.in-Ok-Some.field-0 ≡ Some c.in-Ok-Some.segment = search rules in
+    let gathers : GathersFront (drop c.args.place c.args.stages.now) c.args.shell.now c.args.session.now.streams (g.T.Tree.state c.args.tree.now) c.in-Ok-Some.segment =
+    gathered-rest c.args.stages.now c.args.place c.args.shell.now c.args.session.now.streams (g.T.Tree.state c.args.tree.now) c.in-Ok-Some.field-0 c.in-Ok-Some.segment found c.in-Ok-Some.ensures.gathers in
+    let counted : c.len-taken.result ≡ length c.in-Ok-Some.segment.members.items = search rules in
+    λ is came last others. part-followed c.args.stages.now c.args.place c.in-Ok-Some.segment c.args.shell.now c.args.session.now (g.T.Tree.state c.args.tree.now) _ _ gathers c.len-taken.result counted _ _ _ _ is
+    (asked-before (λ expansions. part_means c.args.place (length c.args.stages.now - c.args.place - c.len-taken.result) (members_mean c.in-Ok-Some.segment.members.items expansions)) _ _ _ _ _ _ _ _ _ _ _ _
+    c.in-Ok-Some.ensures.state c.in-Ok-Some.ensures.cause.ok c.run_part-played.ensures) others
+
+pub eval_front-returns-in-Ok-None-clause-stopped : goal.eval_front-returns-in-Ok-None-clause-stopped
+eval_front-returns-in-Ok-None-clause-stopped g t c =
+    λ off. stages-stopped c.args.stages.now c.args.place c.index-stages-place.result c.position_of-position.result c.position_of-position.ensures c.index-stages-place.is c.requires.below c.requires.several _ _ _ off
+    (asked-before (λ expansions. staged c.position_of-position.result (command_means expansions pages (command_tree c.index-stages-place.result))) _ _ _ _ _ _ _ _ _ _ _ _
+    c.in-Ok-None.ensures.state c.in-Ok-None.ensures.cause.ok c.eval_stage-played.ensures)
+
+pub eval_front-returns-in-Ok-None-clause-followed : goal.eval_front-returns-in-Ok-None-clause-followed
+eval_front-returns-in-Ok-None-clause-followed g t c =
+    λ is came last others. stages-followed c.args.stages.now c.args.place c.index-stages-place.result c.position_of-position.result c.position_of-position.ensures c.index-stages-place.is c.requires.below c.requires.several _ _ _ _ _ is
+    (asked-before (λ expansions. staged c.position_of-position.result (command_means expansions pages (command_tree c.index-stages-place.result))) _ _ _ _ _ _ _ _ _ _ _ _
+    c.in-Ok-None.ensures.state c.in-Ok-None.ensures.cause.ok c.eval_stage-played.ensures) others
+
+pub eval_front-returns-in-Err-clause-stopped : goal.eval_front-returns-in-Err-clause-stopped
+eval_front-returns-in-Err-clause-stopped g t c =
+    λ off. rw c.how_of.ensures
+    (looked-in-vain c.in-Err.error (λ expansions. rest_means expansions c.args.place (drop c.args.place c.args.stages.now)) (λ expansions. rest-adds expansions c.args.place (drop c.args.place c.args.stages.now))
     _ _ _ _ _ _ _ _ _ _ c.in-Err.ensures.state c.in-Err.ensures.cause.later (λ failed. c.in-Err.ensures.cause.failed (ap Err failed)))
 
-pub eval_several-loop-stage-init : goal.eval_several-loop-stage-init
-eval_several-loop-stage-init g t c = record { counted = refl; rest = λ came new all. all; sound = c.requires.sound }
-
 pub eval_several-returns-then-not-goes_on : goal.eval_several-returns-then-not-goes_on
-eval_several-returns-then-not-goes_on g t c =
-    c.loop-stage.invariant.rest _ _ (stages-stopped c.args.stages.now c.loop-stage.stage-index c.stage-item.result _ _ _ c.stage-item.is c.loop-stage-test.true c.requires.several
-    (sym c.goes_on.ensures ∙ c.if-not-goes_on.true)
-    (staged-at c.position_of-position.result c.loop-stage.place c.loop-stage.stage-index _ c.stage-item.result _ _ _ c.position_of-position.ensures c.loop-stage.invariant.counted c.eval_stage-how.ensures))
-
-pub eval_several-loop-stage-preserved : goal.eval_several-loop-stage-preserved
-eval_several-loop-stage-preserved g t c =
-    record {
-      counted = ap (λ place. place + 1) c.loop-stage.invariant.counted;
-      rest = λ came new rest. c.loop-stage.invariant.rest came new (stages-followed c.args.stages.now c.loop-stage.stage-index c.stage-item.result _ _ _ _ _ c.stage-item.is c.loop-stage-test.true c.requires.several
-          (sym c.goes_on.ensures ∙ c.if-not-goes_on.false)
-          (staged-at c.position_of-position.result c.loop-stage.place c.loop-stage.stage-index _ c.stage-item.result _ _ _ c.position_of-position.ensures c.loop-stage.invariant.counted c.eval_stage-how.ensures) rest);
-      sound = sound-behind _ _ (c.eval_stage-how.ensures.keeps (goes-gone _ (sym c.goes_on.ensures ∙ c.if-not-goes_on.false))) c.loop-stage.invariant.sound;
-    }
+eval_several-returns-then-not-goes_on g t c = c.loop-place.invariant.rest _ _ (c.eval_front-played.ensures.stopped (sym c.goes_on.ensures ∙ c.if-not-goes_on.true))
 
 pub eval_several-returns : goal.eval_several-returns
-eval_several-returns g t c = c.loop-stage.invariant.rest _ _ (stages-done c.args.stages.now c.loop-stage.stage-index _ c.loop-stage-test.false)
+eval_several-returns g t c = c.loop-place.invariant.rest _ _ (stages-done c.args.stages.now c.loop-place.place _ c.loop-place-test.false)
+
+pub eval_stage-returns-in_default : goal.eval_stage-returns-in_default
+eval_stage-returns-in_default g t c =
+    staged-wanted (λ expansions. command_means expansions pages (command_tree c.args.command.now)) c.args.position _ _ _ _ _ _ c.in_default.ensures.turns
+    (λ expansions. command-adds expansions pages (command_tree c.args.command.now))
+
+pub eval_stage-returns : goal.eval_stage-returns
+eval_stage-returns g t c =
+    staged-within (λ expansions. command_means expansions pages (command_tree c.args.command.now)) _ _ _ _ _ _ _ _ _ _ _ _ c.args.position c.in-Ok.aside c.in-Ok.ensures.shell c.in-Ok.ensures.session c.in-Ok.ensures.aside
+    c.leave_stage.ensures.shell c.leave_stage.ensures.session c.settled.ensures c.eval_command-how.ensures
 
 pub eval_subs-loop-list-init : goal.eval_subs-loop-list-init
 eval_subs-loop-list-init g t c = record { rest = λ came new all. all; sound = c.requires.sound }

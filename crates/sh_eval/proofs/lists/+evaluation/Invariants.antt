@@ -1,4 +1,4 @@
-use Rattle.std.proofs.Common.{drop, ◌≡◌, ◌-◌, ◌+◌, ◌*◌}
+use Rattle.std.proofs.Common.{drop, length, ◌≡◌, ◌≤◌, ◌-◌, ◌+◌, ◌*◌}
 use Rattle.sh_tree.specs.Views.{command_tree, items_tree, joined_tree, stages_tree, subs_tree}
 use Rattle.sh_eval.specs.Commands.{all_turns, most_turns}
 use Rattle.sh_eval.specs.Inner.Bodies.{body_means, rounds_mean, turn_means}
@@ -7,7 +7,7 @@ use Rattle.sh_eval.specs.declared.outcomes.How.{How}
 use Rattle.sh_eval.specs.Contract.{Evaluates, IsSound, Point, point_of, seen_of, faults_of, drawn_of}
 use Rattle.sh_eval.specs.Meaning.{list_means, joined_means, stages_means, subs_mean}
 use Rattle.sh_eval.specs.Table.{pages}
-use Rattle.sh_eval.proofs.ListSteps.{rest_means}
+use Rattle.sh_eval.specs.Inner.Staging.{rest_means}
 use Rattle.sh_eval.proofs.CommandSteps.{if_rest}
 use Rattle.sh_eval.proofs.lists.+evaluation.Given as goal
 
@@ -34,16 +34,19 @@ invariant-eval_joined-loop-join g l = record {
 }
 
 -- what comes of the stages that are left comes of all
-abbrev pub invariant-eval_several-loop-stage : goal.invariant-eval_several-loop-stage
-invariant-eval_several-loop-stage g l = record {
-  counted : l.place ≡ l.stage-index;
+abbrev pub invariant-eval_several-loop-place : goal.invariant-eval_several-loop-place
+invariant-eval_several-loop-place g l = record {
+  within : l.place ≤ length l.fn.stages;
   rest : (came : How) (new : Point)
-      → Evaluates (λ expansions. rest_means expansions l.stage-index (drop l.stage-index l.fn.stages))
+      → Evaluates (λ expansions. rest_means expansions l.place (drop l.place l.fn.stages))
       (point_of l.shell l.session (g.T.Tree.state l.tree) (seen_of (drawn_of (g.I.Source.left l.input) (g.X.Engine.used l.engine)) (g.O.Sink.taken l.out) (g.E.Sink.taken l.err)) (faults_of (g.I.Source.faults l.input) (g.O.Sink.faults l.out) (g.E.Sink.faults l.err) (g.T.Tree.faults l.tree))) came new
       → Evaluates (λ expansions. stages_means expansions pages (stages_tree l.fn.stages))
       (point_of l.fn.shell l.fn.session (g.T.Tree.state l.fn.tree) (seen_of (drawn_of (g.I.Source.left l.fn.input) (g.X.Engine.used l.fn.engine)) (g.O.Sink.taken l.fn.out) (g.E.Sink.taken l.fn.err)) (faults_of (g.I.Source.faults l.fn.input) (g.O.Sink.faults l.fn.out) (g.E.Sink.faults l.fn.err) (g.T.Tree.faults l.fn.tree))) came new;
   sound : IsSound l.session (g.T.Tree.state l.tree);
 }
+
+abbrev pub decreases-eval_several-loop-place : goal.decreases-eval_several-loop-place
+decreases-eval_several-loop-place g l = length l.fn.stages - l.place
 
 -- what comes of the substitutions that are left comes of all
 abbrev pub invariant-eval_subs-loop-list : goal.invariant-eval_subs-loop-list
@@ -171,17 +174,11 @@ decreases-eval_body g l = 10 * goal.size-eval_body g l + 4
 abbrev pub decreases-eval_command : goal.decreases-eval_command
 decreases-eval_command g l = 10 * goal.size-eval_command g l + 5
 
-abbrev pub decreases-eval_first_stage : goal.decreases-eval_first_stage
-decreases-eval_first_stage g l = 10 * goal.size-eval_first_stage g l + 6
-
-abbrev pub decreases-eval_middle_stage : goal.decreases-eval_middle_stage
-decreases-eval_middle_stage g l = 10 * goal.size-eval_middle_stage g l + 6
-
-abbrev pub decreases-eval_last_stage : goal.decreases-eval_last_stage
-decreases-eval_last_stage g l = 10 * goal.size-eval_last_stage g l + 6
-
 abbrev pub decreases-eval_stage : goal.decreases-eval_stage
-decreases-eval_stage g l = 10 * goal.size-eval_stage g l + 7
+decreases-eval_stage g l = 10 * goal.size-eval_stage g l + 6
+
+abbrev pub decreases-eval_front : goal.decreases-eval_front
+decreases-eval_front g l = 10 * goal.size-eval_front g l + 7
 
 abbrev pub decreases-eval_several : goal.decreases-eval_several
 decreases-eval_several g l = 10 * goal.size-eval_several g l + 8

@@ -50,7 +50,7 @@ where_told First Next (Some files) None step is = tt
 where_told First Next (Some files) (Some text) step is = step files text is
 
 -- it holds where they are told
-told_anyway : (Holds : Files → List ℕ → Type 0) (held : Option Files) (left : Option (List ℕ))
+pub told_anyway : (Holds : Files → List ℕ → Type 0) (held : Option Files) (left : Option (List ℕ))
     → ((files : Files) (text : List ℕ) → held ≡ Some files → left ≡ Some text → Holds files text)
     → IfSome held (λ files. IfSome left (λ text. Holds files text))
 told_anyway Holds None left holds = tt
@@ -563,6 +563,10 @@ module _ (Same : Type 0) (old tree new : TreeState) (lent : OnlyLent old tree) (
   no-script (why.Refused cause) run without = without
   no-script why.Usage run without = run
   no-script (why.NoScript path) run without = run
+  no-script why.NotJson run without = run
+  no-script why.NotGraph run without = run
+  no-script why.BadVersion run without = run
+  no-script (why.NoFile path) run without = run
   no-script why.ReadFault run without = run
   no-script why.WriteFault run without = run
   no-script why.TreeFault run without = run
@@ -574,6 +578,7 @@ module _ (Same : Type 0) (old tree new : TreeState) (lent : OnlyLent old tree) (
   without-script (read.Answered answer) (Ok outcome) ends told_so =
       λ without. (told_so.0, stays told_so.1, subst (λ (it : Why). OnlyTold it outcome.status was now) (sym ends) told_so.2)
   without-script (read.Script script setup) (Ok outcome) ends told_so = λ without. absurd (no-script outcome.why ends without)
+  without-script (read.Graph graph) (Ok outcome) ends told_so = λ without. absurd (no-script outcome.why ends without)
   without-script (read.Text sample) (Ok outcome) ends told_so = λ without. absurd (no-script outcome.why ends without)
   without-script (read.Trial script setup sample) (Ok outcome) ends told_so = λ without. absurd (no-script outcome.why ends without)
   without-script start (Err stopped) ends told_so = tt
@@ -586,6 +591,7 @@ module _ (Same : Type 0) (old tree new : TreeState) (lent : OnlyLent old tree) (
       → IfAnswered start (λ answer. Same × (new ≡ tree) × TellsOnly answer result was now) → Same × OnlyLent old new × DrawsNothing was now
   answered-alone (read.Answered answer) result is told_so = (told_so.0, stays told_so.1, draws-nothing answer result told_so.2)
   answered-alone (read.Script script setup) result is told_so = absurd is
+  answered-alone (read.Graph graph) result is told_so = absurd is
   answered-alone (read.Text sample) result is told_so = absurd is
   answered-alone (read.Trial script setup sample) result is told_so = absurd is
 
@@ -611,6 +617,10 @@ of_run why.Finished run = tt
 of_run (why.Refused cause) run = tt
 of_run why.Usage run = run
 of_run (why.NoScript path) run = tt
+of_run why.NotJson run = tt
+of_run why.NotGraph run = tt
+of_run why.BadVersion run = tt
+of_run (why.NoFile path) run = tt
 of_run why.ReadFault run = run
 of_run why.WriteFault run = run
 of_run why.TreeFault run = run
@@ -623,6 +633,7 @@ pub answer-of : (start : ReadStart) (command : Option Command) (result : Result 
 answer-of start None (Ok outcome) ends usage = subst (λ (it : ReadStart). EndsWith it outcome.why) usage ends
 answer-of (read.Answered answer) (Some command) (Ok outcome) ends usage = subst IsOfScript (sym ends) usage
 answer-of (read.Script script setup) (Some command) (Ok outcome) ends usage = of_run outcome.why ends
+answer-of (read.Graph graph) (Some command) (Ok outcome) ends usage = of_run outcome.why ends
 answer-of (read.Text sample) (Some command) (Ok outcome) ends usage = of_run outcome.why ends
 answer-of (read.Trial script setup sample) (Some command) (Ok outcome) ends usage = of_run outcome.why ends
 answer-of start command (Err stopped) ends usage = tt

@@ -2,6 +2,8 @@
 use Rattle.std.specs.Prelude.{◌≡◌, ℕ, List, [], ◌∷◌, ◌++◌, codes, decimal}
 use Rattle.sh_lex.specs.declared.refusals.Static.{Static}
 use Rattle.sh_lex.specs.declared.refusals.Static.TheVariants as static
+use Rattle.fl_printed.specs.declared.checks.Unfit.{Unfit}
+use Rattle.fl_printed.specs.declared.checks.Unfit.TheVariants as unfit
 use Rattle.sh_eval.specs.Lines.{diagnostic, no_such_file}
 use Rattle.sh_eval.specs.declared.flows.Flow.{Flow}
 use Rattle.sh_eval.specs.declared.flows.Flow.TheVariants as flow
@@ -39,12 +41,16 @@ refusal_text refusal.TurnsOver = codes "TurnsOver"
 refusal_text refusal.ArgsTooMany = codes "ArgsTooMany"
 refusal_text (refusal.UnsupportedPattern pattern) = codes "UnsupportedPattern " ++ pattern
 
--- the line that tells an answer; none where the script ran to its end, and none begins after a fault or want of memory
+-- the line that tells an answer; none where the script or the graph ran to its end, and none begins after a fault or want of memory
 abbrev pub line_of : Why → List ℕ
 line_of why.Finished = []
 line_of (why.Refused cause) = codes "pash: refused: " ++ refusal_text cause ++ codes "\n"
 line_of why.Usage = codes "pash: usage\n"
 line_of (why.NoScript path) = diagnostic (codes "pash") path no_such_file
+line_of why.NotJson = codes "pash: NotJson\n"
+line_of why.NotGraph = codes "pash: NotGraph\n"
+line_of why.BadVersion = codes "pash: BadVersion\n"
+line_of (why.NoFile path) = diagnostic (codes "pash") path no_such_file
 line_of why.ReadFault = []
 line_of why.WriteFault = []
 line_of why.TreeFault = []
@@ -60,6 +66,13 @@ refusal_of static.BadSyntax = refusal.BadSyntax
 refusal_of (static.TooDeep offset) = refusal.TooDeep offset
 refusal_of (static.SubstitutionMix offset) = refusal.SubstitutionMix offset
 refusal_of (static.ParameterForm offset) = refusal.ParameterForm offset
+
+-- the answer where a text isn't that of a graph that can run
+abbrev pub answer_of : Unfit → Why
+answer_of unfit.NotJson = why.NotJson
+answer_of unfit.BadVersion = why.BadVersion
+answer_of unfit.NotGraph = why.NotGraph
+answer_of (unfit.NoFile path) = why.NoFile path
 
 -- the answer where nothing runs, with its status
 abbrev pub refusing : Why → Outcome
@@ -83,39 +96,55 @@ IsAnswer why.Finished = Unit {0}
 IsAnswer (why.Refused cause) = Unit {0}
 IsAnswer why.Usage = Unit {0}
 IsAnswer (why.NoScript path) = Unit {0}
+IsAnswer why.NotJson = Unit {0}
+IsAnswer why.NotGraph = Unit {0}
+IsAnswer why.BadVersion = Unit {0}
+IsAnswer (why.NoFile path) = Unit {0}
 IsAnswer why.ReadFault = ⊥
 IsAnswer why.WriteFault = ⊥
 IsAnswer why.TreeFault = ⊥
 IsAnswer why.Memory = ⊥
 
--- the answers of a script that has run
+-- the answers of a script that has run, and of a graph
 abbrev pub IsOfRun : Why → Type 0
 IsOfRun why.Finished = Unit {0}
 IsOfRun (why.Refused cause) = Unit {0}
 IsOfRun why.Usage = ⊥
 IsOfRun (why.NoScript path) = ⊥
+IsOfRun why.NotJson = ⊥
+IsOfRun why.NotGraph = ⊥
+IsOfRun why.BadVersion = ⊥
+IsOfRun (why.NoFile path) = ⊥
 IsOfRun why.ReadFault = ⊥
 IsOfRun why.WriteFault = ⊥
 IsOfRun why.TreeFault = ⊥
 IsOfRun why.Memory = ⊥
 
--- the answers for a script: it ran, it was refused before it ran or in the middle, or it isn't there
+-- the answers for a script or a graph: it ran, it was refused before it ran or in the middle, or it isn't there
 abbrev pub IsOfScript : Why → Type 0
 IsOfScript why.Finished = Unit {0}
 IsOfScript (why.Refused cause) = Unit {0}
 IsOfScript why.Usage = ⊥
 IsOfScript (why.NoScript path) = Unit {0}
+IsOfScript why.NotJson = Unit {0}
+IsOfScript why.NotGraph = Unit {0}
+IsOfScript why.BadVersion = Unit {0}
+IsOfScript (why.NoFile path) = Unit {0}
 IsOfScript why.ReadFault = ⊥
 IsOfScript why.WriteFault = ⊥
 IsOfScript why.TreeFault = ⊥
 IsOfScript why.Memory = ⊥
 
--- the answers where there is no script
+-- the answers where there is no script to run, and no graph
 abbrev pub IsWithoutScript : Why → Type 0
 IsWithoutScript why.Finished = ⊥
 IsWithoutScript (why.Refused cause) = ⊥
 IsWithoutScript why.Usage = Unit {0}
 IsWithoutScript (why.NoScript path) = Unit {0}
+IsWithoutScript why.NotJson = Unit {0}
+IsWithoutScript why.NotGraph = Unit {0}
+IsWithoutScript why.BadVersion = Unit {0}
+IsWithoutScript (why.NoFile path) = Unit {0}
 IsWithoutScript why.ReadFault = ⊥
 IsWithoutScript why.WriteFault = ⊥
 IsWithoutScript why.TreeFault = ⊥
@@ -140,6 +169,10 @@ HasFaultStatus why.Finished status = Unit {0}
 HasFaultStatus (why.Refused cause) status = Unit {0}
 HasFaultStatus why.Usage status = Unit {0}
 HasFaultStatus (why.NoScript path) status = Unit {0}
+HasFaultStatus why.NotJson status = Unit {0}
+HasFaultStatus why.NotGraph status = Unit {0}
+HasFaultStatus why.BadVersion status = Unit {0}
+HasFaultStatus (why.NoFile path) status = Unit {0}
 HasFaultStatus why.ReadFault status = status ≡ 120
 HasFaultStatus why.WriteFault status = status ≡ 121
 HasFaultStatus why.TreeFault status = status ≡ 122

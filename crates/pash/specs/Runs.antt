@@ -9,13 +9,15 @@ use Rattle.ps_world.specs.declared.WorldErr.{WorldErr}
 use Rattle.ps_world.specs.declared.WorldErr.TheVariants as world
 use Rattle.sh_parse.specs.Outcomes.{AreOutcomes, Readings}
 use Rattle.sh_expand.specs.Outcomes.{AreExpansions, Expansions}
+use Rattle.fl_commands.specs.declared.runs.Ended.{Ended}
+use Rattle.fl_commands.specs.declared.runs.Ended.TheVariants as ended
 use Rattle.fl_engines.specs.Logs.{with_words}
 use Rattle.fl_commands.specs.Writers.{ChangesOnly}
 use Rattle.sh_eval.specs.Contract.{Faults, Seen}
 use Rattle.sh_eval.specs.Scripts.{Stopped}
 use Rattle.sh_eval.specs.declared.outcomes.How.{How}
 use Rattle.sh_eval.specs.declared.outcomes.How.TheVariants as how
-use Rattle.pash.specs.Answers.{line_of, outcome_by}
+use Rattle.pash.specs.Answers.{finished, line_of, outcome_by}
 use Rattle.pash.specs.Meaning.{Meaning, Outside, outside_of}
 use Rattle.pash.specs.declared.answers.TheConstants.{REFUSED}
 use Rattle.pash.specs.declared.answers.Outcome.{Outcome}
@@ -39,6 +41,14 @@ came_of how.ReadFault status = Err stop.Read
 came_of how.WriteFault status = Err stop.Write
 came_of how.TreeFault status = Err stop.Tree
 came_of how.Memory status = Err stop.Memory
+
+-- that of a graph that has run, or why it stopped
+abbrev pub graph_came : Ended → Result Outcome RunFault
+graph_came (ended.Done status) = Ok (finished status)
+graph_came ended.Input = Err stop.Read
+graph_came ended.Output = Err stop.Write
+graph_came ended.Tree = Err stop.Tree
+graph_came ended.Memory = Err stop.Memory
 
 -- a call stops only where a count rose, or for want of memory; where it doesn't stop, none rose
 pub record Stops {T : Type 0} (old new : Faults) (result : Result T RunFault) : Type 0 where

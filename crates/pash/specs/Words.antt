@@ -1,4 +1,4 @@
--- The words of the command line (own): `run W SCRIPT ARG*`, `gen SEED LINES` and `trial SEED LINES W`.
+-- The words of the command line (own): `run W SCRIPT ARG*`, `exec GRAPH`, `gen SEED LINES` and `trial SEED LINES W`.
 use Rattle.std.specs.Prelude.{ℕ, ◌-◌, ◌^◌, String, List, [], ◌∷◌, Bool, true, false, ◌&&◌, Option, Some, None, if◌then◌else◌, nat_eq, nat_le, codes, map}
 use Rattle.std.specs.Global.{Global}
 use Rattle.std.specs.Option.{option_map, option_and_then}
@@ -20,6 +20,8 @@ pub record RunCommand : Type 0 where
 pub data Command : Type 0 where
   -- runs a script
   run : RunCommand → Command
+  -- runs the graph whose text stands in the file at this path
+  exec : List ℕ → Command
   -- writes the text that a seed gives
   gen : Sample → Command
   -- runs the trial's script, as a script that has such a name, over this text
@@ -72,6 +74,7 @@ as_run command = record { width = command.width; script = command.script.now; ar
 
 abbrev pub as_command : ReadCommand → Command
 as_command (read.Run command) = run (as_run command)
+as_command (read.Exec graph) = exec graph.now
 as_command (read.Gen sample) = gen sample
 as_command (read.Trial sample command) = trial sample (as_run command)
 
@@ -80,6 +83,11 @@ abbrev pub run_by : List (List ℕ) → Option Command
 run_by [] = None
 run_by (width ∷ []) = None
 run_by (width ∷ script ∷ arguments) = option_map (λ number. run (record { width = number; script = script; arguments = arguments })) (width_of width)
+
+abbrev pub exec_by : List (List ℕ) → Option Command
+exec_by [] = None
+exec_by (graph ∷ []) = Some (exec graph)
+exec_by (graph ∷ other ∷ rest) = None
 
 abbrev pub gen_by : List (List ℕ) → Option Command
 gen_by [] = None
@@ -102,6 +110,7 @@ unfoldable pub command_of : List (List ℕ) → Option Command
 command_of [] = None
 command_of (name ∷ words) =
     if bytes_eq name (codes "run") then run_by words
+    else if bytes_eq name (codes "exec") then exec_by words
     else if bytes_eq name (codes "gen") then gen_by words
     else if bytes_eq name (codes "trial") then trial_by words else None
 
@@ -109,6 +118,7 @@ command_of (name ∷ words) =
 abbrev pub reads_input : Option Command → Bool
 reads_input None = false
 reads_input (Some (run command)) = true
+reads_input (Some (exec graph)) = true
 reads_input (Some (gen sample)) = false
 reads_input (Some (trial sample command)) = false
 
@@ -116,5 +126,6 @@ reads_input (Some (trial sample command)) = false
 abbrev pub uses_files : Option Command → Bool
 uses_files None = false
 uses_files (Some (run command)) = true
+uses_files (Some (exec graph)) = true
 uses_files (Some (gen sample)) = false
 uses_files (Some (trial sample command)) = true

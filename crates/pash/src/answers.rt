@@ -1,8 +1,9 @@
 //! The answers of the top call, and why a run stops.
 ghost use Rattle.std.specs.Prelude.{◌≡◌};
-ghost use Rattle.pash.specs.Answers.{outcome_by, refusal_of as refusal_of_def, refusing};
+ghost use Rattle.pash.specs.Answers.{answer_of as answer_of_def, outcome_by, refusal_of as refusal_of_def, refusing};
 ghost use Rattle.pash.specs.Runs.{stop_of_tree, stop_of_sink};
 
+use fl_printed::Unfit;
 use ps_lines::Text;
 use ps_world::WorldErr;
 use sh_eval::{Flow, Refusal};
@@ -27,14 +28,22 @@ pub fn refusal_of(cause: Static) -> Refusal
 /// How a command ended.
 #[derive(Debug, PartialEq, Eq, Drop)]
 pub enum Why {
-    /// The script ran to its end; the status is its own.
+    /// The script or the graph ran to its end; the status is its own.
     Finished,
     /// The script is not run, or not run further. Status 2.
     Refused(Refusal),
     /// The words are no command. Status 2.
     Usage,
-    /// The script's path, as it was given, names no file. Status 2.
+    /// The path of the script or of the graph's text, as it was given, names no file. Status 2.
     NoScript(Text),
+    /// The text of a graph is no JSON. Status 2.
+    NotJson,
+    /// It is JSON, but not that of a valid graph whose patterns can be read. Status 2.
+    NotGraph,
+    /// It is a JSON object of another version. Status 2.
+    BadVersion,
+    /// At this path, from the root, no file is that the graph reads, or none can be made that it writes. Status 2.
+    NoFile(Text),
     /// The input failed in this call. Status 120.
     ReadFault,
     /// The output or the errors failed in this call. Status 121.
@@ -71,6 +80,18 @@ pub fn answered(why: Why) -> Outcome
     Outcome {
         status: REFUSED,
         why,
+    }
+}
+
+/// The answer where a text isn't that of a graph that can run.
+pub fn answer_of(cause: Unfit) -> Why
+    ensures { result ≡ answer_of_def cause }
+{
+    match cause {
+        Unfit::NotJson => Why::NotJson,
+        Unfit::BadVersion => Why::BadVersion,
+        Unfit::NotGraph => Why::NotGraph,
+        Unfit::NoFile(path) => Why::NoFile(path),
     }
 }
 

@@ -13,6 +13,8 @@ pub const MOST_LINES: u32 = 1_000_000;
 pub enum Command<'a> {
     /// Runs a script: `run W SCRIPT ARG*`.
     Run(RunCommand<'a>),
+    /// Runs the graph whose text stands in the file at this path, as it was given: `exec GRAPH`.
+    Exec(&'a [u8]),
     /// Writes the text that a seed gives: `gen SEED LINES`.
     Gen(Sample),
     /// Runs the trial's script over this text, as a script of this name, at this width: `trial SEED LINES W`.

@@ -14,7 +14,7 @@ const NAME: &[u8] = b"pash";
 /// Why a path that names nothing can't be read.
 const NO_SUCH_FILE: &[u8] = b"No such file or directory";
 
-/// The line that tells an answer: empty where the script ran to its end, and after a fault or want of memory.
+/// The line that tells an answer: empty where the script or the graph ran to its end, and after a fault or want of memory.
 pub fn answer_line(alloc: Global, why: &Why) -> Result<Vec<u8>, Memory>
     ensures { IfOk result (λ line. line.items ≡ line_of why.now) }
 {
@@ -22,6 +22,10 @@ pub fn answer_line(alloc: Global, why: &Why) -> Result<Vec<u8>, Memory>
         Why::Refused(cause) => refusal_line(alloc, cause),
         Why::Usage => Ok(Vec::from_slice(alloc, b"pash: usage\n")?),
         Why::NoScript(path) => diagnostic(alloc, NAME, path.as_slice(), NO_SUCH_FILE),
+        Why::NotJson => Ok(Vec::from_slice(alloc, b"pash: NotJson\n")?),
+        Why::NotGraph => Ok(Vec::from_slice(alloc, b"pash: NotGraph\n")?),
+        Why::BadVersion => Ok(Vec::from_slice(alloc, b"pash: BadVersion\n")?),
+        Why::NoFile(path) => diagnostic(alloc, NAME, path.as_slice(), NO_SUCH_FILE),
         Why::Finished | Why::ReadFault | Why::WriteFault | Why::TreeFault | Why::Memory => {
             Ok(Vec::new(alloc))
         }

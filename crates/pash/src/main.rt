@@ -1,13 +1,14 @@
-//! `pash` runs a shell script, whose utilities are dataflow graphs, and leaves what the script means, byte for byte.
+//! `pash` runs a shell script, whose utilities are dataflow graphs, and leaves what the script means, byte for byte; or a printed graph.
 //!
 //! The nodes of a graph run on threads, where two of them have work of their own (`fl_engines`). `top::pash` is the call that this program
 //! makes, over the machine's files and streams, and its contract says what every run leaves: `specs/Starts.antt` is what the words of the
-//! command line come to, `specs/Meaning.antt` the meaning of a command, by that of a script (`sh_eval/specs/Meaning.antt`), and
+//! command line come to, `specs/Meaning.antt` the meaning of a command, by that of a script (`sh_eval/specs/Meaning.antt`) or of a graph, and
 //! `specs/Runs.antt` how output, errors, files and answer are tied to it.
 #![tactic(auto)]
 
 mod answers;
 mod command;
+mod graphs;
 mod lines;
 mod reading;
 mod run;

@@ -9,11 +9,12 @@ ghost use Rattle.sh_tree.specs.Views.{script_tree};
 ghost use Rattle.pash.specs.Answers.{IsOfRun, IsOfScript, IsWithoutScript, finished, line_of, refusing};
 ghost use Rattle.pash.specs.Meaning.{meaning, run_of, told};
 ghost use Rattle.pash.specs.Runs.{DrawsNothing, OnlyTold, RunsAs, Stops, TellsOnly, came_of as came_of_def, point_of};
-ghost use Rattle.pash.specs.Starts.{EndsWith, IfAnswered, RunsNothing, as_start, draws, text_of, tries, uses_tree};
+ghost use Rattle.pash.specs.Starts.{EndsWith, IfAnswered, IsReady, RunsNothing, as_start, draws, text_of, tries, uses_tree};
 ghost use Rattle.pash.specs.Words.{command_of, reads_input, texts, uses_files};
 
 use crate::answers::{Outcome, RunFault, Why, answered, ended, of_sink};
 use crate::command::Sample;
+use crate::graphs::run_graph;
 use crate::lines::answer_line;
 use crate::samples::sample_text;
 use crate::starts::{Setup, Start, begin};
@@ -85,6 +86,7 @@ fn run_and_tell<T: Tree, I: Source + Send, O: Sink + Send, E: Sink, G: Gate, X: 
     engine: &mut X,
 ) -> Ran<I, O>
     requires whole { IfSome (T.state tree.old).held NoWriterOut }
+    requires ready { IsReady (T.state tree.old) start }
     ensures runs { RunsAs (λ reads expansions outside. told (run_of (as_start start) expansions outside))
         (point_of (T.state tree.old) (seen_of (drawn_of (I.left input) (X.used engine.old)) (O.taken out) (E.taken err.old))
         (faults_of (I.faults input) (O.faults out) (E.faults err.old) (T.faults tree.old)))
@@ -122,7 +124,7 @@ fn run_and_tell<T: Tree, I: Source + Send, O: Sink + Send, E: Sink, G: Gate, X: 
     }
 }
 
-/// Runs the script, where there is one to run.
+/// Runs the script or the graph, where there is one to run.
 fn run_start<T: Tree, I: Source + Send, O: Sink + Send, E: Sink, G: Gate, X: Engine>(
     alloc: Global,
     start: Start,
@@ -134,6 +136,7 @@ fn run_start<T: Tree, I: Source + Send, O: Sink + Send, E: Sink, G: Gate, X: Eng
     engine: &mut X,
 ) -> Ran<I, O>
     requires whole { IfSome (T.state tree.old).held NoWriterOut }
+    requires ready { IsReady (T.state tree.old) start }
     ensures runs { RunsAs (λ reads. run_of (as_start start))
         (point_of (T.state tree.old) (seen_of (drawn_of (I.left input) (X.used engine.old)) (O.taken out) (E.taken err.old))
         (faults_of (I.faults input) (O.faults out) (E.faults err.old) (T.faults tree.old)))
@@ -164,6 +167,11 @@ fn run_start<T: Tree, I: Source + Send, O: Sink + Send, E: Sink, G: Gate, X: Eng
                 input,
                 out,
             }
+        }
+        Start::Graph(graph) => {
+            let ran = run_graph(alloc, &graph, tree, input, out, gate, engine);
+            drop(graph);
+            ran
         }
         Start::Text(sample) => {
             let mut out = out;

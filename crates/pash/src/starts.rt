@@ -1,20 +1,23 @@
 //! What the words of the command line come to before anything runs.
 ghost use Rattle.std.specs.Prelude.{◌≡◌, false, IfErr, IfOk, IfSome, IsOkAnd, MatchOption};
+ghost use Rattle.std.specs.Option.{option_map};
 ghost use Rattle.ps_world.specs.Files.{NoWriterOut, IsFileAt, bytes_at};
-ghost use Rattle.ps_world.specs.Places.{StandsIn};
-ghost use Rattle.ps_world.specs.TreeState.{OnlyLent};
+ghost use Rattle.ps_world.specs.Places.{StandsIn, resolve};
+ghost use Rattle.ps_world.specs.TreeState.{OnlyLent, TreeState};
 ghost use Rattle.sh_parse.specs.Outcomes.{AreOutcomes, Readings};
 ghost use Rattle.sh_tree.specs.Views.{script_tree};
 ghost use Rattle.sh_eval.specs.Contract.{faults_of};
-ghost use Rattle.pash.specs.Readings.{AreReadAlike};
+ghost use Rattle.pash.specs.Readings.{IsFrontOf, IsLoaded};
 ghost use Rattle.pash.specs.Runs.{Stops};
-ghost use Rattle.pash.specs.Starts.{IsOfCommand, as_start, draws, file_of, over_text, runs, setup_of, shell_of, start_of, start_of_file, start_of_outcome, start_of_run, start_of_trial, text_of, uses_tree};
+ghost use Rattle.pash.specs.Starts.{IsOfCommand, IsOfText, IsReady, as_start, draws, file_of, over_text, runs, shell_of, setup_of, start_of, start_of_exec, start_of_graph, start_of_outcome, start_of_run, start_of_trial, text_of, uses_tree};
 ghost use Rattle.pash.specs.Words.{as_run, command_of, reads_input, texts, uses_files};
 
-use crate::answers::{RunFault, Why, of_tree, refusal_of};
+use crate::answers::{RunFault, Why, answer_of, of_tree, refusal_of};
 use crate::command::{Command, RunCommand, Sample};
 use crate::reading::read_script;
 use crate::words::read_command;
+use fl_graph::Graph;
+use fl_printed::check;
 use ps_lines::{Memory, Text};
 use ps_world::{Path, Place, Tree, look, read_front};
 use sh_eval::Shell;
@@ -31,6 +34,8 @@ pub enum Start {
     Answered(Why),
     /// This script runs, and begins so.
     Script(Script, Setup),
+    /// This graph runs: its patterns can be read, and its files are there or can be made.
+    Graph(Graph),
     /// This text is written.
     Text(Sample),
     /// This script runs so over this text.
@@ -49,12 +54,14 @@ pub struct Setup {
     pub width: u32,
 }
 
-/// Finds out what the words ask for: whether they are a command, and whether SCRIPT is a file, and its text a script.
+/// Finds out what the words ask for: whether they are a command, and whether SCRIPT or GRAPH is a file, and its text a script, or that of a
+/// graph that can run.
 pub fn begin<T: Tree>(alloc: Global, tree: &mut T, words: &[String]) -> Result<Start, RunFault>
     requires whole { IfSome (T.state tree.old).held NoWriterOut }
     ensures start { IfOk result (λ start. (reads : Readings) → AreOutcomes reads → IfSome (T.state tree.old).held (λ files.
         as_start start ≡ start_of reads files (T.state tree.old).home (command_of (texts words.now)))) }
     ensures usage { IfOk result (λ start. MatchOption (command_of (texts words.now)) (start ≡ Start.Answered Why.Usage) (λ _. IsOfCommand start)) }
+    ensures ready { IfOk result (IsReady (T.state tree.new)) }
     ensures unread { reads_input (command_of (texts words.now)) ≡ false → IfOk result (λ start. draws start ≡ false) }
     ensures unused { uses_files (command_of (texts words.now)) ≡ false → (tree.new ≡ tree.old) × IsOkAnd result (λ start. uses_tree start ≡ false) }
     ensures lent { OnlyLent (T.state tree.old) (T.state tree.new) }
@@ -62,6 +69,7 @@ pub fn begin<T: Tree>(alloc: Global, tree: &mut T, words: &[String]) -> Result<S
 {
     match read_command(words) {
         Some(Command::Run(command)) => begin_run(alloc, tree, &command),
+        Some(Command::Exec(graph)) => begin_exec(alloc, tree, graph),
         Some(Command::Gen(sample)) => Ok(Start::Text(sample)),
         Some(Command::Trial(sample, command)) => begin_trial(alloc, sample, &command),
         None => Ok(Start::Answered(Why::Usage)),
@@ -72,6 +80,7 @@ pub fn begin<T: Tree>(alloc: Global, tree: &mut T, words: &[String]) -> Result<S
 fn begin_trial(alloc: Global, sample: Sample, command: &RunCommand<'_>) -> Result<Start, RunFault>
     ensures start { IfOk result (λ start. (reads : Readings) → AreOutcomes reads → as_start start ≡ start_of_trial reads sample (as_run command.now)) }
     ensures command { IfOk result IsOfCommand }
+    ensures ready { (tree : TreeState) → IfOk result (IsReady tree) }
     ensures unread { IfOk result (λ start. draws start ≡ false) }
     ensures memory { IfErr result (λ stop. stop ≡ RunFault.Memory) }
 {
@@ -85,17 +94,19 @@ fn begin_trial(alloc: Global, sample: Sample, command: &RunCommand<'_>) -> Resul
 fn over_sample(start: Start, sample: Sample) -> Start
     ensures start { as_start result ≡ over_text (text_of sample) (as_start start) }
     ensures command { IsOfCommand start → IsOfCommand result }
-    ensures unread { draws result ≡ false }
+    ensures ready { (tree : TreeState) → IsReady tree start → IsReady tree result }
+    ensures unread { IsOfText start → draws result ≡ false }
 {
     match start {
         Start::Answered(why) => Start::Answered(why),
         Start::Script(script, setup) => Start::Trial(script, setup, sample),
+        Start::Graph(graph) => Start::Graph(graph),
         Start::Text(other) => Start::Text(other),
         Start::Trial(script, setup, other) => Start::Trial(script, setup, other),
     }
 }
 
-/// Looks up the script of a command.
+/// Reads the script of a command, if its path names a file.
 fn begin_run<T: Tree>(
     alloc: Global,
     tree: &mut T,
@@ -103,40 +114,96 @@ fn begin_run<T: Tree>(
 ) -> Result<Start, RunFault>
     requires whole { IfSome (T.state tree.old).held NoWriterOut }
     ensures start { IfOk result (λ start. (reads : Readings) → AreOutcomes reads → IfSome (T.state tree.old).held (λ files.
-        as_start start ≡ start_of_run reads files (T.state tree.old).home (as_run command.now))) }
+        as_start start ≡ start_of_run files (T.state tree.old).home reads (as_run command.now))) }
     ensures command { IfOk result IsOfCommand }
+    ensures ready { IfOk result (IsReady (T.state tree.new)) }
     ensures lent { OnlyLent (T.state tree.old) (T.state tree.new) }
     ensures cause { Stops (faults_of 0 0 0 (T.faults tree.old)) (faults_of 0 0 0 (T.faults tree.new)) result }
 {
-    match look(alloc, tree, command.script) {
-        Ok(place) => begin_at(alloc, tree, command, place),
+    match load(alloc, tree, command.script, MAX_SCRIPT + 1) {
+        Ok(Some(text)) => begin_text(alloc, command, text.as_slice()),
+        Ok(None) => no_script(alloc, command.script),
+        Err(stop) => Err(stop),
+    }
+}
+
+/// Reads the graph whose text stands in the file at this path, if it names one.
+fn begin_exec<T: Tree>(alloc: Global, tree: &mut T, graph: &[u8]) -> Result<Start, RunFault>
+    requires whole { IfSome (T.state tree.old).held NoWriterOut }
+    ensures start { IfOk result (λ start. (reads : Readings) → AreOutcomes reads → IfSome (T.state tree.old).held (λ files.
+        as_start start ≡ start_of_exec files (T.state tree.old).home graph.now)) }
+    ensures command { IfOk result IsOfCommand }
+    ensures ready { IfOk result (IsReady (T.state tree.new)) }
+    ensures lent { OnlyLent (T.state tree.old) (T.state tree.new) }
+    ensures cause { Stops (faults_of 0 0 0 (T.faults tree.old)) (faults_of 0 0 0 (T.faults tree.new)) result }
+{
+    match load(alloc, tree, graph, usize::MAX) {
+        Ok(Some(text)) => begin_graph(alloc, tree, text.as_slice()),
+        Ok(None) => no_script(alloc, graph),
+        Err(stop) => Err(stop),
+    }
+}
+
+/// What the text of a graph comes to.
+fn begin_graph<T: Tree>(alloc: Global, tree: &mut T, text: &[u8]) -> Result<Start, RunFault>
+    ensures start { IfOk result (λ start. IfSome (T.state tree.old).held (λ files.
+        as_start start ≡ start_of_graph files (T.state tree.old).home text.now)) }
+    ensures command { IfOk result IsOfCommand }
+    ensures ready { IfOk result (IsReady (T.state tree.new)) }
+    ensures state { T.state tree.new ≡ T.state tree.old }
+    ensures cause { Stops (faults_of 0 0 0 (T.faults tree.old)) (faults_of 0 0 0 (T.faults tree.new)) result }
+{
+    match check(alloc, text, tree) {
+        Ok(Ok(graph)) => Ok(Start::Graph(graph)),
+        Ok(Err(cause)) => Ok(Start::Answered(answer_of(cause))),
         Err(error) => Err(of_tree(error)),
     }
 }
 
-/// Reads the script at a place, if a file is there.
-fn begin_at<T: Tree>(
+/// Reads the file that a path names, or its first `most` bytes where it has more; None where it names no file.
+fn load<T: Tree>(
     alloc: Global,
     tree: &mut T,
-    command: &RunCommand<'_>,
-    place: Place,
-) -> Result<Start, RunFault>
+    given: &[u8],
+    most: usize,
+) -> Result<Option<Vec<u8>>, RunFault>
     requires whole { IfSome (T.state tree.old).held NoWriterOut }
-    requires file { IfSome (T.state tree.old).held (λ files. StandsIn files place) }
-    ensures start { IfOk result (λ start. (reads : Readings) → AreOutcomes reads → IfSome (T.state tree.old).held (λ files.
-        as_start start ≡ start_of_file reads files (T.state tree.old).home (as_run command.now) (file_of place))) }
-    ensures command { IfOk result IsOfCommand }
+    ensures loaded { IfOk result (λ found. IfSome (T.state tree.old).held (λ files.
+        IsLoaded files (file_of (resolve files (T.state tree.old).home given.now)) most (option_map (λ text. text.items) found))) }
     ensures lent { OnlyLent (T.state tree.old) (T.state tree.new) }
     ensures cause { Stops (faults_of 0 0 0 (T.faults tree.old)) (faults_of 0 0 0 (T.faults tree.new)) result }
 {
-    match script_path(place) {
-        Some(path) => begin_file(alloc, tree, command, &path),
-        None => no_script(alloc, command),
+    match look(alloc, tree, given) {
+        Ok(place) => load_at(alloc, tree, place, most),
+        Err(error) => Err(of_tree(error)),
+    }
+}
+
+/// Likewise, at a place.
+fn load_at<T: Tree>(
+    alloc: Global,
+    tree: &mut T,
+    place: Place,
+    most: usize,
+) -> Result<Option<Vec<u8>>, RunFault>
+    requires whole { IfSome (T.state tree.old).held NoWriterOut }
+    requires file { IfSome (T.state tree.old).held (λ files. StandsIn files place) }
+    ensures loaded { IfOk result (λ found. IfSome (T.state tree.old).held (λ files.
+        IsLoaded files (file_of place) most (option_map (λ text. text.items) found))) }
+    ensures lent { OnlyLent (T.state tree.old) (T.state tree.new) }
+    ensures cause { Stops (faults_of 0 0 0 (T.faults tree.old)) (faults_of 0 0 0 (T.faults tree.new)) result }
+{
+    match file_path(place) {
+        Some(path) => match load_file(alloc, tree, &path, most) {
+            Ok(text) => Ok(Some(text)),
+            Err(stop) => Err(stop),
+        },
+        None => Ok(None),
     }
 }
 
 /// The path of the file that a place names, where it names one.
-fn script_path(place: Place) -> Option<Path>
+fn file_path(place: Place) -> Option<Path>
     ensures { result ≡ file_of place }
 {
     match place {
@@ -145,43 +212,15 @@ fn script_path(place: Place) -> Option<Path>
     }
 }
 
-/// The answer where the script's path names no file.
-fn no_script(alloc: Global, command: &RunCommand<'_>) -> Result<Start, RunFault>
-    ensures start { IfOk result (λ start. start ≡ Start.Answered (Why.NoScript command.now.script.now)) }
-    ensures memory { IfErr result (λ stop. stop ≡ RunFault.Memory) }
-{
-    match Text::copy_of(alloc, command.script) {
-        Ok(path) => Ok(Start::Answered(Why::NoScript(path))),
-        Err(_refused) => Err(RunFault::Memory),
-    }
-}
-
-/// Reads the script in a file.
-fn begin_file<T: Tree>(
+/// The bytes of a file, or the first `most` where it has more.
+fn load_file<T: Tree>(
     alloc: Global,
     tree: &mut T,
-    command: &RunCommand<'_>,
     path: &Path,
-) -> Result<Start, RunFault>
-    requires whole { IfSome (T.state tree.old).held NoWriterOut }
-    requires file { IfSome (T.state tree.old).held (λ files. IsFileAt files path.now) }
-    ensures start { IfOk result (λ start. (reads : Readings) → AreOutcomes reads → IfSome (T.state tree.old).held (λ files.
-        as_start start ≡ start_of_outcome (setup_of (as_run command.now)) (reads (bytes_at files path.now)))) }
-    ensures command { IfOk result IsOfCommand }
-    ensures lent { OnlyLent (T.state tree.old) (T.state tree.new) }
-    ensures cause { Stops (faults_of 0 0 0 (T.faults tree.old)) (faults_of 0 0 0 (T.faults tree.new)) result }
-{
-    match load_script(alloc, tree, path) {
-        Ok(text) => begin_text(alloc, command, text.as_slice()),
-        Err(stop) => Err(stop),
-    }
-}
-
-/// Reads a script, as far as a script goes; answers its text, or the front of one that is too long.
-fn load_script<T: Tree>(alloc: Global, tree: &mut T, path: &Path) -> Result<Vec<u8>, RunFault>
+    most: usize,
+) -> Result<Vec<u8>, RunFault>
     requires { IfSome (T.state tree.old).held (λ files. IsFileAt files path.now) }
-    ensures text { IfOk result (λ text. IfSome (T.state tree.old).held (λ files.
-        AreReadAlike text.items (bytes_at files path.now))) }
+    ensures text { IfOk result (λ text. IfSome (T.state tree.old).held (λ files. IsFrontOf (bytes_at files path.now) most text.items)) }
     ensures lent { OnlyLent (T.state tree.old) (T.state tree.new) }
     ensures cause { Stops (faults_of 0 0 0 (T.faults tree.old)) (faults_of 0 0 0 (T.faults tree.new)) result }
 {
@@ -189,11 +228,22 @@ fn load_script<T: Tree>(alloc: Global, tree: &mut T, path: &Path) -> Result<Vec<
         Ok(reader) => reader,
         Err(error) => return Err(of_tree(error)),
     };
-    let text = read_front(alloc, &mut reader, MAX_SCRIPT + 1);
+    let text = read_front(alloc, &mut reader, most);
     tree.end_read(path, reader);
     match text {
         Ok(text) => Ok(text),
         Err(error) => Err(of_tree(error)),
+    }
+}
+
+/// The answer where a path names no file.
+fn no_script(alloc: Global, given: &[u8]) -> Result<Start, RunFault>
+    ensures start { IfOk result (λ start. start ≡ Start.Answered (Why.NoScript given.now)) }
+    ensures memory { IfErr result (λ stop. stop ≡ RunFault.Memory) }
+{
+    match Text::copy_of(alloc, given) {
+        Ok(path) => Ok(Start::Answered(Why::NoScript(path))),
+        Err(_refused) => Err(RunFault::Memory),
     }
 }
 
@@ -202,6 +252,8 @@ fn begin_text(alloc: Global, command: &RunCommand<'_>, text: &[u8]) -> Result<St
     ensures start { IfOk result (λ start. (reads : Readings) → AreOutcomes reads →
         as_start start ≡ start_of_outcome (setup_of (as_run command.now)) (reads text.now)) }
     ensures command { IfOk result IsOfCommand }
+    ensures form { IfOk result IsOfText }
+    ensures ready { (tree : TreeState) → IfOk result (IsReady tree) }
     ensures memory { IfErr result (λ stop. stop ≡ RunFault.Memory) }
 {
     match read_script(alloc, text) {
@@ -215,6 +267,8 @@ fn begin_text(alloc: Global, command: &RunCommand<'_>, text: &[u8]) -> Result<St
 fn begin_script(alloc: Global, command: &RunCommand<'_>, script: Script) -> Result<Start, RunFault>
     ensures start { IfOk result (λ start. as_start start ≡ runs (script_tree script) (setup_of (as_run command.now))) }
     ensures command { IfOk result IsOfCommand }
+    ensures form { IfOk result IsOfText }
+    ensures ready { (tree : TreeState) → IfOk result (IsReady tree) }
     ensures memory { IfErr result (λ stop. stop ≡ RunFault.Memory) }
 {
     match new_shell(alloc, command) {

@@ -5,6 +5,7 @@ ghost use Rattle.ps_world.specs.Files.{NoWriterOut};
 mod delays;
 mod faults;
 mod files;
+mod graphs;
 mod meeting;
 mod refusals;
 mod rows;

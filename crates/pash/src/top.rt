@@ -23,13 +23,14 @@ use std::alloc::Global;
 /// Does what the words of the command line ask for, over the objects that are handed in; `words` are those after the program's name.
 ///
 /// `run W SCRIPT ARG*` runs a script: what it leaves is the script's meaning, byte for byte, at every width W. `$0` is SCRIPT, `$1` and on
-/// are the ARGs. `gen SEED LINES` writes the text that a seed gives, and uses no file. `trial SEED LINES W` runs the trial's script over this
-/// text in the place of the input. The graphs of utilities run on the engine, whose nodes pass the gate. The input and the output are given
-/// back, and `gen` and `trial` read no input.
+/// are the ARGs. `exec GRAPH` runs the graph whose text stands in the file GRAPH: what it leaves is the graph's outcome, for the files and the
+/// input as they were, and the input is read where a node reads it. `gen SEED LINES` writes the text that a seed gives, and uses no file.
+/// `trial SEED LINES W` runs the trial's script over this text in the place of the input. The graphs of utilities run on the engine, whose
+/// nodes pass the gate. The input and the output are given back, and `gen` and `trial` read no input.
 ///
 /// `reads` is what each text is, one script or one refusal, and `expansions` is what words expand to. A script that isn't run, for its text,
-/// is told by one line of error: nothing of the output, the tree or the input changes then. One that is refused in the middle is told so too,
-/// and what it did stays.
+/// and a graph that can't run are told by one line of error: nothing of the output, the tree or the input changes then. A script that is
+/// refused in the middle is told so too, and what it did stays.
 ///
 /// After every answer but the faults and Memory, output and errors have grown by exactly the meaning's and were flushed. ReadFault comes only
 /// where the count of the input rose in this call, WriteFault only where that of the output or the errors rose, TreeFault only where the

@@ -1,7 +1,7 @@
 //! The words of the command line.
 ghost use Rattle.std.specs.Prelude.{◌≡◌, ◌≤◌, IfSome};
 ghost use Rattle.std.specs.Option.{option_map};
-ghost use Rattle.pash.specs.Words.{as_command, command_of, gen_by, lines_of, only_width_of, run_by, sample_of, seed_of, texts, trial_by, width_of, within_of};
+ghost use Rattle.pash.specs.Words.{as_command, command_of, exec_by, gen_by, lines_of, only_width_of, run_by, sample_of, seed_of, texts, trial_by, width_of, within_of};
 ghost use Rattle.pash.specs.declared.command.TheConstants.{MOST_WIDTH};
 
 use crate::command::{Command, MOST_LINES, MOST_WIDTH, RunCommand, Sample};
@@ -9,6 +9,9 @@ use ps_lines::read_decimal;
 
 /// The name of the command that runs a script.
 const RUN: &[u8] = b"run";
+
+/// The name of the one that runs a printed graph.
+const EXEC: &[u8] = b"exec";
 
 /// The name of the one that writes the text that a seed gives.
 const GEN: &[u8] = b"gen";
@@ -23,6 +26,7 @@ pub fn read_command(words: &[String]) -> Option<Command<'_>>
 {
     match words {
         [name, rest @ ..] if name.as_bytes() == RUN => read_run(rest),
+        [name, rest @ ..] if name.as_bytes() == EXEC => read_exec(rest),
         [name, rest @ ..] if name.as_bytes() == GEN => read_gen(rest),
         [name, rest @ ..] if name.as_bytes() == TRIAL => read_trial(rest),
         _ => None,
@@ -42,6 +46,16 @@ fn read_run(words: &[String]) -> Option<Command<'_>>
                 arguments,
             }))
         }
+        _ => None,
+    }
+}
+
+/// Reads what stands behind `exec`: GRAPH.
+fn read_exec(words: &[String]) -> Option<Command<'_>>
+    ensures { option_map as_command result ≡ exec_by (texts words.now) }
+{
+    match words {
+        [graph] => Some(Command::Exec(graph.as_bytes())),
         _ => None,
     }
 }

@@ -402,6 +402,8 @@ fn words_that_are_no_command(rt: HostRuntime) -> Result<(), Fail> {
     tells_usage(&rt, &["run", "17", "s"])?;
     tells_usage(&rt, &["run", "01", "s"])?;
     tells_usage(&rt, &["run"])?;
+    tells_usage(&rt, &["exec"])?;
+    tells_usage(&rt, &["exec", "s", "s"])?;
     tells_usage(&rt, &["gen", "4294967296", "1"])?;
     tells_usage(&rt, &["gen", "00", "1"])?;
     tells_usage(&rt, &["gen", "0", "0"])?;
@@ -449,6 +451,7 @@ fn a_script_that_is_not_there(rt: HostRuntime) -> Result<(), Fail> {
         status: 2,
         why: Why::NoScript(Text::copy_of(rt.alloc(), b"none")?),
     };
+    tells(&rt, &["exec", "none"], &[], &reply)?;
     tells_at_widths(&rt, "none", &[], &reply)
 }
 
